@@ -8,9 +8,9 @@ ghost use Rattle.draw_order.specs.Inner.SortKeys.{ticket_of};
 use room_types::{Grade, OutOfMemory, PersonId, Word};
 use std::alloc::Global;
 
-/// Puts the participants of a round in priority order and returns their identifiers: ascending by grade, then by word, then
-/// by identifier. Each ticket holds an identifier, its grade, and the word that was drawn for it. Makes O(n log n)
-/// comparisons. Does not allocate if there are no tickets.
+/// Puts the participants of a round in priority order and returns their identifiers: ascending by grade, then by word,
+/// then by identifier. Each ticket holds a participant's identifier, their grade, and the word that was drawn for them.
+/// Makes O(n log n) comparisons. Does not allocate if there are no tickets.
 pub fn order(
     alloc: Global,
     tickets: &[(PersonId, Grade, Word)],

@@ -20,7 +20,7 @@ pub fn words_from<R: Rng>(
     ensures unchanged { OnErr result (R.stream generator.new ≡ R.stream generator.old) }
     ensures memory { OnErr result (0 < count) }
 {
-    // All memory is allocated first, so that no word is drawn in vain.
+    // Allocates all memory first, so that no word is drawn if the allocation fails.
     let mut words = Vec::with_capacity(alloc, count)?;
     for _place in 0..count {
         words.push(next_word(generator))?;

@@ -1,6 +1,6 @@
 //! Requests, and desks in memory that handle them.
 use office_core::Command;
-use office_lines::parse::{ParsedLine, parse_line};
+use office_lines::{ParsedLine, parse_line};
 use office_state::Office;
 use office_store::{Answer, Desk, Handler, Request};
 use room_types::{Label, ListKind, Listing, OutOfMemory};

@@ -1,7 +1,7 @@
 -- The actions at the desk of an office file.
 use Rattle.std.specs.Prelude.{ℕ, List, map}
-use Rattle.office_cli.specs.declared.actions.Action.{Action as DeskAction}
-use Rattle.office_cli.specs.declared.actions.Action.TheVariants as desk
+use Rattle.office_cli.specs.declared.in_file.Action.{Action as DeskAction}
+use Rattle.office_cli.specs.declared.in_file.Action.TheVariants as desk
 use Rattle.office_lists.specs.declared.exports.ExportKind.{ExportKind}
 use Rattle.room_types.specs.Texts.{Text}
 use Rattle.room_types.specs.declared.kinds.ListKind.{ListKind}

@@ -20,9 +20,8 @@ use Rattle.room_types.specs.Streams.{Output}
 use Rattle.room_types.specs.Texts.{Text}
 
 module _ {F S : Type 0} (access : FileAccess F S) where
-  -- The file at the path was opened and declared nothing. The tables of the empty office were made, and `ok` is printed. If
-  -- the disk returned what was written to it, the desk shows that office. Its connection is closed in the state that making
-  -- it left.
+  -- The file at the path was opened and declared nothing. The tables of the empty office were made, and `ok` is printed. If the
+  -- disk returned what was written to it, the desk shows that office. The connection of the desk is closed.
   pub record MakesNew (files : F) (path : Text) (status : ℕ) (files' : F) (out out' : Output) : Type 0 where
     pub desk : DeskState S
     pub between : F
@@ -37,8 +36,8 @@ module _ {F S : Type 0} (access : FileAccess F S) where
       MakesNew files path status files' out out'
       ⊎ ((fault : DeskFault) × IsCreateFault access files path (Err fault) files' × RefusesDesk fault status out out')
 
-  -- The file at the path was opened, the tables of its office were migrated to this program's version, and `ok` is printed.
-  -- The connection is closed in the state that the migration left.
+  -- The file at the path was opened, the tables of its office were migrated to this program's version, and `ok` is printed. The
+  -- connection of the desk is closed.
   pub record MigratesOffice (files : F) (path : Text) (status : ℕ) (files' : F) (out out' : Output) : Type 0 where
     pub desk : DeskState S
     pub between : F
@@ -52,8 +51,8 @@ module _ {F S : Type 0} (access : FileAccess F S) where
       MigratesOffice files path status files' out out'
       ⊎ ((fault : DeskFault) × IsMigrateFault access files path (Err fault) files' × RefusesDesk fault status out out')
 
-  -- The file at the path was opened, this was done at the desk over its office, from `desk` to `last`, and the connection
-  -- is closed as `last` has it.
+  -- The file at the path was opened, this was done at the desk over its office, from `desk` to `last`, and the connection of
+  -- `last` is closed.
   pub record AtFound (IsDone : DeskState S → DeskState S → Type 0) (files : F) (path : Text) (files' : F) : Type 0 where
     pub desk : DeskState S
     pub between : F

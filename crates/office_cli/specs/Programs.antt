@@ -19,8 +19,8 @@ use Rattle.room_types.specs.Texts.{Text}
 use Rattle.room_types.specs.declared.kinds.ListKind.{ListKind}
 use Rattle.room_types.specs.declared.kinds.ListKind.TheVariants as list
 
--- A subcommand with its arguments: make an office in the file at a path; migrate the tables of the one in such a file;
--- perform an action at its desk; rehearse; print a number of words of a seed.
+-- A subcommand with its arguments: make an office in the file at a path; migrate the tables of the office in such a file; perform
+-- an action at the desk of the office in such a file; rehearse; print a number of words of a seed.
 pub data Line : Type 0 where
   makes : Text → Line
   migrates : Text → Line
@@ -106,7 +106,7 @@ serve_program rows = option_and_then (λ path. option_and_then (λ port. option_
 abbrev pub migrate_program : List Row → Option Line
 migrate_program rows = option_map migrates (first_of (codes "db") rows)
 
--- the line of a subcommand with its rows
+-- the subcommand with this name and these rows, if they are one
 abbrev pub entered_line : Text × List Row → Option Line
 entered_line (name, rows) = if bytes_eq name (codes "new") then new_program rows
     else if bytes_eq name (codes "do") then do_program rows
@@ -130,7 +130,7 @@ is_accepted words = has_none (fault_of usage words)
 unfoldable pub entered : List Text → Option (Text × List Row)
 entered words = subcommand_of usage words
 
--- the line of the words, if they are one; no words are `rehearse`
+-- the subcommand of the words, if they are one; without words it is `rehearse`
 abbrev pub program_of : List Text → Option Line
 program_of [] = Some rehearses
 program_of (word ∷ rest) =

@@ -14,8 +14,12 @@ use office_lists::ExportKind;
 use room_types::{Label, ListKind, TypeFault};
 use std::alloc::Global;
 
-/// Parses the arguments after the program's name. Without arguments, returns the subcommand `rehearse` and does not
-/// allocate. Returns `NotUnderstood` only if the words are not a subcommand, and `Ok` only if they are one.
+/// Parses `words`, the arguments after the program's name, and returns the subcommand. If there are none, it is
+/// `rehearse`, and the call does not allocate.
+///
+/// # Errors
+///
+/// `NotUnderstood` only if the words are not a subcommand. `OutOfMemory` if an allocation fails; never without words.
 pub fn program<'a>(alloc: Global, words: &'a [&'a str]) -> Result<Program<'a>, WordFault>
     ensures understands { UnderstandsAs line_of
         (program_of (map (λ word. word.now) words.entry.now)) result }
@@ -71,16 +75,12 @@ fn new_program<'a>(entries: &ArgMatches<'a>) -> Option<Program<'a>>
     Some(Program::New { database })
 }
 
-// Copies the words out of the matches. This allocates.
+// Copies the list of words, since the matches that hold it are dropped before the subcommand is carried out.
 fn do_program<'a>(alloc: Global, entries: &ArgMatches<'a>) -> Result<Program<'a>, WordFault>
     ensures { UnderstandsAs line_of (do_program (rows_of (found_of entries.now))) result }
 {
-    let Some(database) = text(entries, "db") else {
-        return Err(WordFault::NotUnderstood);
-    };
-    let Some(words) = texts(entries, "word") else {
-        return Err(WordFault::NotUnderstood);
-    };
+    let database = text(entries, "db").ok_or(WordFault::NotUnderstood)?;
+    let words = texts(entries, "word").ok_or(WordFault::NotUnderstood)?;
     let words = words.to_vec(alloc)?;
     Ok(Program::Do { database, words })
 }
@@ -93,19 +93,13 @@ fn words_program<'a>(entries: &ArgMatches<'a>) -> Option<Program<'a>>
     Some(Program::Words { seed, count })
 }
 
-// Copies the label out of the matches. This allocates.
+// Allocates only for the label, which is an owned text.
 fn import_program<'a>(alloc: Global, entries: &ArgMatches<'a>) -> Result<Program<'a>, WordFault>
     ensures { UnderstandsAs line_of (import_program (rows_of (found_of entries.now))) result }
 {
-    let Some(database) = text(entries, "db") else {
-        return Err(WordFault::NotUnderstood);
-    };
-    let Some(list) = text(entries, "path") else {
-        return Err(WordFault::NotUnderstood);
-    };
-    let Some(kind) = list_kind_given(entries) else {
-        return Err(WordFault::NotUnderstood);
-    };
+    let database = text(entries, "db").ok_or(WordFault::NotUnderstood)?;
+    let list = text(entries, "path").ok_or(WordFault::NotUnderstood)?;
+    let kind = list_kind_given(entries).ok_or(WordFault::NotUnderstood)?;
     let label = label_given(alloc, entries)?;
     Ok(Program::Import {
         database,
@@ -124,9 +118,7 @@ fn list_kind_given(entries: &ArgMatches) -> Option<ListKind>
 fn label_given(alloc: Global, entries: &ArgMatches) -> Result<Label, WordFault>
     ensures { Understands (label_given (rows_of (found_of entries.now))) result }
 {
-    let Some(label) = text(entries, "label") else {
-        return Err(WordFault::NotUnderstood);
-    };
+    let label = text(entries, "label").ok_or(WordFault::NotUnderstood)?;
     match Label::read(alloc, label) {
         Ok(label) => Ok(label),
         Err(TypeFault::OutOfMemory) => Err(WordFault::OutOfMemory),

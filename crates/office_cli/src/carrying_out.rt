@@ -1,5 +1,14 @@
-//! Carries out the program's arguments over standard input, output and error.
+//! Carries out the program's arguments over standard input, output and error: a subcommand on an office file, or a rehearsal at
+//! a desk in memory.
 ghost use Rattle.std.specs.Prelude.{◌≤◌, map};
+ghost use Rattle.sqlite.specs.Held.{state};
+ghost use Rattle.sqlite.specs.State.{HasCleanDisk};
+ghost use Rattle.sqlite.specs.Steps.{over_memory};
+ghost use Rattle.office_state.specs.declared.office.Office.{Office as AnyOffice};
+ghost use Rattle.office_schema.specs.tables.Steps.{Follows};
+ghost use Rattle.office_store.specs.Desk.{HandlesAt, Shows, Represents};
+ghost use Rattle.office_store.specs.LawfulSteps.{HandlesLawfully};
+ghost use Rattle.office_lines.specs.Rehearsals.{Rehearses};
 ghost use Rattle.room_types.specs.Watched.{IsFresh, StopsAtEnd, StopsAtFailure, watched_reads};
 ghost use Rattle.room_types.specs.Streams.{input_of, output_of};
 ghost use Rattle.office_cli.specs.Doing.{CarriesOut, RehearsesAnew, Refuses};
@@ -8,21 +17,21 @@ ghost use Rattle.office_cli.specs.ListAccess.{list_access_of};
 ghost use Rattle.resident_http.specs.server.Network.{network_of};
 ghost use Rattle.office_lines.specs.Lines.{read_limit};
 
-use crate::actions::Action;
 use crate::arguments::program;
-use crate::in_file::{make_in_file, migrate_in_file, with_office};
+use crate::in_file::{Action, make_in_file, migrate_in_file, with_office};
 use crate::lists::{Lists, SystemLists};
-use crate::rehearsing::rehearse_in_memory;
 use crate::usage::Program;
 use crate::word_lines::words_text;
 use office_file::{Closes, Files, SystemFiles};
+use office_lines::Rehearsed;
 use office_lines::parse::WordFault;
 use office_lines::print::{print, print_unavailable};
+use office_lines::rehearse::rehearse as rehearse_with;
 use office_lines::render::{ACCEPTED, NOT_UNDERSTOOD};
 use office_store::Desk;
 use resident_http::server::{Listener, Loopback, Ports};
 use room_types::{Stream, Watched};
-use sqlite::{Alter, Connection, FileFrom, FileStore, Start, Wary};
+use sqlite::{Alter, Connection, FileFrom, FileStore, MemStore, Start, Wary};
 use sqlite_trees::store::Store;
 use std::alloc::Global;
 use std::fs::File;
@@ -115,8 +124,9 @@ pub fn carry_out_over<'a, S: Start, R: Read, W: Write, E: Write>(
 }
 
 /// Carries out these words, the arguments after the program's name, over any office files, lists and ports, and returns
-/// the exit status. A subcommand on an office file opens the file once and closes it as the desk left it. Only `import`
-/// opens a list. It opens the list once and closes it as the import left it.
+/// the exit status. A subcommand on an office file opens the file once. If that succeeds, it also closes the file; in
+/// between, only calls of `Desk` use the connection. Only `import` opens a list, and opens it once. If that succeeds,
+/// it closes the list after the import, with no further call on it.
 pub fn carry_out_from<
     'a,
     B: Alter,
@@ -216,6 +226,60 @@ fn rehearse_anew<R: Read, W: Write>(
         Ok(mut desk) => rehearse_in_memory(alloc, &mut desk, input, output).status,
         Err(_) => print_unavailable(output),
     }
+}
+
+/// Handles each line of the input at the desk and writes its response, like `rehearse` of `office_lines` with any handler.
+/// If the disk returned what was written to it, the responses are those of the office that the desk represents, and the
+/// desk represents the office after the lines that were handled, whatever the ending.
+pub fn rehearse<S: Alter, R: Read, W: Write>(
+    alloc: Global,
+    desk: &mut Desk<S>,
+    input: &mut Watched<R>,
+    output: &mut Watched<W>,
+) -> Rehearsed
+    requires fresh_input { IsFresh input.old }
+    requires fresh_output { IsFresh output.old }
+    ensures few { watched_reads input.new ≤ read_limit }
+    ensures no_wasted_read { StopsAtEnd input.old input.new }
+    ensures no_wasted_write { StopsAtFailure output.old output.new }
+    ensures follows { Follows (state S.Store desk.old.conn) (state S.Store desk.new.conn) }
+    ensures rehearses { Rehearses (HandlesAt S.Store) result.ending result.status desk.old desk.new
+        (input_of R.remaining input.old) (input_of R.remaining input.new)
+        (output_of W.contents output.old) (output_of W.contents output.new) }
+    ensures lawful { HasCleanDisk (state S.Store desk.new.conn) → (office : AnyOffice)
+        → Represents S.Store desk.old office → (next : AnyOffice)
+        × Rehearses HandlesLawfully result.ending result.status office next
+        (input_of R.remaining input.old) (input_of R.remaining input.new)
+        (output_of W.contents output.old) (output_of W.contents output.new)
+        × Represents S.Store desk.new next }
+{
+    rehearse_with(alloc, desk, input, output)
+}
+
+/// Does what `rehearse` does, over a database in memory. This needs no premise about a disk: the responses are those of
+/// the office that the desk shows, and the desk then shows the office after the lines that were handled.
+pub fn rehearse_in_memory<R: Read, W: Write>(
+    alloc: Global,
+    desk: &mut Desk<MemStore>,
+    input: &mut Watched<R>,
+    output: &mut Watched<W>,
+) -> Rehearsed
+    requires fresh_input { IsFresh input.old }
+    requires fresh_output { IsFresh output.old }
+    ensures few { watched_reads input.new ≤ read_limit }
+    ensures no_wasted_read { StopsAtEnd input.old input.new }
+    ensures no_wasted_write { StopsAtFailure output.old output.new }
+    ensures rehearses { Rehearses (HandlesAt over_memory) result.ending result.status desk.old
+        desk.new (input_of R.remaining input.old) (input_of R.remaining input.new)
+        (output_of W.contents output.old) (output_of W.contents output.new) }
+    ensures lawful { (office : AnyOffice) → Shows over_memory desk.old office
+        → (next : AnyOffice)
+        × Rehearses HandlesLawfully result.ending result.status office next
+        (input_of R.remaining input.old) (input_of R.remaining input.new)
+        (output_of W.contents output.old) (output_of W.contents output.new)
+        × Shows over_memory desk.new next }
+{
+    rehearse_with(alloc, desk, input, output)
 }
 
 /// Reports on standard error that the arguments were not understood, or on standard output that an allocation failed.

@@ -9,6 +9,7 @@ ghost use Rattle.office_cli.specs.ListAccess.{list_access_of};
 use crate::lists::Lists;
 use office_core::Command;
 use office_lines::do_line::print_response;
+use office_lines::limits::CHUNK_LIMIT;
 use office_lines::print::print_unavailable;
 use office_lines::render::Response;
 use office_state::BYTE_LIMIT;
@@ -21,11 +22,9 @@ use std::io::{Read, Write};
 /// The greatest number of bytes read from a list: one more than a list may have, so that a longer list is noticed.
 pub const LIST_LIMIT: usize = BYTE_LIMIT + 1;
 
-/// The greatest number of bytes that one read asks for.
-const CHUNK_LIMIT: usize = 4096;
-
-/// Imports the list at the path `list` under this label, at this desk. Opens the list once, and closes it as its import left it.
-/// If it can't be opened or read, prints `unavailable`. Returns the exit status.
+/// Imports the list at the path `list` under this label, at this desk. Opens the list once. If that succeeds, closes it
+/// after the import, with no further call on it. If the list cannot be opened or read, or an allocation for its bytes
+/// fails, prints `unavailable`. Returns the exit status.
 pub fn import_at<S: Alter, L: Lists, W: Write>(
     alloc: Global,
     desk: &mut Desk<S>,
@@ -53,7 +52,7 @@ pub fn import_at<S: Alter, L: Lists, W: Write>(
 
 /// Reads a list, passes it to the handler to be imported under this label, and prints the answer. Returns the exit status
 /// of the answer, or 3 if the output or an allocation for the answer's text fails; the command has been handled even then.
-/// If the list can't be read, or an allocation for its bytes fails, prints `unavailable`, and the handler gets no command.
+/// If the list cannot be read, or an allocation for its bytes fails, prints `unavailable`, and the handler gets no command.
 pub fn import_list<H: Handler, R: Read, W: Write>(
     alloc: Global,
     handler: &mut H,
@@ -98,8 +97,8 @@ pub fn read_bytes<R: Read>(alloc: Global, source: &mut Watched<R>) -> Result<Vec
     let mut bytes = Vec::new(alloc);
     let mut chunk = [0u8; CHUNK_LIMIT];
     'reads: while bytes.len() < LIST_LIMIT {
-        let room = CHUNK_LIMIT.min(LIST_LIMIT - bytes.len());
-        match source.read(&mut chunk[..room]) {
+        let asked = CHUNK_LIMIT.min(LIST_LIMIT - bytes.len());
+        match source.read(&mut chunk[..asked]) {
             Ok(0) => return Ok(bytes),
             Ok(n) => match bytes.extend_from_slice(&chunk[..n]) {
                 Ok(()) => {}

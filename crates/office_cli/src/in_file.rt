@@ -3,22 +3,27 @@ ghost use Rattle.room_types.specs.Streams.{output_of};
 ghost use Rattle.room_types.specs.Watched.{IsFresh, StopsAtFailure};
 ghost use Rattle.office_file.specs.Access.{file_access};
 ghost use Rattle.office_cli.specs.Actions.{action_of};
+ghost use Rattle.office_cli.specs.AtDesk.{Performs};
 ghost use Rattle.office_cli.specs.InFile.{MakesInFile, MigratesInFile, PerformsInFile};
 ghost use Rattle.office_cli.specs.ListAccess.{list_access_of};
 ghost use Rattle.resident_http.specs.server.Network.{network_of};
 
-use crate::actions::{Action, perform};
 use crate::desk_faults::{print_made, refuse_desk};
+use crate::exporting::export_at;
+use crate::importing::import_at;
 use crate::lists::Lists;
 use office_file::{Closes, Files, close, create_in, find_in, migrate_in};
-use resident_http::server::Ports;
-use room_types::Watched;
+use office_lines::do_line::do_words;
+use office_lists::ExportKind;
+use office_store::Desk;
+use resident_http::server::{Ports, serve_port};
+use room_types::{Label, ListKind, Watched};
 use sqlite::{Alter, Connection};
 use std::alloc::Global;
 use std::io::Write;
 
-/// Makes an empty office in the file at this path, and prints `ok`, or why there is none. Returns the exit status. Opens
-/// the file once, and closes it as its desk left it.
+/// Makes an empty office in the file at this path, and prints `ok`, or why there is none. Returns the exit status.
+/// Opens the file once. If that succeeds, also closes it; in between, only calls of `Desk` use the connection.
 pub fn make_in_file<B: Alter, F: Files<B> + Closes<Connection<B>>, W: Write>(
     alloc: Global,
     files: &mut F,
@@ -37,8 +42,9 @@ pub fn make_in_file<B: Alter, F: Files<B> + Closes<Connection<B>>, W: Write>(
     status
 }
 
-/// Migrates the tables of the office in the file at this path from an earlier version to this program's, and prints `ok`,
-/// or why it can't. Returns the exit status. Opens the file once, and closes it as its desk left it.
+/// Migrates the tables of the office in the file at this path from an earlier version to this program's, and prints
+/// `ok`, or why it cannot. Returns the exit status. Opens the file once. If that succeeds, also closes it; in between,
+/// only calls of `Desk` use the connection.
 pub fn migrate_in_file<B: Alter, F: Files<B> + Closes<Connection<B>>, W: Write>(
     alloc: Global,
     files: &mut F,
@@ -57,8 +63,9 @@ pub fn migrate_in_file<B: Alter, F: Files<B> + Closes<Connection<B>>, W: Write>(
     status
 }
 
-/// Performs the action at the desk of the office in the file at this path, or prints why there is no office. Returns the exit
-/// status. Opens the file once, and closes it as its desk left it. If there is no office, opens no list and listens on no port.
+/// Performs the action at the desk of the office in the file at this path, or prints why there is no office. Returns
+/// the exit status. Opens the file once. If that succeeds, also closes it; in between, only calls of `Desk` use the
+/// connection. If there is no office, opens no list and listens on no port.
 pub fn with_office<B: Alter, F: Files<B> + Closes<Connection<B>>, L: Lists, P: Ports, W: Write>(
     alloc: Global,
     files: &mut F,
@@ -87,5 +94,55 @@ pub fn with_office<B: Alter, F: Files<B> + Closes<Connection<B>>, L: Lists, P: P
             status
         }
         Err(fault) => refuse_desk(alloc, fault, output),
+    }
+}
+
+/// An action at the desk of an office file.
+#[derive(Drop)]
+pub enum Action<'a> {
+    /// Handles these words, one or more, as a line.
+    Line(Vec<&'a str>),
+    /// Imports the list in the file `list` under this label.
+    Import {
+        kind: ListKind,
+        label: Label,
+        list: &'a str,
+    },
+    /// Exports the office as CSV.
+    Export(ExportKind),
+    /// Serves `count` connections of residents on this port.
+    Serve {
+        port: u16,
+        count: u32,
+    },
+}
+
+/// Performs the action at this desk. Returns the exit status. Only an import opens a list, and only serving listens on a port.
+pub fn perform<S: Alter, L: Lists, P: Ports, W: Write>(
+    alloc: Global,
+    desk: &mut Desk<S>,
+    action: Action,
+    lists: &mut L,
+    ports: &mut P,
+    output: &mut Watched<W>,
+) -> u8
+    requires fresh_output { IsFresh output.old }
+    ensures no_wasted_write { StopsAtFailure output.old output.new }
+    ensures performs { let list_access = list_access_of L.opens L.fails L.closes L.List.remaining in
+        let network = network_of
+        P.Socket.Stream.reads P.Socket.Stream.writes P.Socket.Stream.flushes
+        P.Socket.Stream.remaining P.Socket.Stream.contents
+        P.Socket.accepts P.Socket.closes P.listens P.fails P.stops in
+        Performs S.Store list_access network (action_of action.entry) lists.old ports.old desk.old result
+        lists.new ports.new desk.new
+        (output_of W.contents output.old) (output_of W.contents output.new) }
+{
+    match action {
+        Action::Line(words) => do_words(alloc, desk, &words, output),
+        Action::Import { kind, label, list } => {
+            import_at(alloc, desk, lists, kind, label, list, output)
+        }
+        Action::Export(kind) => export_at(alloc, desk, kind, output),
+        Action::Serve { port, count } => serve_port(alloc, desk, ports, port, count, output),
     }
 }

@@ -16,20 +16,20 @@ pub trait Lists {
 
     type List: Read + Drop;
 
-    /// Opening this path returned this list and led from the first state to the second.
+    /// Opening this path returned this list and led from the old state to the new one.
     ghost opens: { Self → Text → Watched Self.List → Self → Type 0 } = { λ _ _ _ _. ⊤ };
 
-    /// Opening this path failed and led from the first state to the second.
+    /// Opening this path failed and led from the old state to the new one.
     ghost fails: { Self → Text → Self → Type 0 } = { λ _ _ _. ⊤ };
 
-    /// Closing this list led from the first state to the second.
+    /// Closing this list led from the old state to the new one.
     ghost closes: { Self → Watched Self.List → Self → Type 0 } = { λ _ _ _. ⊤ };
 
     /// Opens the list at this path. It is `Watched` from the start, and not yet read.
     ///
     /// # Errors
     ///
-    /// `Unavailable` if the path can't be opened.
+    /// `Unavailable` if the path cannot be opened.
     fn open(&mut self, path: &str) -> Result<Watched<Self::List>, Unavailable>
         ensures opened { IfOk result (λ list. opens self.old path.now list self.new) }
         ensures unread { IfOk result IsUnread }
@@ -41,7 +41,7 @@ pub trait Lists {
 }
 
 /// The files of the system. The contracts do not say what they contain. Only this type holds the runtime, so code that
-/// is generic in the lists can't reach other files.
+/// is generic in the lists cannot reach other files.
 #[derive(Drop)]
 pub struct SystemLists<'a> {
     rt: &'a HostRuntime,

@@ -26,7 +26,7 @@ pub enum Program<'a> {
     },
     /// Lets an empty office handle the lines of standard input.
     Rehearse,
-    /// Prints the first `count` words of a draw, of the generator with this seed.
+    /// Prints the first `count` words of the generator with this seed.
     Words {
         seed: Seed,
         count: u32,
@@ -64,7 +64,7 @@ pub const PORT_LIMIT: u32 = 65_535;
 /// The greatest number of connections that are served.
 pub const CONNECTION_COUNT_LIMIT: u32 = 1_000_000;
 
-/// Returns the program with its subcommands.
+/// Returns the command by which `clap` parses the program's arguments. Fails only if an allocation does.
 pub fn rooms_command<'a>(alloc: Global) -> Result<Command<'a>, AllocError>
     ensures { IfOk result (λ command. app_of command ≡ usage) }
 {

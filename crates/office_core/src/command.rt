@@ -71,7 +71,7 @@ pub enum Command {
     },
     /// Makes the lists final.
     CloseRound,
-    /// Gives each participant a lottery number, in ascending order of identifier.
+    /// Gives each participant a lottery number: the first word to the first participant by identifier, and so on.
     Draw {
         words: Listing<Word>,
     },
@@ -95,7 +95,7 @@ pub enum Command {
         person: PersonId,
         grade: Grade,
     },
-    /// Records that a person leaves the college after the round and gives away the room.
+    /// Records that a person leaves the college after the round. The round trades their room as a vacant one.
     Going {
         person: PersonId,
     },

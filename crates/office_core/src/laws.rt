@@ -1,4 +1,4 @@
-//! A theorem about the definitions, for every office and command. It is the contract of the function, which does nothing.
+//! A theorem about the definitions, for every office and command. It is the contract of a function that does nothing.
 ghost use Rattle.std.specs.Prelude.{◌≡◌, true, false, None};
 ghost use Rattle.office_state.specs.Office.Phases.{has_results};
 ghost use Rattle.office_state.specs.declared.office.Office.{Office};

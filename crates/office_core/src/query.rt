@@ -18,8 +18,8 @@ pub enum Query {
     Rooms,
     /// The people by identifier.
     People,
-    /// The number of the last round, the phase, and three counts: all people, those who have withdrawn, and those who
-    /// leave the college.
+    /// The number of the latest round (0 before the first), the phase, and three counts: all people, those who have
+    /// withdrawn, and those who leave the college.
     Round,
     /// The participants in the drawn order, with their lottery numbers and grades.
     Order,

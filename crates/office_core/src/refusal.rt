@@ -54,7 +54,7 @@ pub enum Refusal {
 }
 
 impl Refusal {
-    /// Returns the number of the refusal. It is printed, except for `OutOfMemory`.
+    /// Returns the number of the refusal. The program prints this number, except for `OutOfMemory`.
     pub fn number(&self) -> u8
         ensures { result ≡ number_of self.now }
     {
@@ -82,7 +82,7 @@ impl Refusal {
         }
     }
 
-    /// Returns the name of the refusal. It is printed, except for `OutOfMemory`.
+    /// Returns the name of the refusal. The program prints this name, except for `OutOfMemory`.
     pub fn name(&self) -> &'static str
         ensures { result.now ≡ name_of self.now }
     {

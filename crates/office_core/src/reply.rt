@@ -18,7 +18,7 @@ pub struct Standing {
     pub person: PersonId,
     pub name: Name,
     pub home: Option<RoomCode>,
-    /// The number of the last round.
+    /// The number of the latest round, or 0 before the first.
     pub round: u16,
     pub phase: Phase,
     /// The recorded list; empty if none is recorded.
@@ -81,8 +81,8 @@ pub enum Reply {
     Rooms(Listing<RoomRow>),
     /// The people, by identifier.
     People(Listing<PersonRow>),
-    /// The number of the last round, the phase, and three counts: all people, those who have withdrawn, and those who
-    /// leave the college.
+    /// The number of the latest round (0 before the first), the phase, and three counts: all people, those who have
+    /// withdrawn, and those who leave the college.
     Round {
         number: u16,
         phase: Phase,

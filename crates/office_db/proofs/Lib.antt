@@ -4,4 +4,3 @@ pub mod changed_rows
 pub mod asking
 pub mod found_offices
 pub mod loaded
-pub mod earlier

@@ -1,4 +1,3 @@
 pub mod creation
 pub mod changes
 pub mod loading
-pub mod migration

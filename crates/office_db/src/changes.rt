@@ -6,7 +6,6 @@ mod imports;
 mod lemmas;
 mod people;
 mod results;
-mod rooms;
 mod round;
 mod store;
 mod words;

@@ -1,7 +1,6 @@
-//! An office in a database: creating an empty one, storing changes, loading it, and migrating the tables of another layout.
+//! An office in a database: creating an empty one, storing changes and loading it.
 #![tactic(auto)]
 
 pub mod changes;
 pub mod creation;
 pub mod loading;
-pub mod migration;

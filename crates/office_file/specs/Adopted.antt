@@ -36,7 +36,7 @@ module _ {S : Type 0} (g : Ghosts S) where
   -- The database of a connection is refused with this fault, and leaves the other connection. The schema allows the fault,
   -- whatever the disk does (`allowed`). If the tables are declared as those of an office and the disk returned what was
   -- written, the tables give the cause (`cause`). If the row of table `round` holds another version, the fault is that version
-  -- or `Unavailable` (`other`). The tables are unchanged.
+  -- or `Unavailable` (`other`). If the other connection is intact, the tables are unchanged (`undone`).
   pub record RefusesFound (connection refused : Held S) (fault : DeskFault) : Type 0 where
     pub follows : Follows (state g connection) (state g refused)
     pub undone : IsIntact (state g refused) → (state g refused).now ≡ (state g connection).now

@@ -12,7 +12,8 @@ use Rattle.office_schema.specs.tables.Steps.{Follows, IsIntact}
 
 module _ {S : Type 0} (g : Ghosts S) where
   -- The database of a connection is refused with this fault, and leaves the other connection. The fault is `AlreadyThere` if
-  -- and only if a name is taken. Then, and if the schema has anything else, no statement ran. The tables are unchanged.
+  -- and only if a name is taken. Then, and if the schema has anything else, no statement ran. If the other connection is
+  -- intact, the tables are unchanged (`undone`).
   pub record RefusesNew (connection refused : Held S) (fault : DeskFault) : Type 0 where
     pub follows : Follows (state g connection) (state g refused)
     pub undone : IsIntact (state g refused) → (state g refused).now ≡ (state g connection).now

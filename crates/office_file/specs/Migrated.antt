@@ -8,9 +8,9 @@ use Rattle.office_file.specs.Access.{FileAccess}
 use Rattle.office_db.specs.loading.Finding.{AreDeclared, AreWhole, names_round}
 use Rattle.office_db.specs.loading.Layout.{layout_in}
 use Rattle.office_db.specs.loading.FirstTables.{BeginsOffice, begins_office}
-use Rattle.office_db.specs.migration.Causes.{AreRowsAsStated, HoldsLayoutVersion, StatesVersion, HoldsEarlierFirst}
-use Rattle.office_db.specs.migration.Names.{uses_missing_name}
-use Rattle.office_db.specs.migration.Versions.{IsEarlierLayout, IsNotEarlier, IsOfVersion}
+use Rattle.office_migration.specs.Causes.{AreRowsAsStated, HoldsLayoutVersion, StatesVersion, HoldsEarlierFirst}
+use Rattle.office_migration.specs.Names.{uses_missing_name}
+use Rattle.office_migration.specs.Versions.{IsEarlierLayout, IsNotEarlier, IsOfVersion}
 use Rattle.office_store.specs.Desk.{DeskState, Shows}
 use Rattle.office_store.specs.Migrating.{IsFaultOfMigration, MayNotMigrate, MayReturnFault}
 use Rattle.office_store.specs.declared.desk.faults.DeskFault.{DeskFault}
@@ -36,7 +36,7 @@ module _ {S : Type 0} (g : Ghosts S) where
   -- them (`returned`). If the database begins with the rows of an office of an earlier version and the name of a table that it
   -- lacks is taken, the fault is `AlreadyThere` or `Unavailable` (`taken`). It is `AlreadyThere` only if the first rows are
   -- those of an office (`rows`). If the row of table `round` holds a version that is not an earlier one, the fault is that
-  -- version or `Unavailable` (`other`). The tables are unchanged.
+  -- version or `Unavailable` (`other`). If the other connection is intact, the tables are unchanged (`undone`).
   pub record RefusesMigration (connection refused : Held S) (fault : DeskFault) : Type 0 where
     pub follows : Follows (state g connection) (state g refused)
     pub undone : IsIntact (state g refused) → (state g refused).now ≡ (state g connection).now

@@ -19,7 +19,8 @@ use std::alloc::Global;
 ///
 /// `AlreadyThere` if and only if a table, an index, a view or a trigger of the opened database has one of the ten
 /// names. `Unavailable` otherwise: the file was not opened, it has other tables, the disk failed, or memory ran out. On
-/// an error the opened connection is closed, with its tables unchanged.
+/// an error the opened connection is closed. Its tables are unchanged, unless a fault had closed it before or the disk
+/// failed to return what was written.
 pub fn create_in<B: Alter, F: Files<B> + Closes<Connection<B>>>(
     alloc: Global,
     files: &mut F,

@@ -13,10 +13,9 @@ use std::alloc::Global;
 ///
 /// # Errors
 ///
-/// `NotAnOffice` and `OtherVersion` only for the database that was opened, as `Desk::adopt` returns them. `Unavailable`
-/// otherwise: the file was not opened, its schema is not exactly the tables of an office and no other version was read
-/// from the row of table `round`, the disk failed, or memory ran out. On an error the opened connection is closed, with
-/// its tables unchanged.
+/// `Unavailable` if the file was not opened. Otherwise the fault with which `Desk::adopt` refuses the database that was
+/// opened: `NotAnOffice`, `OtherVersion` or `Unavailable`. The connection is then closed. Its tables are unchanged,
+/// unless a fault had closed it before or the disk failed to return what was written.
 pub fn find_in<B: Alter, F: Files<B> + Closes<Connection<B>>>(
     alloc: Global,
     files: &mut F,

@@ -8,14 +8,14 @@ use office_store::{Desk, DeskFault, Unavailable};
 use sqlite::{Alter, Connection};
 use std::alloc::Global;
 
-/// Opens a desk over the office of an earlier version in the file at this path, and makes its tables anew in the
+/// Opens a desk over the office of an earlier version that the file at this path holds, and recreates its tables in the
 /// version of this program. Opens the file once. Does not create a missing file.
 ///
 /// # Errors
 ///
-/// `NotAnOffice`, `OtherVersion` and `AlreadyThere` only for the database that was opened, as `Desk::migrate` returns
-/// them. `Unavailable` otherwise: the file was not opened, its schema is not the tables of an office, the disk failed,
-/// or memory ran out. On an error the opened connection is closed, with its tables unchanged.
+/// `Unavailable` if the file was not opened. Otherwise the fault with which `Desk::migrate` refuses the database that
+/// was opened: `NotAnOffice`, `OtherVersion`, `AlreadyThere` or `Unavailable`. The connection is then closed. Its
+/// tables are unchanged, unless a fault had closed it before or the disk failed to return what was written.
 pub fn migrate_in<B: Alter, F: Files<B> + Closes<Connection<B>>>(
     alloc: Global,
     files: &mut F,

@@ -4,8 +4,8 @@ use Rattle.std.specs.List.{flat_map}
 use Rattle.office_store.specs.declared.requests.Request.{Request}
 use Rattle.office_store.specs.declared.requests.Answer.{Answer}
 use Rattle.office_store.specs.declared.requests.Answer.TheVariants.{Unavailable}
-use Rattle.office_lines.specs.declared.parse.line.ParsedLine.{ParsedLine}
-use Rattle.office_lines.specs.declared.parse.line.ParsedLine.TheVariants.{Ignored, Valid, Invalid}
+use Rattle.office_lines.specs.declared.line.ParsedLine.{ParsedLine}
+use Rattle.office_lines.specs.declared.line.ParsedLine.TheVariants.{Ignored, Valid, Invalid}
 use Rattle.office_lines.specs.declared.render.response.Response.{Response}
 use Rattle.office_lines.specs.declared.render.response.Response.TheVariants.{Nothing, Answered, NotUnderstood}
 use Rattle.office_lines.specs.parse.Parsing.{begins_request, parsed_line}

@@ -5,8 +5,8 @@ ghost use Rattle.room_types.specs.Watched.{IsFresh, StopsAtFailure};
 ghost use Rattle.office_lines.specs.SingleLines.{DoesText, DoesWords, PrintsResponse, has_newline};
 ghost use Rattle.office_lines.specs.render.Texts.{ResponseAscends};
 
-use crate::handling::handle_line;
 use crate::limits::LINE_LIMIT;
+use crate::line::handle_line;
 use crate::print::{print, print_unavailable};
 use crate::render::{NOT_UNDERSTOOD, Response, UNAVAILABLE, exit_status, text_of};
 use office_store::Handler;

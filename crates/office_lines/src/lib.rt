@@ -3,8 +3,8 @@
 
 pub mod do_line;
 pub mod ending;
-pub mod handling;
 pub mod limits;
+pub mod line;
 pub mod parse;
 pub mod print;
 pub mod rehearse;
@@ -12,4 +12,4 @@ pub mod render;
 mod session;
 
 pub use crate::ending::{Ending, Rehearsed};
-pub use crate::handling::handle_line;
+pub use crate::line::{ParsedLine, handle_line, parse_line};

@@ -6,5 +6,5 @@ pub const LINE_LIMIT: usize = 65536;
 /// The greatest number of bytes that one read asks for.
 pub const CHUNK_LIMIT: usize = 4096;
 
-/// The greatest number of reads.
+/// The greatest number of reads of a rehearsal's input.
 pub const READ_LIMIT: u32 = 1048576;

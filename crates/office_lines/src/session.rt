@@ -3,8 +3,8 @@ ghost use Rattle.std.specs.Prelude.{◌≤◌, vec_len};
 ghost use Rattle.office_lines.specs.Lines.{line_limit};
 
 use crate::ending::Ending;
-use crate::handling::handle_line;
 use crate::limits::LINE_LIMIT;
+use crate::line::handle_line;
 use crate::render::{exit_status, text_of};
 use office_store::Handler;
 use room_types::Watched;
@@ -48,7 +48,7 @@ impl Session {
         output: &mut Watched<W>,
     ) -> Result<(), Ending>
         requires ready { H.is_ready handler.old }
-        requires room { self.old.sent + 2 ^ 64 ≤ 2 ^ 127 }
+        requires headroom { self.old.sent + 2 ^ 64 ≤ 2 ^ 127 }
         ensures answered { OnOk result (Answered H.handles
             (state handler.old (output_of W.contents output.old) self.old)
             (state handler.new (output_of W.contents output.new) self.new)) }
@@ -87,7 +87,7 @@ impl Session {
         byte: u8,
     ) -> Result<(), Ending>
         requires ready { H.is_ready handler.old }
-        requires room { self.old.sent + 2 ^ 64 ≤ 2 ^ 127 }
+        requires headroom { self.old.sent + 2 ^ 64 ≤ 2 ^ 127 }
         ensures handled { OnOk result (Handled H.handles
             (state handler.old (output_of W.contents output.old) self.old)
             (state handler.new (output_of W.contents output.new) self.new) (byte ∷ [])) }
@@ -112,7 +112,7 @@ impl Session {
         }
     }
 
-    /// Takes a chunk of input.
+    /// Takes a chunk of input: handles each line that ends in it, and keeps the rest as the unfinished line.
     pub fn take_chunk<H: Handler, W: Write>(
         &mut self,
         alloc: Global,
@@ -121,7 +121,7 @@ impl Session {
         chunk: &[u8],
     ) -> Result<(), Ending>
         requires ready { H.is_ready handler.old }
-        requires room { self.old.sent + length chunk.now * 2 ^ 64 ≤ 2 ^ 127 }
+        requires headroom { self.old.sent + length chunk.now * 2 ^ 64 ≤ 2 ^ 127 }
         ensures handled { OnOk result (Handled H.handles
             (state handler.old (output_of W.contents output.old) self.old)
             (state handler.new (output_of W.contents output.new) self.new) chunk.now) }
@@ -148,7 +148,7 @@ impl Session {
         output: &mut Watched<W>,
     ) -> Result<(), Ending>
         requires ready { H.is_ready handler.old }
-        requires room { self.old.sent ≤ 2 ^ 100 }
+        requires headroom { self.old.sent ≤ 2 ^ 100 }
         ensures finished { OnOk result (Finished H.handles
             (state handler.old (output_of W.contents output.old) self.old)
             (state handler.new (output_of W.contents output.new) self.new) (watched_flushes output.old)) }
@@ -174,7 +174,7 @@ impl Session {
         output: &mut Watched<W>,
     ) -> Result<(), Ending>
         requires ready { H.is_ready handler.old }
-        requires room { self.old.sent ≤ 2 ^ 100 }
+        requires headroom { self.old.sent ≤ 2 ^ 100 }
         ensures finished { OnOk result (Finished H.handles
             (state handler.old (output_of W.contents output.old) self.old)
             (state handler.new (output_of W.contents output.new) self.new)

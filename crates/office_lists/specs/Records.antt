@@ -6,12 +6,10 @@ use Rattle.std.specs.Str.{is_utf8}
 use Rattle.csv.specs.Reading.{default_config, records, strip_bom}
 use Rattle.csv.specs.Records.{field_at}
 use Rattle.room_types.specs.Texts.{Text, text_eq}
-use Rattle.room_types.specs.declared.fault.TypeFault.TheVariants as type
 use Rattle.office_lists.specs.declared.fault.Cause.{Cause}
 use Rattle.office_lists.specs.declared.fault.Cause.TheVariants.{Header, NotText, FieldCount, BadField, TooMany}
 use Rattle.office_lists.specs.declared.fault.ListFault.{ListFault}
 use Rattle.office_lists.specs.declared.fault.ListFault.TheVariants as list
-use Rattle.office_lists.specs.declared.fault.RecordFault.TheVariants as one
 
 -- a record: its fields, each as its bytes
 abbrev pub Record : Type 0
@@ -38,8 +36,8 @@ pub record ListForm (X : Type 0) : Type 0 where
   pub grammars : List (Text → Bool)
   pub entry : Record → X
 
--- the number, from 1, of the first field outside its grammar; `before` counts the fields that come before those of these
--- grammars
+-- the number, from 1, of the first field outside its grammar. The first of these grammars is that of the field at index
+-- `before`.
 abbrev pub first_outside : ℕ → List (Text → Bool) → Record → Option ℕ
 first_outside before [] fields = None
 first_outside before (grammar ∷ grammars) fields =
@@ -61,7 +59,7 @@ cause_of form fields =
 abbrev pub record_limit : ℕ
 record_limit = 10000
 
--- the first bad one of these data records, the first of which has the number `at`
+-- the first bad record among these data records, which are numbered from `at`
 unfoldable pub first_bad : (Record → Option Cause) → ℕ → List Record → Option ListFault
 first_bad cause at [] = None
 first_bad cause at (fields ∷ rest) =
@@ -85,7 +83,8 @@ pub record ParsesTo {X : Type 0} (form : ListForm X) (bytes : List ℕ) (entries
   pub good : list_fault form (records_of bytes) ≡ None
   pub returned : entries ≡ map form.entry (data_records (records_of bytes))
 
--- reading the list fails: for its first bad record, or out of memory, which never happens if there are no bytes
+-- a fault with which reading the list may fail: that of its first bad record or, if the list has any bytes,
+-- `OutOfMemory`
 abbrev pub Fails : {X : Type 0} → ListForm X → List ℕ → ListFault → Type 0
 Fails form bytes fault =
     ((fault ≡ list.OutOfMemory) × (0 < length bytes)) ⊎ (list_fault form (records_of bytes) ≡ Some fault)

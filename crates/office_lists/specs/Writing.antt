@@ -15,7 +15,8 @@ abbrev pub has_failed : Bool → WriteEnd → Bool
 has_failed before (Fault sent) = true
 has_failed before (OutOfMemory sent) = before
 
--- if an export stops because an allocation fails, it stops before one of its records, and those before it are written in full
+-- if an export stops because an allocation fails: for some `count` less than the number of records, as many bytes were
+-- written as the first `count` records have
 abbrev pub StopsAfter : List Record → WriteEnd → Type 0
 StopsAfter records (Fault sent) = ⊤
 StopsAfter records (OutOfMemory sent) =

@@ -31,7 +31,7 @@ pub enum ListFault {
 /// Why a record could not be read.
 #[derive(Clone, Copy, Debug, PartialEq, Eq, Drop)]
 pub enum RecordFault {
-    /// What is wrong with it.
+    /// What is wrong with the record.
     Bad(Cause),
     /// An allocation failed.
     OutOfMemory,

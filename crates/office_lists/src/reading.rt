@@ -31,7 +31,7 @@ const TOO_MANY: ListFault = ListFault::Bad {
     cause: Cause::TooMany,
 };
 
-/// Reads a list of rooms and returns them in its order.
+/// Reads a list of rooms and returns their codes in order.
 ///
 /// # Errors
 ///
@@ -43,7 +43,7 @@ pub fn read_rooms(alloc: Global, bytes: &[u8]) -> Result<Vec<RoomCode>, ListFaul
     read_list(alloc, bytes)
 }
 
-/// Reads a list of people, with their keys and homes, and returns them in its order.
+/// Reads a list of people, with their names, keys and homes, and returns its entries in order.
 ///
 /// # Errors
 ///
@@ -67,7 +67,7 @@ pub fn read_choices(alloc: Global, bytes: &[u8]) -> Result<Vec<ChoicesEntry>, Li
     read_list(alloc, bytes)
 }
 
-/// Reads a list of grades and returns them in its order. A person may be on it more than once.
+/// Reads a list of grades and returns its entries in order. A person may be on it more than once.
 ///
 /// # Errors
 ///

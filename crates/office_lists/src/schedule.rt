@@ -12,10 +12,11 @@ use std::collections::BTreeMap;
 /// A person who moves, with the old room and the new room.
 pub type Relocation = (PersonId, Option<RoomCode>, Option<RoomCode>);
 
-/// Returns the wave of each entry, in order: 0 without a new room, 1 if nobody leaves the new room, a swap if the person
-/// moves in a cycle, and otherwise 1 plus the wave of the new room's leaver. The leaver of a room is the first entry whose
-/// old room it is. There may be at most 2,000 entries, and their new rooms must differ. Makes O(n log n) comparisons. Does
-/// not allocate if there are no entries.
+/// Returns the wave of each entry, in order. An entry without a new room has wave 0. An entry whose new room nobody
+/// leaves has wave 1. An entry in a cycle has the wave `Swap`. Every other entry has 1 plus the wave of the new room's
+/// leaver. The leaver of a room (who moves out of it, whether or not they leave the college) is the first entry with
+/// that old room. There may be at most 2,000 entries, and their new rooms must differ. Makes O(n log n) comparisons.
+/// Does not allocate if there are no entries.
 pub fn waves(alloc: Global, entries: &[Relocation]) -> Result<Vec<Wave>, OutOfMemory>
     requires few { length entries.now ≤ move_limit }
     requires new_rooms_differ { NewRoomsDiffer entries.now }
@@ -73,7 +74,7 @@ fn leavers_by_room(
     Ok(by_room)
 }
 
-// Returns, for each entry, the one whose leaver it is.
+// Returns the successor of each entry, if any: the entry that moves into the room of which this entry is the leaver.
 fn successors(alloc: Global, leavers: &[Option<usize>]) -> Result<Vec<Option<usize>>, OutOfMemory>
     requires { AreInjective leavers.now }
     ensures { IfOk result (λ successors. AreSuccessors leavers.now successors.items) }
@@ -87,7 +88,7 @@ fn successors(alloc: Global, leavers: &[Option<usize>]) -> Result<Vec<Option<usi
     Ok(successors)
 }
 
-// Returns the number of an entry at the end of its chain: 0 without a new room, otherwise 1.
+// Returns the number of an entry at the end of its chain: 0 if the entry has no new room, otherwise 1.
 fn end_number_at(entries: &[Relocation], end: usize) -> u16
     requires { end < length entries.now }
     ensures value { result ≡ end_number_at (end_numbers entries.now) end }

@@ -7,7 +7,7 @@ use room_types::text::{Grammar, Text};
 use room_types::{OutOfMemory, PersonRow, ResultRow, RoomRow};
 use std::alloc::{AllocError, Global};
 
-/// Returns the text table of these rooms, which must ascend by code, with a line for each.
+/// Returns the text table of these rooms: a line of headings, and a line for each room. The rooms must ascend by code.
 pub fn rooms_text(alloc: Global, rows: &[RoomRow]) -> Result<String, OutOfMemory>
     requires ascending { AscendsBy (λ row. row.room) rows.now }
     ensures { IfOk result (λ text. string_bytes text ≡ rooms_table rows.now) }
@@ -25,7 +25,8 @@ pub fn rooms_text(alloc: Global, rows: &[RoomRow]) -> Result<String, OutOfMemory
     Ok(text)
 }
 
-/// Returns the text table of these people, who must ascend by identifier, with a line for each.
+/// Returns the text table of these people: a line of headings, and a line for each person. The people must ascend by
+/// identifier.
 pub fn people_text(alloc: Global, rows: &[PersonRow]) -> Result<String, OutOfMemory>
     requires ascending { AscendsBy (λ row. row.person) rows.now }
     ensures { IfOk result (λ text. string_bytes text ≡ people_table rows.now) }
@@ -43,7 +44,8 @@ pub fn people_text(alloc: Global, rows: &[PersonRow]) -> Result<String, OutOfMem
     Ok(text)
 }
 
-/// Returns the text table of these results, which must ascend by identifier, with a line for each.
+/// Returns the text table of these results: a line of headings, and a line for each result. The results must ascend by
+/// identifier.
 pub fn results_text(alloc: Global, rows: &[ResultRow]) -> Result<String, OutOfMemory>
     requires ascending { AscendsBy (λ row. row.person) rows.now }
     ensures { IfOk result (λ text. string_bytes text ≡ results_table rows.now) }

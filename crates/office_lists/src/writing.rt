@@ -13,10 +13,10 @@ use room_types::{GradeRow, Move, PersonRow, RoomRow, Watched};
 use std::alloc::Global;
 use std::io::Write;
 
-/// Why an export stopped early, and how many bytes were written. They are a prefix of the export.
+/// Why an export stopped early, and how many bytes were written. The written bytes are a prefix of the export.
 #[derive(Clone, Copy, Debug, PartialEq, Eq, Drop)]
 pub enum WriteEnd {
-    /// A write failed.
+    /// A write failed or took no bytes.
     Fault { sent: u128 },
     /// The bytes of a record could not be allocated. All records before it were written.
     OutOfMemory { sent: u128 },

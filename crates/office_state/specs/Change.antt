@@ -16,7 +16,7 @@ use Rattle.office_state.specs.declared.change.Change.TheVariants.{AddMove}
 use Rattle.office_state.specs.declared.change.Change.TheVariants.{PutRound, ClearRound}
 use Rattle.office_state.specs.declared.change.Change.TheVariants.{KeepList, PutGrade, PutGoing}
 
--- the office in which a person has this home, or none; an unknown person changes nothing
+-- the office in which a person has this home, or none; if the person is unknown, the office as it was
 abbrev pub with_home : Office → Text → Option Text → Office
 with_home office person home = elim (map.get office.people person) [
   | None ↦ office
@@ -41,7 +41,8 @@ abbrev pub with_grade : TextMap ℕ → Text → ℕ → TextMap ℕ
 with_grade grades person zero = map.remove grades person
 with_grade grades person (suc grade) = map.insert grades person (suc grade)
 
--- the office without lists, withdrawals, words, results and people who leave the college
+-- the office without the entries of a round: the lists, withdrawals, words and results, and the records of who leaves
+-- the college
 abbrev pub without_round : Office → Office
 without_round office = record office {
   choices = map.empty;
@@ -81,8 +82,8 @@ applied office (PutGrade person grade) =
     record office { grades = with_grade office.grades person grade }
 applied office (PutGoing person) = record office { going = map.insert office.going person tt }
 
--- whether the change may allocate: removals do not, and neither do the round's number and phase, or the home
--- of an unknown person
+-- whether the change may allocate. These changes do not: `DropPerson`, `PutRound`, `ClearRound`, `PutChoices` of an
+-- empty list, `PutGrade` of grade 0, and `PutHome` of an unknown person.
 abbrev pub change_allocates : Office → Change → Bool
 change_allocates office (PutRoom room shut) = true
 change_allocates office (PutPerson person name key home) = true
@@ -110,12 +111,18 @@ HomesStayDistinct office [] = HomesDiffer office
 HomesStayDistinct office (change ∷ changes) =
     HomesDiffer office × HomesStayDistinct (applied office change) changes
 
--- What a store of rows may rely on at each change, `first` being the office before all changes. A room that
--- is put is known if and only if it was known at first. A person who is put is new and has not withdrawn. A
--- person who is dropped has not withdrawn, does not leave the college, and has a grade only if known. A
--- person who withdraws, or gets a list or a grade, is known. A person who gets a word or a result is known
--- and has none yet. A person who is put among those who leave is known and not yet among them. A person who
--- moves has no move in that round yet, and a label is new.
+-- What a store of rows may rely on at each change. `first` is the office before all changes, and `office` is the office
+-- just before this change.
+-- `PutRoom`: `office` knows the room if and only if `first` knows it.
+-- `PutPerson`: the person is unknown and has not withdrawn.
+-- `DropPerson`: the person has not withdrawn and does not leave the college. If the person has a grade, they are known.
+-- `PutWithdrawn`, `PutChoices`, `PutGrade`: the person is known.
+-- `PutWord`: the person is known and has no word yet.
+-- `PutResult`: the person is known and has no result yet.
+-- `AddMove`: the person has no move in that round yet.
+-- `KeepList`: the label is new.
+-- `PutGoing`: the person is known and is not yet recorded as leaving the college.
+-- All other changes fit.
 abbrev pub Fits : Office → Office → Change → Type 0
 Fits first office (PutRoom room shut) = knows_room office room ≡ knows_room first room
 Fits first office (PutPerson person name key home) =

@@ -49,7 +49,7 @@ knows_person office person = map.contains_key office.people person
 abbrev pub is_shut : Office → Text → Bool
 is_shut office room = unwrap_or (map.get office.rooms room) false
 
--- what a person has, as a home or a key
+-- the text (a home or a key) that `which` gives for a person; none if the person is unknown or has no such text
 abbrev pub had_by : (Person → Option Text) → TextMap Person → Text → Option Text
 had_by which people person = option_and_then which (map.get people person)
 
@@ -68,7 +68,7 @@ abbrev pub first_person : (Person → Bool) → List (Text × Person) → Option
 first_person test [] = None
 first_person test (e ∷ es) = if test e.1 then Some e.0 else first_person test es
 
--- the first person who has it, by identifier
+-- the first person, by identifier, for whom `which` gives this text
 abbrev pub holder : (Person → Option Text) → TextMap Person → Text → Option Text
 holder which people text = first_person (λ p. is_text (which p) text) (map.entries people)
 
@@ -83,7 +83,7 @@ lives_in room person = is_text person.home room
 abbrev pub tenant : Office → Text → Option Text
 tenant office room = holder (λ p. p.home) office.people room
 
--- whose key it is
+-- the person who has this key
 abbrev pub owner : Office → Text → Option Text
 owner office key = holder (λ p. Some p.key) office.people key
 

@@ -52,7 +52,8 @@ round_rooms office =
 abbrev pub number_in : List Text → Text → Option ℕ
 number_in names name = position (λ other. text_eq other name) names
 
--- the part of a list before the own room, which alone counts in the round
+-- the rooms of a list before the person's own room, or all of them if the person has no room or does not list it; no
+-- other room of the list counts in the round
 abbrev pub before_own : Option Text → List Text → List Text
 before_own home codes = before_first (is_text home) codes
 
@@ -60,8 +61,8 @@ before_own home codes = before_first (is_text home) codes
 abbrev pub round_home : Office → Text → Option ℕ
 round_home office person = option_and_then (number_in (round_rooms office)) (home_of office person)
 
--- a participant's list as it counts in the round: cut before the own room, and then the rooms of the round
--- alone, as numbers
+-- a participant's list as it counts in the round: the numbers, in the order of the list, of the rooms of the round that the list
+-- names before the person's own room, or anywhere in it if the person has no room or does not list it
 abbrev pub round_list : Office → Text → List Text → List ℕ
 round_list office person codes =
     filter_map (number_in (round_rooms office)) (before_own (home_of office person) codes)
@@ -78,7 +79,7 @@ round_market office = record {
       (round_people office);
 }
 
--- the room of a number
+-- the room of the round that has this number, if any
 abbrev pub round_room : Office → Option ℕ → Option Text
 round_room office number = option_and_then (slice_get (round_rooms office)) number
 
@@ -113,8 +114,8 @@ rank_by_number office number (Some room) =
     (number_in (round_rooms office) room))
     (length (list_of (round_market office) number) + 1)
 
--- the rank that a participant gives to a room or nothing, by the recorded list as it counts in the round; for
--- anybody else, who has no list in the round, nothing comes first, and then any room
+-- the rank that a participant gives to a room or nothing, by the recorded list as it counts in the round. Anybody else
+-- has no list in the round: for them `None` has rank 0, and every room has rank 1.
 unfoldable pub round_rank : Office → Text → Option Text → ℕ
 round_rank office person =
     rank_by_number office

@@ -64,7 +64,7 @@ pub struct Office {
     pub grades: Table<PersonIds, Grade>,
     /// Who leaves the college after the round.
     pub going: Table<PersonIds, ()>,
-    /// The number of the last round, or 0 before the first.
+    /// The number of the latest round, or 0 before the first.
     pub number: u16,
     pub phase: Phase,
 }

@@ -3,10 +3,10 @@ use Rattle.std.specs.Prelude.{◌≡◌, ◌⊎◌, false, ⊤}
 use Rattle.sqlite_schema.specs.declared.schema.Schema.{Schema}
 use Rattle.sqlite.specs.Effect.{Database}
 use Rattle.office_db.specs.loading.Finding.{names_round}
-use Rattle.office_db.specs.migration.Causes.{HasNameTaken, HoldsNoEarlier, IsAllowed, MayReturn, StatesVersion}
-use Rattle.office_db.specs.migration.Versions.{IsNotEarlier}
-use Rattle.office_db.specs.declared.migration.migrating.MigrateFault.{MigrateFault}
-use Rattle.office_db.specs.declared.migration.migrating.MigrateFault.TheVariants as migrate
+use Rattle.office_migration.specs.Causes.{HasNameTaken, HoldsNoEarlier, IsAllowed, MayReturn, StatesVersion}
+use Rattle.office_migration.specs.Versions.{IsNotEarlier}
+use Rattle.office_migration.specs.declared.migrating.MigrateFault.{MigrateFault}
+use Rattle.office_migration.specs.declared.migrating.MigrateFault.TheVariants as migrate
 use Rattle.office_store.specs.declared.desk.faults.DeskFault.{DeskFault}
 use Rattle.office_store.specs.declared.desk.faults.DeskFault.TheVariants.{Unavailable, NotAnOffice, OtherVersion, AlreadyThere}
 

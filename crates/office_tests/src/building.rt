@@ -1,6 +1,6 @@
 //! Values and requests as tests write them. A text that is not a value ends the test.
 use office_core::{Command, Office};
-use office_lines::parse::{ParsedLine, parse_line};
+use office_lines::{ParsedLine, parse_line};
 use office_store::{Answer, Desk, Request};
 use room_types::{Choices, Grammar, Phase, RoomCode, Text};
 use sqlite::MemStore;

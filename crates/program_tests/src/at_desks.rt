@@ -3,8 +3,8 @@ ghost use Rattle.std.specs.Prelude.{All, IfOk};
 ghost use Rattle.office_store.specs.Requests.{AnswerAscends};
 
 use crate::scripts::{rehearsed, rehearsed_at};
-use office_lines::parse::{ParsedLine, parse_line};
 use office_lines::render::{refusal_text, reply_text};
+use office_lines::{ParsedLine, parse_line};
 use office_store::{Answer, Desk, Request};
 use room_types::OutOfMemory;
 use sqlite::MemStore;

@@ -114,7 +114,7 @@ fn assert_cut_off(
     );
 }
 
-// A command takes effect even if its answer can't be written.
+// A command takes effect even if its answer cannot be written.
 #[test]
 fn keeps_changes_if_the_writer_fails(rt: HostRuntime) -> Result<(), Fail> {
     let alloc = rt.alloc();

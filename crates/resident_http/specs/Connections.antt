@@ -57,7 +57,9 @@ IsCut sent bytes before after =
     ⊎ ((sent ≡ length bytes) × Puts before after bytes × (after.flushes ≡ counted before.flushes 1)
     × (0 < sent → after.pending ≡ true)))
 
--- The bytes of a response with this status were written, or a prefix of them.
+-- `Answered`: all bytes were written, one flush followed, nothing failed, and the returned status is this one. `WriteFault`: the
+-- stream failed, either after the first `sent` bytes, which are not all, or at the one flush that followed all of them. No other
+-- ending satisfies this.
 abbrev pub Delivers : Served → ℕ → List ℕ → Output → Output → Type 0
 Delivers (Answered returned) status bytes before after = (returned ≡ status) × IsDelivered bytes before after
 Delivers (WriteFault sent) status bytes before after = IsCut sent bytes before after

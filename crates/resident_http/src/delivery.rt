@@ -11,7 +11,8 @@ use crate::served::Served;
 use http::StatusCode;
 use room_types::{Stream, Watched};
 
-/// Writes the whole response, and flushes.
+/// Writes the whole response, and flushes. Returns `Answered` with this status, or `WriteFault` with the number of bytes
+/// written before a write or the flush failed.
 pub fn deliver<T: Stream>(stream: &mut Watched<T>, status: StatusCode, text: &[u8]) -> Served
     requires { watched_failed stream.old ≡ false }
     ensures delivers { Delivers result status text.now

@@ -1,9 +1,9 @@
 //! Theorems about the definitions: each is the contract of a function that does nothing.
 ghost use Rattle.resident_http.specs.OwnReply.{KeepsWhereUnavailable, RepliesByOwnRecord};
 
-/// A response depends only on the rooms, which of them are occupied, the round and its phase, who owns the key of the
-/// request, and what is recorded about that person: the result only once it is published, and never the grade. Two
-/// offices that agree on these serve the same responses to any bytes.
+/// Which responses the bytes of a connection may get depends only on the rooms, which of them are occupied, the round
+/// and its phase, who owns the key of the request, and what is recorded about that person: the result only once it is
+/// published, and never the grade. Two offices that agree on these may serve the same responses to any bytes.
 pub fn own_reply()
     ensures { RepliesByOwnRecord }
 {}

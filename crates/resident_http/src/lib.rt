@@ -1,4 +1,5 @@
-//! Serves one resident: reads a request from a connection, lets the desk handle it, and writes the response.
+//! Serves residents over HTTP. An exchange reads one request from a connection, lets the desk handle it, and writes the
+//! response. `server` listens on a port and carries out one exchange after another.
 #![tactic(auto)]
 
 mod answering;

@@ -48,7 +48,7 @@ pub fn prepare_success(
     prepare(alloc, HttpAnswer::success(body))
 }
 
-/// Prepares the error response with this status and error name.
+/// Prepares the error response with this status and error name, which must be one of the status's names.
 pub fn prepare_fault(
     alloc: Global,
     status: StatusCode,
@@ -61,7 +61,8 @@ pub fn prepare_fault(
     prepare(alloc, answer)
 }
 
-/// Prepares the error response for a status with a single error name.
+/// Prepares the error response for a status with a single error name, other than 405, whose response
+/// `prepare_wrong_method` prepares.
 pub fn status_fault(
     alloc: Global,
     status: StatusCode,

@@ -38,7 +38,8 @@ impl CommandResponses {
         })
     }
 
-    /// Returns the response to the desk's answer.
+    /// Returns the response to the desk's answer. Fails if the desk is unavailable, and for a refusal that no resident's
+    /// command gets.
     pub fn response_to(self, answer: &Answer) -> Result<PreparedResponse, ResponseUnavailable>
         ensures { (body : List ℕ) → AreCommandResponses self body
             → WithAnswer result (λ due. due ≡ command_answer body answer.now) }

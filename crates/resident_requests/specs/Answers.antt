@@ -5,7 +5,7 @@ use Rattle.std.specs.List.{concat, list_any}
 use Rattle.resident_requests.specs.declared.method.Method.{Method}
 use Rattle.resident_requests.specs.declared.method.Method.TheVariants as method
 
--- a response: its status, the method to use instead of a wrong one, and the body
+-- a response: its status, the method that the path takes if the request has another, and the body
 pub record Answer : Type 0 where
   pub status : ℕ
   pub allow : Option Method
@@ -21,7 +21,7 @@ abbrev pub is_response_status : ℕ → Bool
 is_response_status status =
     list_any (λ known. known == status) (200 ∷ 400 ∷ 403 ∷ 404 ∷ 405 ∷ 409 ∷ 413 ∷ 417 ∷ 422 ∷ 501 ∷ 503 ∷ [])
 
--- the status is one of these, and `allow` is present exactly with 405
+-- the status is one that responses have, and `allow` is present exactly if the status is 405
 pub record IsAnswer (answer : Answer) : Type 0 where
   pub answered : is_response_status answer.status ≡ true
   pub allow : is_some answer.allow ≡ (answer.status == 405)

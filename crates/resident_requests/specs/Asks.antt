@@ -10,7 +10,8 @@ use Rattle.resident_requests.specs.Fields.{NamedValue, values_of, is_decimal, nu
 use Rattle.resident_requests.specs.declared.ask.AskState.{AskState}
 use Rattle.resident_requests.specs.declared.ask.AskState.TheVariants as state
 
--- `AskState` without places in memory: more bytes are needed, a request, or a fault with its status
+-- an `AskState` as a value, which holds the bytes that `AskState` borrows: more bytes are needed, a request, or a fault
+-- with its status
 pub data Asked : Type 0 where
   more : Asked
   ask : (method path : List ℕ) (key : Option (List ℕ)) (body : List ℕ) (used : ℕ) → Asked
@@ -39,18 +40,18 @@ has_bad_host minor [] = minor == 1
 has_bad_host minor (host ∷ []) = false
 has_bad_host minor (host ∷ other ∷ hosts) = true
 
--- there is at least one such field
+-- there is at least one value
 abbrev pub is_present : List (List ℕ) → Bool
 is_present [] = false
 is_present (value ∷ values) = true
 
--- the key, if there is exactly one such field and its value is in the grammar of keys
+-- the key by the values of the fields `Room-Key`: the value, if there is exactly one and it is in the grammar of keys
 abbrev pub key_of : List (List ℕ) → Option (List ℕ)
 key_of [] = None
 key_of (value ∷ []) = if is_key value then Some value else None
 key_of (value ∷ other ∷ values) = None
 
--- the length of the body, or the status of the fault
+-- the length of the body by the values of the fields `Content-Length`, or the status of the fault
 abbrev pub body_length : List (List ℕ) → Result ℕ ℕ
 body_length [] = Ok 0
 body_length (value ∷ []) =
@@ -61,13 +62,13 @@ body_length (value ∷ other ∷ values) = Err 400
 abbrev pub path_of : List ℕ → List ℕ
 path_of target = before_first (λ byte. byte == 63) target
 
--- the request with a body of this length, once the body is complete
+-- the fault of the body's length, if it has one; else `more` until the body is complete, and then the request
 abbrev pub asked_with : List ℕ → List ℕ → Option (List ℕ) → ℕ → List ℕ → Result ℕ ℕ → Asked
 asked_with method path key len rest (Err status) = fault status
 asked_with method path key len rest (Ok n) =
     if nat_lt (length rest) n then more else ask method path key (take n rest) (len + n)
 
--- The request in a head of these parts, of length `len`, and the bytes after it. Of several faults, the first one counts.
+-- The result for a head with these parts and the length `len`, followed by the bytes `rest`. The first fault counts.
 unfoldable pub asked_of : List ℕ → List ℕ → ℕ → List NamedValue → ℕ → List ℕ → Asked
 asked_of method target minor fields len rest =
     if has_bad_host minor (values_of (codes "host") fields) then fault 400
@@ -92,20 +93,21 @@ pub record HasHead (bytes : List ℕ) (head : RequestHead) (rest : List ℕ) : T
   pub short : length (print_request head) ≤ head_limit
   pub few_fields : length head.fields ≤ field_limit
 
--- The bytes are fewer than the head's limit and start with no complete head, but more bytes may complete one, or the bytes
--- end within the target.
+-- There are fewer bytes than the limit of a head, and they start with no complete head. Either further bytes can
+-- complete one, or the bytes end within the target.
 pub record AwaitsHead (bytes : List ℕ) : Type 0 where
   pub few : length bytes < head_limit
   pub none : HasNoRequest bytes
   pub can_come : MayBecomeRequest bytes
 
--- Every head that the bytes can become has more than 64 fields, or the first 8,192 bytes contain no complete head.
+-- One of two cases holds. Every head that the first 8,192 bytes start with, or can become, has more than 64 fields;
+-- there may be no such head. Or there are at least 8,192 bytes, and the first 8,192 start with no complete head.
 abbrev pub LacksHead : List ℕ → Type 0
 LacksHead bytes =
     RequestOverflows field_limit (window bytes) ⊎ ((head_limit ≤ length bytes) × HasNoRequest (window bytes))
 
--- What `read_ask` may return for these bytes: what their head and the bytes after it give; or `more`, while a head may
--- still come; or 400, if every head that can come has too many fields, or there are 8,192 bytes without a complete head.
+-- What `read_ask` may return for these bytes. With a complete head within the limits, it is what the head and the bytes
+-- after it give. It may be `more` while the bytes await a head, and 400 if they lack one.
 abbrev pub Asks : List ℕ → Asked → Type 0
 Asks bytes asked =
     ((head : RequestHead) × (rest : List ℕ) × HasHead bytes head rest × (asked ≡ asked_by head rest))
@@ -117,13 +119,13 @@ is_more more = true
 is_more (ask method path key body used) = false
 is_more (fault status) = false
 
--- it is a request
+-- the result is a request
 abbrev pub is_request : Asked → Bool
 is_request more = false
 is_request (ask method path key body used) = true
 is_request (fault status) = false
 
--- a status of a fault that is found before a request is complete
+-- a status that a fault of `read_ask` may have
 abbrev pub is_early_status : ℕ → Bool
 is_early_status status = list_any (λ known. known == status) (400 ∷ 413 ∷ 417 ∷ 501 ∷ [])
 
@@ -132,7 +134,7 @@ HasEarlyStatus more = ⊤
 HasEarlyStatus (ask method path key body used) = ⊤
 HasEarlyStatus (fault status) = is_early_status status ≡ true
 
--- Every head that the bytes can become has too many fields, and there is such a head.
+-- Every head that the first 8,192 bytes start with, or can become, has too many fields, and there is such a head.
 pub record BeginsTooManyFields (bytes : List ℕ) : Type 0 where
   pub too_many : RequestOverflows field_limit (window bytes)
   pub some : (more : List ℕ) × (head : RequestHead) × (rest : List ℕ) × ReadsRequest (window bytes ++ more) head rest

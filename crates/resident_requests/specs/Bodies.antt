@@ -53,7 +53,7 @@ room_data row =
 abbrev pub rooms_data : List RoomRow → Data
 rooms_data rows = array (items_of (map room_data rows))
 
--- that the person has withdrawn
+-- the confirmation of a withdrawal
 abbrev pub withdrawn_data : Data
 withdrawn_data = object (member (codes "withdrawn") (boolean true) no_members)
 
@@ -63,7 +63,7 @@ fault_data name = object (member (codes "error") (string name) no_members)
 
 -- ---- requests
 
--- the JSON value of the bytes, if they are one in UTF-8
+-- the JSON value in the bytes, if they are UTF-8 and hold one
 abbrev pub json_of : List ℕ → Option Data
 json_of bytes = if is_utf8 bytes then read bytes else None
 
@@ -71,7 +71,7 @@ json_of bytes = if is_utf8 bytes then read bytes else None
 abbrev pub code_in : Data → Option Text
 code_in value = option_and_then (λ text. if is_room_code text then Some text else None) (as_str value)
 
--- a code in front of others, if there are any
+-- the code followed by the others, or `None` if the others are `None`
 abbrev pub code_before : Text → Option (List Text) → Option (List Text)
 code_before code others = option_map (λ codes. code ∷ codes) others
 

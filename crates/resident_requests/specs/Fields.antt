@@ -9,7 +9,7 @@ use Rattle.std.specs.Str.Parse.{digits_value}
 abbrev pub NamedValue : Type 0
 NamedValue = List ℕ × List ℕ
 
--- the values of the fields with this name, whose case does not matter
+-- the values of the fields with this name, where the ASCII case of names does not matter
 abbrev pub values_of : List ℕ → List NamedValue → List (List ℕ)
 values_of name fields = map (λ field. field.1) (filter (λ field. str_eq_ignore_ascii_case field.0 name) fields)
 

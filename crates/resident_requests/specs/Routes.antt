@@ -25,7 +25,7 @@ method_of route.Withdrawal = Post
 method_of route.Standing = Get
 method_of route.Rooms = Get
 
--- `Routed` without places in memory
+-- a `Routed` as a value, which holds the key that `Routed` borrows
 pub data Wanted : Type 0 where
   unknown : Wanted
   wrong_method : (allow : Method) → Wanted
@@ -46,7 +46,7 @@ abbrev pub with_method : List ℕ → Option Text → Route → Wanted
 with_method method key route =
     if bytes_eq method (method_text (method_of route)) then with_key route key else wrong_method (method_of route)
 
--- What a request wants. An unknown path is reported first, then a wrong method, then a missing key.
+-- The route and the key of a request, or its first error: an unknown path, then a wrong method, then a missing key.
 abbrev pub wanted_of : List ℕ → Text → Option Text → Wanted
 wanted_of method path key = on_route (route_of path)
   where

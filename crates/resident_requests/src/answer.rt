@@ -8,13 +8,14 @@ use room_types::{Listing, OutOfMemory};
 use std::alloc::{AllocError, Global};
 use std::marker::Model;
 
-/// An HTTP response. Its status is one of those that `is_response_status` lists; `allow` is present exactly with 405; the body is
-/// JSON.
+/// An HTTP response. Its status is one of those that `is_response_status` lists. `allow` is present exactly if the
+/// status is 405. The body should be JSON, since the field `Content-Type` says that it is. `HttpAnswer` does not ensure
+/// this.
 #[derive(Debug, Drop)]
 pub struct HttpAnswer {
     /// The status.
     pub status: StatusCode,
-    /// The method to use instead of a wrong one.
+    /// The method that the path takes, if the request has another.
     pub allow: Option<Method>,
     /// The bytes of the body.
     pub body: Listing<u8>,

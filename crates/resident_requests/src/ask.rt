@@ -37,7 +37,7 @@ pub enum AskState<'b> {
         path: &'b str,
         /// The resident's key, if there is exactly one field `Room-Key` and its value is in the grammar of `Key`.
         key: Option<&'b str>,
-        /// The bytes after the head, as many as the field `Content-Length` says; empty without that field.
+        /// The body: as many bytes after the head as the field `Content-Length` says. Empty without that field.
         body: &'b [u8],
         /// The length of the head and the body, in bytes.
         used: usize,
@@ -46,23 +46,31 @@ pub enum AskState<'b> {
     Fault(StatusCode),
 }
 
-/// Parses the head at the start of the bytes, and as many bytes after it as the head announces. Ignores the bytes after the
-/// body. Does not allocate.
+/// Parses the request at the start of the bytes: the head, and as many bytes after it as the head announces. Ignores
+/// the bytes after the body. Does not allocate.
 ///
-/// The first fault of this list counts: a head that is not HTTP/1.0 or HTTP/1.1, is longer than `HEAD_LIMIT`, has more than
-/// `FIELD_LIMIT` fields, more than one field `Host`, or none in HTTP/1.1 (400); a field `Expect` (417); a field
-/// `Transfer-Encoding` (501); more than one field `Content-Length`, or one that is not decimal digits (400) or is above
-/// `BODY_LIMIT` (413). The grammar of a head is `httparse`'s default one: a line, for example, may end with a line feed
-/// alone.
+/// A head follows the default grammar of `httparse`; for example, a line may end with a line feed alone. Of these
+/// faults, the first that applies counts:
 ///
-/// If fewer than `HEAD_LIMIT` bytes can't become a head, the result is 400, with two exceptions: if the bytes begin more
-/// than `FIELD_LIMIT` fields, or end within the target, it may be `More` instead.
+/// - 400: the head is not HTTP/1.0 or HTTP/1.1, is longer than `HEAD_LIMIT`, has more than `FIELD_LIMIT` fields, has
+///   more than one field `Host`, or has none in HTTP/1.1.
+/// - 417: the head has a field `Expect`.
+/// - 501: the head has a field `Transfer-Encoding`.
+/// - 400: the head has more than one field `Content-Length`, or one that is not decimal digits.
+/// - 413: the value of the field `Content-Length` is above `BODY_LIMIT`.
+///
+/// For fewer than `HEAD_LIMIT` bytes without a complete head, the result depends on what can follow:
+///
+/// - `More`, if further bytes can complete a head with at most `FIELD_LIMIT` fields.
+/// - `More` or 400, if further bytes can complete a head, but only with more than `FIELD_LIMIT` fields.
+/// - `More` or 400, if no further bytes can complete a head, and the bytes end within the target.
+/// - 400, if no further bytes can complete a head, and the bytes do not end within the target.
 pub fn read_ask(bytes: &[u8]) -> AskState<'_>
     ensures asks { Asks bytes.now (seen result) }
-    // A fault that is found here has status 400, 413, 417 or 501.
+    // The status of a fault is 400, 413, 417 or 501.
     ensures early { HasEarlyStatus (seen result) }
 
-    // Only fewer bytes than this need more, so a reader needs no larger buffer.
+    // The result is `More` only for fewer than `HEAD_LIMIT + BODY_LIMIT` bytes, so a reader needs no larger buffer.
     ensures few { is_more (seen result) ≡ true → length bytes.now < 9216 }
 {
     let mut headers = [EMPTY_HEADER_SPAN; FIELD_LIMIT];
@@ -87,7 +95,7 @@ fn first_bytes(bytes: &[u8]) -> &[u8]
     &bytes[..HEAD_LIMIT]
 }
 
-// The request of a complete head and the bytes after it.
+// The result for a complete head and the bytes after it.
 #[tactic(auto, unfolding(crate::specs::Asks::asked_of))]
 fn asked_of<'b>(
     window: &'b [u8],
@@ -153,7 +161,7 @@ fn has_field(window: &[u8], headers: &[HeaderSpan], name: &[u8]) -> bool
     }
 }
 
-// The resident's key, if there is exactly one such field and its value is in the grammar of keys.
+// The resident's key, if there is exactly one field `Room-Key` and its value is in the grammar of keys.
 fn key_of<'b>(window: &'b [u8], headers: &[HeaderSpan]) -> Option<&'b str>
     requires { All (IsHeaderWithin (length window.now)) headers.now }
     ensures { let fields = map (header_bytes window.now) headers.now in
@@ -166,7 +174,7 @@ fn key_of<'b>(window: &'b [u8], headers: &[HeaderSpan]) -> Option<&'b str>
     }
 }
 
-// The length of the body, 0 without a field `Content-Length`.
+// The length of the body, or the status of the fault. The length is 0 without a field `Content-Length`.
 fn body_length(window: &[u8], headers: &[HeaderSpan]) -> Result<usize, StatusCode>
     requires { All (IsHeaderWithin (length window.now)) headers.now }
     ensures value { let fields = map (header_bytes window.now) headers.now in
@@ -181,7 +189,7 @@ fn body_length(window: &[u8], headers: &[HeaderSpan]) -> Result<usize, StatusCod
     }
 }
 
-// The length in the value of a field.
+// The length in the value of a field `Content-Length`, or the status of the fault.
 fn body_length_in(text: &[u8]) -> Result<usize, StatusCode>
     ensures value { result ≡ body_length (text.now ∷ []) }
     ensures early { IfErr result (λ status. is_early_status status ≡ true) }

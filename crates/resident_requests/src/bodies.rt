@@ -1,4 +1,4 @@
-//! The bodies of responses, in JSON.
+//! The bodies of responses, in JSON. Each function fails only if an allocation fails.
 ghost use Rattle.std.specs.Prelude.{◌≡◌, IfOk, false};
 ghost use Rattle.serde_json.specs.Data.{string};
 ghost use Rattle.serde_json.specs.View.{view};
@@ -15,7 +15,7 @@ use std::alloc::{AllocError, Global};
 ///
 /// # Errors
 ///
-/// `OutOfMemory` if an allocation fails, as for each function of this module.
+/// `OutOfMemory` if an allocation fails.
 pub fn choices_body(alloc: Global, choices: &[RoomCode]) -> Result<Listing<u8>, OutOfMemory>
     ensures { IfOk result (λ body. body ≡ compact_text (choices_data choices.now)) }
 {

@@ -12,7 +12,7 @@ use std::alloc::Global;
 /// # Errors
 ///
 /// `BadValue` if the body is not such an array; `TooManyChoices` or `RoomRepeated` if the codes are not a valid list;
-/// `OutOfMemory` if an allocation fails, which happens only for a body that is not empty.
+/// `OutOfMemory` if an allocation fails. An empty body never fails with `OutOfMemory`.
 pub fn choices_of_body(alloc: Global, body: &[u8]) -> Result<Choices, TypeFault>
     ensures value { IfOk result (λ choices. choices_of_body body.now ≡ Ok choices) }
     ensures fault { IfErr result (λ fault.

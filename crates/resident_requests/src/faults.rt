@@ -11,7 +11,7 @@ use room_types::{Listing, OutOfMemory};
 use std::alloc::Global;
 
 impl HttpAnswer {
-    /// The response with status 200 and this body.
+    /// Returns the response with status 200 and this body.
     pub fn success(body: Listing<u8>) -> Self
         ensures { result ≡ success_answer body }
     {
@@ -22,8 +22,9 @@ impl HttpAnswer {
         }
     }
 
-    /// Returns an error response, whose body contains the name of the error. The name has to be one of the status. 200 and
-    /// 405 have none: 200 is no error, and the response of 405 is `wrong_method`.
+    /// Returns an error response. Its body contains the name of the error, which must be one of the error names of the
+    /// status. The statuses 200 and 405 have none here: 200 is no error, and `wrong_method` returns the response for
+    /// 405.
     ///
     /// # Errors
     ///
@@ -57,7 +58,8 @@ impl HttpAnswer {
     }
 }
 
-/// Returns the error name of a status that has a single one, so neither 200, 409 nor 422.
+/// Returns the error name of a status that has exactly one. This excludes 200, which has none, and 409 and 422, which
+/// have several.
 pub fn fault_name(status: StatusCode) -> &'static str
     requires { has_one_name status ≡ true }
     ensures { result.now ≡ fault_name status }

@@ -18,7 +18,7 @@ pub enum Found {
     Several,
 }
 
-/// Searches for the fields of this name, whose case does not matter.
+/// Searches for the fields with this name. Ignores the ASCII case of names.
 pub fn find_fields(buf: &[u8], headers: &[HeaderSpan], name: &[u8]) -> Found
     requires { All (IsHeaderWithin (length buf.now)) headers.now }
     ensures { Finds buf.now result (values_of name.now (map (header_bytes buf.now) headers.now)) }
@@ -48,7 +48,7 @@ fn with_field(buf: &[u8], found: Found, header: HeaderSpan, name: &[u8]) -> Foun
     }
 }
 
-/// Whether the text is one or more decimal digits.
+/// Returns whether the text is one or more decimal digits.
 pub fn is_decimal(text: &[u8]) -> bool
     ensures { result ≡ is_decimal text.now }
 {

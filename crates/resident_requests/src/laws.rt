@@ -12,9 +12,9 @@ pub fn unavailable_is_an_answer()
     ensures { UNAVAILABLE_RESPONSE.now ≡ bytes_of (fault_answer 503 (codes "Unavailable")) }
 {}
 
-/// It does not matter how the bytes of a connection are split into chunks: a request found in the bytes so far remains the
-/// result whatever bytes follow. So does a fault, except for too many fields and for one found while the target is
-/// incomplete. After any fault, no request follows.
+/// The request in the bytes of a connection does not depend on how these are split into chunks. Once the bytes so far
+/// give a request, they give the same request whatever bytes follow. After a fault, no bytes that follow give a
+/// request. The fault can change only if the bytes so far begin too many fields or end within the target.
 pub fn findings_stay()
     ensures request { (bytes next : List ℕ) (asked later : Asked)
         → Asks bytes asked → is_request asked ≡ true

@@ -16,7 +16,7 @@ pub enum Method {
 }
 
 impl Method {
-    /// The method, as written in a request.
+    /// Returns the method, as written in a request.
     pub fn as_str(self) -> &'static str
         ensures { result.now ≡ method_text self }
     {

@@ -22,7 +22,7 @@ pub enum Route {
 }
 
 impl Route {
-    /// The only method that the path takes.
+    /// Returns the only method that the path takes.
     pub fn method(self) -> Method
         ensures { result ≡ method_of self }
     {
@@ -34,7 +34,7 @@ impl Route {
     }
 }
 
-/// The route and the key of a request, or why it has none.
+/// The route and the key of a request, or why the request is refused.
 #[derive(Clone, Copy, Debug)]
 pub enum Routed<'b> {
     /// There is no such path.

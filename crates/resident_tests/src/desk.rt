@@ -9,7 +9,7 @@ mod whole_office;
 use crate::asserting::{assert_same, holds};
 use crate::desk::failing::NarrowWriter;
 use http::StatusCode;
-use office_lines::parse::{ParsedLine, parse_line};
+use office_lines::{ParsedLine, parse_line};
 use office_store::{Desk, Handler};
 use resident_http::{Served, serve_one};
 use room_types::Watched;

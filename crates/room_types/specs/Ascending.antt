@@ -12,7 +12,7 @@ pub record IsArrangement {X : Type 0} (cmp : X → X → Ordering)
   pub ascends : IsSorted cmp arranged
   pub ties_stay : IsStable cmp items arranged
 
--- inserts an item into a list that ascends, behind all items at the head that are below it
+-- inserts an item into an ascending list, behind the leading items that are below it
 abbrev pub placed : {X : Type 0} → (X → X → Ordering) → X → List X → List X
 placed cmp item [] = item ∷ []
 placed cmp item (first ∷ rest) =

@@ -11,7 +11,7 @@ grade_limit = 9
 abbrev pub digit_value : ℕ → Option ℕ
 digit_value byte = if is_in_range 48 57 byte then Some (byte - 48) else None
 
--- the grade that exactly one digit spells
+-- the grade of a text of exactly one decimal digit
 abbrev pub grade_of : List ℕ → Option ℕ
 grade_of (byte ∷ []) = digit_value byte
 grade_of _ = None

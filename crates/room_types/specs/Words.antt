@@ -15,13 +15,13 @@ hex_digit byte =
     else (if is_in_range 97 102 byte then Some (byte - 87)
     else (if is_in_range 65 70 byte then Some (byte - 55) else None))
 
--- the number that these digits spell, when they continue `value`
+-- the number of these hexadecimal digits, where the digits before them have the number `value`
 abbrev pub hex_value : ℕ → List ℕ → Option ℕ
 hex_value value [] = Some value
 hex_value value (byte ∷ bytes) =
     elim (hex_digit byte) [ None ↦ None | Some digit ↦ hex_value (value * 16 + digit) bytes ]
 
--- the word that exactly sixteen digits spell
+-- the word of a text of exactly sixteen hexadecimal digits
 abbrev pub word_of : List ℕ → Option ℕ
 word_of text = if eqb (length text) word_digits then hex_value 0 text else None
 

@@ -35,8 +35,8 @@ impl Choices {
     ///
     /// # Errors
     ///
-    /// `TooManyChoices` if there are more than `CHOICE_LIMIT` rooms; otherwise `RoomRepeated` with the first code that also
-    /// occurs before its place, or `OutOfMemory` if that code cannot be copied.
+    /// `TooManyChoices` if there are more than `CHOICE_LIMIT` rooms. Otherwise, if a code repeats an earlier one,
+    /// `RoomRepeated` with the first such code, or `OutOfMemory` if that code cannot be copied.
     pub fn read(codes: Vec<RoomCode>) -> Result<Choices, TypeFault>
         ensures { MatchResult result
             (λ value. (value ≡ codes.items) × (choices_fault codes.items ≡ None))
@@ -90,7 +90,7 @@ impl ExactClone for Choices {
     ghost same = { λ x y h. h };
 }
 
-// Returns the first code that also occurs before its place. Takes quadratic time: lists are short.
+// Returns the first code that repeats an earlier one. Takes quadratic time: lists are short.
 fn first_repeated(codes: &[RoomCode]) -> Option<&RoomCode>
     ensures { option_copied result ≡ first_repeated [] codes.now }
 {

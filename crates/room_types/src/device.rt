@@ -6,10 +6,10 @@ ghost use Rattle.std.specs.declared.io.Error.{Error};
 
 use std::io::{Read, Result, Write};
 
-/// A reader that relates the states before and after each read. The contract of `Read` cannot say that a read was made;
-/// generic code can establish `reads` only by one call of `read_once`.
+/// A reader that relates the states before and after each read. The contract of `Read` cannot say that a read was made.
+/// `reads` can: generic code establishes it only by one call of `read_once`.
 pub trait Source: Read {
-    /// One read, given the buffer before and after it, returned this result and led from the first state to the last.
+    /// Relates the state before one read, the buffer before and after it, its result, and the state after it.
     ghost reads: { Self → List ℕ → List ℕ → Result ℕ Error → Self → Type 0 };
 
     /// Calls `read` once.
@@ -28,13 +28,14 @@ impl<R: Read> Source for R {
     }
 }
 
-/// A writer that relates the states before and after each write and each flush. The contract of `Write` cannot say that a
-/// call was made; generic code can establish `writes` and `flushes` only by one call of `write_once` or `flush_once`.
+/// A writer that relates the states before and after each write and each flush. The contract of `Write` cannot say that
+/// a call was made. `writes` and `flushes` can: generic code establishes them only by one call of `write_once` or
+/// `flush_once`.
 pub trait Sink: Write {
-    /// One write of these bytes returned this result and led from the first state to the last.
+    /// Relates the state before one write, the bytes to write, its result, and the state after it.
     ghost writes: { Self → List ℕ → Result ℕ Error → Self → Type 0 };
 
-    /// One flush returned this result and led from the first state to the last.
+    /// Relates the state before one flush, its result, and the state after it.
     ghost flushes: { Self → Result ⊤ Error → Self → Type 0 };
 
     /// Calls `write` once.

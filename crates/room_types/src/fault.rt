@@ -42,7 +42,7 @@ pub enum TypeFault {
     OutOfMemory,
     /// The list has more rooms than `CHOICE_LIMIT`.
     TooManyChoices,
-    /// The first room of the list that also occurs before its place.
+    /// The list has a room twice. The code is that of the first room that repeats an earlier one.
     RoomRepeated(RoomCode),
 }
 

@@ -16,7 +16,7 @@ pub type RoomCode = Text<RoomCodes>;
 /// The identifier of a person.
 pub type PersonId = Text<PersonIds>;
 
-/// The secret key by which the program knows a person's own requests. The office gives it out.
+/// The secret key that authenticates a person's own requests. The office gives it out.
 pub type Key = Text<Keys>;
 
 /// The label of an imported list. Each label names at most one list.
@@ -131,7 +131,7 @@ fn has_label_bytes(text: &str) -> bool
     text.as_bytes().iter().all(|b| b.is_ascii_lowercase() || b.is_ascii_digit() || *b == b'-')
 }
 
-// Returns whether a text is not empty and has no space at either end and no two in a row.
+// Returns whether a text is not empty, has no space at either end, and has no two spaces in a row.
 fn is_spaced(text: &str) -> bool
     ensures { result ≡ is_spaced true text.now }
 {

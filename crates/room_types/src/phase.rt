@@ -4,7 +4,8 @@ ghost use Rattle.room_types.specs.Phases.{phase_text};
 
 use std::fmt;
 
-/// The phase of a round. Phases follow one another in this order, and `Idle` comes after `Published`.
+/// The phase of a round. Phases follow one another in this order, and `Idle` comes after `Published`. The command
+/// `Cancel` leads from `Opened`, `Closed`, `Drawn` or `Ran` back to `Idle`.
 #[derive(Clone, Copy, Debug, PartialEq, Eq, Drop)]
 pub enum Phase {
     /// No round is under way.

@@ -10,8 +10,8 @@ use std::io::Write;
 ///
 /// # Errors
 ///
-/// The number of bytes that were written before a write failed, or took nothing. It is less than the length of the text,
-/// and nothing is written after that.
+/// The number of bytes written before the first write that failed or took nothing. The number is less than the length
+/// of the text, and no write follows.
 pub fn send<W: Write>(output: &mut Watched<W>, text: &[u8]) -> Result<(), usize>
     ensures sent { OnOk result
         (Puts (output_of W.contents output.old) (output_of W.contents output.new) text.now) }
@@ -24,7 +24,7 @@ pub fn send<W: Write>(output: &mut Watched<W>, text: &[u8]) -> Result<(), usize>
     ensures flushes { watched_flushes output.new ≡ watched_flushes output.old }
     ensures stops { StopsAtFailure output.old output.new }
 {
-    // Reading the count tells the prover that it fits in 64 bits.
+    // The proof needs this call: from it the prover knows that the count fits in 64 bits.
     let _taken = output.taken();
     let mut sent = 0;
     while sent < text.len() {

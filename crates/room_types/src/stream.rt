@@ -1,4 +1,4 @@
-//! Streams whose reads do not disturb their writes, nor the writes their reads.
+//! Streams whose reads keep the bytes written, and whose writes and flushes keep the bytes left to read.
 ghost use Rattle.std.specs.Prelude.{◌≡◌, ℕ, List, Result, ⊤};
 ghost use Rattle.std.specs.Io.{ReadsAtMost, WritesAtMost};
 ghost use Rattle.std.specs.Io.KnownBytes.{Keeps, ReadConsumes, WriteAppends};
@@ -8,17 +8,17 @@ use crate::device::{Sink, Source};
 use std::io::{Read, Result, Write};
 use std::net::TcpStream;
 
-/// A reader and a writer in one. The contract of `Read` says nothing about the bytes written, and that of `Write` nothing
-/// about the bytes left to read. Here a read keeps the former, and a write or a flush the latter. As in `Source` and
-/// `Sink`, each call relates the states of the stream before and after it.
+/// A reader and a writer in one. The contract of `Read` says nothing about the bytes written; here a read leaves them
+/// unchanged. The contract of `Write` says nothing about the bytes left to read; here a write or a flush leaves them
+/// unchanged. As in `Source` and `Sink`, each call relates the states of the stream before and after it.
 pub trait Stream: Read + Write {
-    /// One read, given the buffer before and after it, returned this result and led from the first state to the last.
+    /// Relates the state before one read, the buffer before and after it, its result, and the state after it.
     ghost reads: { Self → List ℕ → List ℕ → Result ℕ Error → Self → Type 0 };
 
-    /// One write of these bytes returned this result and led from the first state to the last.
+    /// Relates the state before one write, the bytes to write, its result, and the state after it.
     ghost writes: { Self → List ℕ → Result ℕ Error → Self → Type 0 };
 
-    /// One flush returned this result and led from the first state to the last.
+    /// Relates the state before one flush, its result, and the state after it.
     ghost flushes: { Self → Result ⊤ Error → Self → Type 0 };
 
     /// Calls `read`, which leaves the bytes written unchanged.

@@ -38,7 +38,7 @@ impl<G: Grammar> Model for Text<G> {
 }
 
 impl<G: Grammar> Text<G> {
-    /// Makes the value of this text. Allocates only if the text is in the grammar.
+    /// Checks the text against the grammar and copies it. Allocates only if the text is in the grammar.
     ///
     /// # Errors
     ///

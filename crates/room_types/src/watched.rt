@@ -14,7 +14,8 @@ use std::io::{Read, Result, Write};
 
 /// A monitored reader or writer. It records whether a call failed, how many reads and flushes were made, how many bytes it
 /// took, whether it took any since a flush last succeeded, whether a read found the end, and whether a call was wasted.
-/// Each call passes the whole buffer to the device once and returns what the device returned. It does not allocate.
+/// Each call passes the whole buffer to the device once and returns what the device returned. The monitoring does not
+/// allocate.
 #[derive(Drop)]
 pub struct Watched<T> {
     inner: T,
@@ -28,7 +29,7 @@ pub struct Watched<T> {
 }
 
 impl<T> Watched<T> {
-    /// Wraps a reader or writer: nothing has failed, and nothing was read, written or flushed.
+    /// Wraps a reader or writer. All counts start at 0 and all flags at false.
     pub fn new(inner: T) -> Self
         ensures inner { watched_inner result ≡ inner }
         ensures failed { watched_failed result ≡ false }
@@ -58,21 +59,21 @@ impl<T> Watched<T> {
         self.failed
     }
 
-    /// Returns the number of reads by `read` and `read_some`. It saturates.
+    /// Returns the number of reads by `read` and `read_some`, saturating at `u64::MAX`.
     pub fn reads(&self) -> u64
         ensures { result ≡ watched_reads self.now }
     {
         self.reads
     }
 
-    /// Returns the number of bytes taken. It saturates.
+    /// Returns the number of bytes taken, saturating at `u64::MAX`.
     pub fn taken(&self) -> u64
         ensures { result ≡ watched_taken self.now }
     {
         self.taken
     }
 
-    /// Returns the number of flushes by `flush` and `flush_all`. It saturates.
+    /// Returns the number of flushes by `flush` and `flush_all`, saturating at `u64::MAX`.
     pub fn flushes(&self) -> u64
         ensures { result ≡ watched_flushes self.now }
     {

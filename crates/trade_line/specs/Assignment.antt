@@ -4,20 +4,20 @@ use Rattle.std.specs.Prelude.{◌≡◌, ℕ, ◌<◌, ◌≤◌, Option, Some, 
 use Rattle.trade_line.specs.Market.{Market, floor}
 use Rattle.trade_line.specs.Rank.{rank}
 
--- rooms of the market, none of them given twice
+-- each person gets a room of the market or nothing, and no two people get the same room
 pub record IsAssignment (m : Market) (f : ℕ → Option ℕ) : Type 0 where
   pub known : (p r : ℕ) → p < m.people → f p ≡ Some r → r < m.rooms
   pub differ : (p q r : ℕ) → p < m.people → q < m.people → f p ≡ Some r → f q ≡ Some r → p ≡ q
 
--- the room of p in a list of what each person gets
+-- what p gets, where `rooms` has what each person gets
 abbrev pub given_in : List (Option ℕ) → ℕ → Option ℕ
 given_in rooms p = slice_index_or rooms p None
 
--- nobody ranks what they get below the floor
+-- nobody ranks what they get below their own floor
 abbrev pub IsIndividuallyRational : Market → (ℕ → Option ℕ) → Type 0
 IsIndividuallyRational m f = (p : ℕ) → p < m.people → rank m p (f p) ≤ rank m p (floor m p)
 
--- each assignment at which nobody is worse off is the same assignment
+-- each assignment at which nobody is worse off than at f gives everybody what f gives
 abbrev pub IsEfficient : Market → (ℕ → Option ℕ) → Type 0
 IsEfficient m f =
     (a : ℕ → Option ℕ) → IsAssignment m a

@@ -9,7 +9,7 @@ abbrev pub some_below : ℕ → (ℕ → Bool) → Bool
 some_below zero p = false
 some_below (suc n) p = some_below n p || p n
 
--- the first value, or else the second
+-- the first option if it has a value, or else the second option
 abbrev pub or_else : {X : Type 0} → Option X → Option X → Option X
 or_else None y = y
 or_else (Some x) y = Some x

@@ -1,6 +1,7 @@
--- The strict core among tenants: no group of them gains by trading their own homes apart from all others
--- (Shapley and Scarf 1974). If no room is vacant, it is one assignment (Roth and Postlewaite 1977, where
--- everybody is a tenant; here there may be newcomers too).
+-- The strict core among tenants: the assignments at which no group of tenants, by trading their own homes among
+-- themselves, can make one of them better off and none of them worse off (Shapley and Scarf 1974). If no room is
+-- vacant, exactly one assignment is in the strict core (Roth and Postlewaite 1977, where everybody is a tenant; here
+-- there may be newcomers too).
 use Rattle.std.specs.Prelude.{◌≡◌, ℕ, ◌<◌, ◌≤◌, Bool, true, Option, Some}
 use Rattle.trade_line.specs.Market.{Market, home}
 use Rattle.trade_line.specs.Rank.{rank}
@@ -12,7 +13,7 @@ abbrev pub HasNoVacantRoom : Market → Type 0
 HasNoVacantRoom m =
     (r : ℕ) → r < m.rooms → (t : ℕ) × (t < m.people) × (home m t ≡ Some r)
 
--- whenever a group trades apart and none of it loses, none of it gains
+-- if a group trades apart and nobody in it does worse than by f, then nobody in it does better
 abbrev pub IsInStrictCore : Market → (ℕ → Option ℕ) → Type 0
 IsInStrictCore m f =
     (group : ℕ → Bool) (a : ℕ → Option ℕ) → TradesApart m group a
@@ -27,14 +28,14 @@ pub record IsUniqueInStrictCore (m : Market) (g : ℕ → Option ℕ) : Type 0 w
       (f : ℕ → Option ℕ) → IsAssignment m f → IsInStrictCore m f
       → (p : ℕ) → p < m.people → f p ≡ g p
 
--- tenants who get one another's homes by g, and rank no room outside the group above what they get
+-- tenants who get one another's homes by g, and rank only homes of the group above what they get
 pub record IsSelfContained (m : Market) (g : ℕ → Option ℕ) (group : ℕ → Bool) : Type 0 where
   pub apart : TradesApart m group g
   pub above :
       (p r : ℕ) → group p ≡ true → rank m p (Some r) < rank m p (g p)
       → (q : ℕ) × (group q ≡ true) × (home m q ≡ Some r)
 
--- each assignment in the strict core gives such a group what g gives it
+-- each assignment in the strict core gives each self-contained group what g gives it
 abbrev pub KeepsSelfContained : Market → (ℕ → Option ℕ) → Type 0
 KeepsSelfContained m g =
     (group : ℕ → Bool) → IsSelfContained m g group

@@ -1,5 +1,4 @@
--- Cycles of a stage: how they stay as they are while others leave, and when people who wish for one another's
--- homes are a cycle.
+-- Cycles of a stage: what stays the same for a cycle when other cycles leave, and which people form whole cycles.
 use Rattle.std.specs.Prelude.{◌≡◌, ℕ, ◌<◌, Bool, true, false, List, [], ◌∷◌, Some}
 use Rattle.trade_line.specs.Market.{Market, home, tenant}
 use Rattle.trade_line.specs.Member.{among}
@@ -31,26 +30,25 @@ pub record LeavesOtherCycles (m : Market) (s : Stage) (group : ℕ → Bool) : T
 abbrev pub WishesForHomeOf : Market → Stage → ℕ → ℕ → Type 0
 WishesForHomeOf m s p q = (h : ℕ) × (home m q ≡ Some h) × (wish m s p ≡ Some h)
 
--- p wishes for the home of the first of the others, each of them for that of the next, and the last
--- for the room; with no others, p for the room
+-- p wishes for the home of the first of the others, each of the others wishes for the home of the next, and the last of
+-- them wishes for the room; if there are no others, p wishes for the room
 abbrev pub WishOnTo : Market → Stage → ℕ → List ℕ → ℕ → Type 0
 WishOnTo m s p [] room = wish m s p ≡ Some room
 WishOnTo m s p (x ∷ xs) room = WishesForHomeOf m s p x × WishOnTo m s x xs room
 
--- all of them remain
+-- everybody in the list remains
 abbrev pub AllRemain : Stage → List ℕ → Type 0
 AllRemain s people = (p : ℕ) → among people p ≡ true → s.people p ≡ true
 
--- people who remain, each of whom wishes for the home of the next, and the last for that of the
--- first
+-- p and the others remain; each of them wishes for the home of the next, and the last wishes for the home of p
 pub record IsLoop (m : Market) (s : Stage) (p : ℕ) (others : List ℕ) : Type 0 where
   pub room : ℕ
   pub lives : home m p ≡ Some room
   pub remain : AllRemain s (p ∷ others)
   pub wishes : WishOnTo m s p others room
 
--- people who remain, each of whom wishes for the home of the next, and the last for a room whose tenant, if
--- any, does not remain; the first of them is the first of all who remain
+-- p and the others remain, and p is the first of all who remain; each of them wishes for the home of the next, and the
+-- last wishes for a room whose tenant, if any, does not remain
 pub record IsChain (m : Market) (s : Stage) (p : ℕ) (others : List ℕ) : Type 0 where
   pub room : ℕ
   pub free : (t : ℕ) → tenant m room ≡ Some t → s.people t ≡ false

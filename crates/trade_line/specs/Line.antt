@@ -6,12 +6,12 @@ abbrev pub front_of : List ℕ → Option ℕ
 front_of [] = None
 front_of (x ∷ xs) = Some x
 
--- the others
+-- the line without its first person
 abbrev pub tail_of : List ℕ → List ℕ
 tail_of [] = []
 tail_of (x ∷ xs) = xs
 
--- whether nobody is left
+-- whether the line is empty
 abbrev pub is_empty : List ℕ → Bool
 is_empty [] = true
 is_empty (x ∷ xs) = false

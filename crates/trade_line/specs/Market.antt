@@ -14,7 +14,7 @@ pub record Market : Type 0 where
 abbrev pub home : Market → ℕ → Option ℕ
 home m p = slice_index_or m.homes p None
 
--- the floor of p: the own home, or nothing
+-- the floor of p: the home of p, or nothing for a newcomer
 abbrev pub floor : Market → ℕ → Option ℕ
 floor m p = home m p
 
@@ -22,7 +22,7 @@ floor m p = home m p
 abbrev pub list_of : Market → ℕ → List ℕ
 list_of m p = slice_index_or m.lists p []
 
--- whether it is room r
+-- whether the option is room r
 abbrev pub is_room : ℕ → Option ℕ → Bool
 is_room r None = false
 is_room r (Some x) = x == r

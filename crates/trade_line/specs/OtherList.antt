@@ -1,5 +1,5 @@
--- The market with other lists, and that no one person gains by another list (strategyproofness: Roth 1982;
--- Abdulkadiroglu and Sönmez 1999).
+-- Markets with other lists, and strategy-proofness: nobody gains by handing in another list (Roth 1982; Abdulkadiroglu
+-- and Sönmez 1999).
 use Rattle.std.specs.Prelude.{◌≡◌, ◌≢◌, ℕ, ◌<◌, ◌≤◌, List, Some, All, AllPairs, slice_set}
 use Rattle.trade_line.specs.Market.{Market, IsMarket, home}
 use Rattle.trade_line.specs.Rank.{rank}
@@ -12,7 +12,7 @@ abbrev pub with_lists : Market → List (List ℕ) → Market
 with_lists m lists =
     record { people = m.people; rooms = m.rooms; homes = m.homes; lists = lists }
 
--- the market with another list of p
+-- the market in which p hands in the list l
 abbrev pub with_list : Market → ℕ → List ℕ → Market
 with_list m p l = with_lists m (slice_set m.lists p l)
 
@@ -28,8 +28,8 @@ LacksOwn m p l = (r : ℕ) → home m p ≡ Some r → All (λ x. x ≢ r) l
 abbrev pub IsListFor : Market → ℕ → List ℕ → Type 0
 IsListFor m p l = IsListIndexed m p l × AllPairs ◌≢◌ l × LacksOwn m p l
 
--- the fault is the first rule that the person or the list breaks; if no index is at fault, the fault may be
--- out of memory instead
+-- the fault is for the first rule that the person or the list breaks; if the person and the rooms are in range, the
+-- fault may be out of memory instead, even if no rule is broken
 abbrev pub IsFirstListFault : Market → ℕ → List ℕ → TradeFault → Type 0
 IsFirstListFault m p l BadIndex = ¬ IsListIndexed m p l
 IsFirstListFault m p l HomeShared = ⊥
@@ -38,7 +38,7 @@ IsFirstListFault m p l OwnRoomListed =
     IsListIndexed m p l × AllPairs ◌≢◌ l × ¬ LacksOwn m p l
 IsFirstListFault m p l OutOfMemory = IsListIndexed m p l
 
--- by handing in another list, nobody gets a room that their own list ranks above the one that it gets them
+-- nobody gets, with another list, what their own list ranks above what they get with their own list
 abbrev pub IsStrategyproof : Market → Type 0
 IsStrategyproof m =
     (p : ℕ) (l : List ℕ) → p < m.people → IsMarket (with_list m p l)

@@ -9,8 +9,8 @@ use Rattle.trade_line.specs.declared.fault.TradeFault.TheVariants.{BadIndex, Hom
 abbrev pub market_of : ℕ → ℕ → List (Option ℕ) → List (Vec ℕ Global) → Market
 market_of people rooms homes lists = record { people = people; rooms = rooms; homes = homes; lists = map (λ list. list.items) lists }
 
--- the fault is the first rule that the market breaks; if no index is at fault, the fault may be out of memory
--- instead
+-- the fault is for the first rule that the market breaks; if the market is indexed, the fault may be out of memory
+-- instead, even if no rule is broken
 abbrev pub IsFirstFault : Market → TradeFault → Type 0
 IsFirstFault m BadIndex = ¬ IsIndexed m
 IsFirstFault m HomeShared = IsIndexed m × ¬ HomesDiffer m

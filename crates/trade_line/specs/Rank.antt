@@ -3,12 +3,13 @@ use Rattle.std.specs.Prelude.{ℕ, suc, ◌+◌, cond, Option, Some, None, List,
 use Rattle.trade_line.specs.Market.{Market, home, list_of, is_room}
 use Rattle.trade_line.specs.Member.{among}
 
--- the place of x in the list, from 0, and the list's length if x is not in it
+-- the place of x in the list, counted from 0, or the list's length if x is not in it
 abbrev pub place : ℕ → List ℕ → ℕ
 place x [] = 0
 place x (y ∷ ys) = cond (y == x) 0 (suc (place x ys))
 
--- how p ranks a room or nothing: the place on the list, then the floor, then all else
+-- how p ranks a room or nothing, the best at 0: the listed rooms by their place on the list, then the floor, then all
+-- else, of equal rank
 abbrev pub rank : Market → ℕ → Option ℕ → ℕ
 rank m p None = cond (is_none (home m p)) (length (list_of m p)) (length (list_of m p) + 1)
 rank m p (Some x) = cond (among (list_of m p) x) (place x (list_of m p)) (cond (is_room x (home m p)) (length (list_of m p)) (length (list_of m p) + 1))

@@ -1,5 +1,5 @@
--- Top trading cycles in simultaneous steps (Shapley and Scarf 1974, who name David Gale; with vacant rooms
--- and newcomers Abdulkadiroglu and Sönmez 1999).
+-- Top trading cycles in simultaneous steps (Shapley and Scarf 1974, who credit David Gale; Abdulkadiroglu and Sönmez
+-- 1999, with vacant rooms and newcomers).
 use Rattle.std.specs.List.{range_with_len}
 use Rattle.std.specs.Option.{unwrap_or}
 use Rattle.std.specs.Prelude.{ℕ, suc, Bool, cond, Option, Some, None, List, ◌==◌, not, zero, ◌&&◌, nat_lt, find, map}
@@ -24,7 +24,7 @@ wish m s p = or_else (find s.rooms (list_of m p)) (floor m p)
 unfoldable pub first : Market → Stage → ℕ
 first m s = unwrap_or (first_below m.people s.people) 0
 
--- the tenant if the tenant remains, or else the first remaining person
+-- the tenant, if there is one and the tenant remains, or else the first remaining person
 abbrev pub tenant_or_first : Market → Stage → Option ℕ → ℕ
 tenant_or_first m s None = first m s
 tenant_or_first m s (Some t) = cond (s.people t) t (first m s)
@@ -45,7 +45,7 @@ successor m s p = target m s p (wish m s p)
 abbrev pub remaining_count : Market → Stage → ℕ
 remaining_count m s = count_below m.people s.people
 
--- p remains, and is reached from p by 1 to `remaining_count` successors
+-- p remains, and 1 to `remaining_count` steps from a person to their successor lead from p back to p
 unfoldable pub is_on_cycle : Market → Stage → ℕ → Bool
 is_on_cycle m s p = s.people p
     && some_below (remaining_count m s) (λ k. iterate (successor m s) (suc k) p == p)

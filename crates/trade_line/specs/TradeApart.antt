@@ -11,7 +11,8 @@ pub record TradesApart (m : Market) (group : ℕ → Bool) (a : ℕ → Option �
   pub own : (p : ℕ) → group p ≡ true → (q : ℕ) × (group q ≡ true) × (a p ≡ home m q)
   pub differ : (p q : ℕ) → group p ≡ true → group q ≡ true → a p ≡ a q → p ≡ q
 
--- no such group does better: if none of it is worse off, all get the same
+-- no group has a better trade apart: if a group trades apart and nobody in it is worse off, everybody in it gets what f
+-- gives
 abbrev pub HasNoBetterTradeApart : Market → (ℕ → Option ℕ) → Type 0
 HasNoBetterTradeApart m f =
     (group : ℕ → Bool) (a : ℕ → Option ℕ) → TradesApart m group a

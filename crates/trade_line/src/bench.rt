@@ -9,7 +9,7 @@ use crate::progress::Progress;
 use std::alloc::Global;
 use std::marker::Model;
 
-/// All the memory that a run needs, for a given number of people and of rooms.
+/// All the memory that a run needs besides the line, for a given number of people and a given number of rooms.
 #[derive(Drop)]
 pub struct Bench {
     asked: Vec<bool>,

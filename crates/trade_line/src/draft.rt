@@ -43,8 +43,8 @@ fn are_lists_known(lists: &[Vec<usize>], room_count: usize) -> bool
     lists.iter().all(|list| is_list_known(list, room_count))
 }
 
-// Returns whether the list has no room twice. `last` has the last person who listed each room; the entries of the rooms read
-// are set to `person`.
+// Returns whether the list has no room twice. For each room, `last` has the last person on whose list it was read; the
+// call sets the entries of the rooms that it reads to `person`.
 pub(crate) fn is_distinct(list: &[usize], person: usize, last: &mut [usize]) -> bool
     requires known { All (λ room. room < length last.old) list.now }
     requires unmarked { All (λ other. other ≢ person) last.old }
@@ -61,7 +61,7 @@ pub(crate) fn is_distinct(list: &[usize], person: usize, last: &mut [usize]) -> 
     true
 }
 
-// Returns whether the home, if any, is not on the list.
+// Returns whether the list lacks the home. Without a home, returns true.
 pub(crate) fn lacks(list: &[usize], home: Option<usize>) -> bool
     ensures { IsTrue result ↔ ((r : ℕ) → home ≡ Some r → All (λ room. room ≢ r) list.now) }
 {
@@ -83,7 +83,7 @@ impl Draft {
             && are_lists_known(&self.lists, self.room_count)
     }
 
-    // Returns the tenant of each room, or the fault that two people have the same home.
+    // Returns the tenant of each room, or `HomeShared` if two people have the same home.
     pub(crate) fn tenants(&self, alloc: Global) -> Result<Vec<Option<usize>>, TradeFault>
         requires { IsIndexed (drafted self.now) }
         ensures tenants { IfOk result (λ tenants. IsTenants (drafted self.now) tenants.items) }

@@ -6,7 +6,7 @@ use crate::out_of_memory::OutOfMemory;
 use std::alloc::Global;
 use std::marker::Model;
 
-// Lists, one after the other in one vector, so that no list has a pointer of its own to follow.
+// Lists, stored one after the other in one vector, so that a read of a list does not follow a pointer of that list.
 #[derive(Drop)]
 pub(crate) struct FlatLists {
     entries: Vec<usize>,

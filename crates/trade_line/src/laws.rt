@@ -9,33 +9,36 @@ ghost use Rattle.trade_line.specs.OtherList.{IsStrategyproof};
 ghost use Rattle.trade_line.specs.Removals.{IsGivenByRemovals};
 ghost use Rattle.trade_line.specs.TopTradingCycles.{Stage, gets, start};
 
-/// Strategy-proofness: while all others keep their lists, no other list gets a person a room that their own list ranks above
-/// the room that it gets them (Roth 1982; Abdulkadiroglu and Sönmez 1999).
+/// Strategy-proofness: if one person hands in another list and all others keep theirs, the person's own list does not
+/// rank what they get with the other list above what they get with their own (Roth 1982; Abdulkadiroglu and Sönmez
+/// 1999).
 pub fn strategyproof()
     ensures { (m : Market) → IsMarket m → IsStrategyproof m }
 {}
 
-/// Group strategy-proofness: if a group hands in other lists together while all others keep theirs, then somebody in the
-/// group gets what their own list ranks below what they get with the recorded lists, or everybody, in the group or not, gets
-/// the same (Bird 1984; Pápai 2000).
+/// Group strategy-proofness: suppose that a group hands in other lists together and all others keep theirs. If nobody
+/// in the group gets what their own list ranks below what they get with the recorded lists, then everybody, in the
+/// group or not, gets the same as with the recorded lists (Bird 1984; Pápai 2000).
 pub fn group_strategyproof()
     ensures { (m : Market) → IsMarket m → IsGroupStrategyproof m }
 {}
 
-/// Nonbossiness: if a person gets the same with another list, then so does everybody else (Satterthwaite and Sonnenschein
-/// 1981; Pápai 2000).
+/// Nonbossiness: if a person hands in another list and still gets the same, then everybody else gets the same too
+/// (Satterthwaite and Sonnenschein 1981; Pápai 2000).
 pub fn nonbossy()
     ensures { (m : Market) → IsMarket m → IsNonbossy m }
 {}
 
-/// If somebody lives in each room, top trading cycles give the only assignment in the strict core. At such an assignment no
-/// group of tenants can trade their own homes so that none of them loses and one of them gains (Roth and Postlewaite 1977).
+/// If somebody lives in each room, top trading cycles give the only assignment in the strict core (Roth and Postlewaite
+/// 1977). An assignment is in the strict core if no group of tenants can trade their own homes among themselves so that
+/// none of them loses and one of them gains.
 pub fn unique_strict_core()
     ensures { (m : Market) → IsMarket m → HasNoVacantRoom m → IsUniqueInStrictCore m (gets m) }
 {}
 
-/// In any market, if a group of tenants get one another's homes by top trading cycles, and rank no room outside the group
-/// above what they get, then each assignment in the strict core gives them the same.
+/// In any market, take a group of tenants who get one another's homes by top trading cycles, and who rank only homes of
+/// the group above what they get. Each assignment in the strict core gives each of them what top trading cycles give
+/// them.
 pub fn self_contained_groups()
     ensures { (m : Market) → IsMarket m → KeepsSelfContained m (gets m) }
 {}
@@ -60,16 +63,17 @@ pub fn any_removal_order()
     ensures given { (m : Market) → IsGivenByRemovals m (gets m) (start m) }
 {}
 
-/// People who remain at a stage are whole cycles of it if each of them wishes for the home of the next, and the last for the
-/// home of the first.
+/// Take a list of people who remain at a stage. If each wishes for the home of the next, and the last for the home of
+/// the first, they form whole cycles of the stage.
 pub fn loops_are_cycles()
     ensures { (m : Market) → IsMarket m → (s : Stage) → IsStageOf m s
         → (person : ℕ) (others : List ℕ) → IsLoop m s person others
         → AreCycles m s (among (person ∷ others)) }
 {}
 
-/// People who remain at a stage are whole cycles of it if each of them wishes for the home of the next, the last for a room
-/// without a remaining tenant, and the first of them is the first of all who remain.
+/// Take a list of people who remain at a stage. Suppose that each wishes for the home of the next, and the last for a
+/// room without a remaining tenant. If the first of them is also first in priority of all who remain, they form whole
+/// cycles of the stage.
 pub fn chains_are_cycles()
     ensures { (m : Market) → IsMarket m → (s : Stage) → IsStageOf m s
         → (person : ℕ) (others : List ℕ) → IsChain m s person others

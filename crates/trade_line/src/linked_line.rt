@@ -11,8 +11,8 @@ use std::marker::Model;
 /// memory linear in `count`; all other calls take constant time and do not allocate.
 #[derive(Drop)]
 pub struct LinkedLine {
-    // The number after those of all people is a sentinel: it follows the last person and precedes the first, so the ends of
-    // the line are no special cases. Both vectors have one more entry, for the sentinel.
+    // The number of people, `waits.len()`, is a sentinel: it follows the last person and precedes the first, so the
+    // ends of the line are no special cases. `next` and `previous` have one more entry than `waits`, for the sentinel.
     next: Vec<usize>,
     previous: Vec<usize>,
     waits: Vec<bool>,
@@ -31,7 +31,7 @@ impl Line for LinkedLine {
     ghost people = { λ line. line };
 
     fn whole(alloc: Global, count: usize) -> Result<Self, OutOfMemory> {
-        // This comes first: if this allocation succeeds, `count + 1` is in range.
+        // This allocation comes first: if it succeeds, `count + 1` is in range.
         let waits = vec![in alloc; true; count]?;
         let mut next = Vec::with_capacity(alloc, waits.len() + 1)?;
         let mut previous = Vec::with_capacity(alloc, waits.len() + 1)?;

@@ -27,7 +27,7 @@ impl Outcome {
         Outcome { given, asks, looks }
     }
 
-    /// Returns the room of a person. `None` is no room, or a number that is not a person's.
+    /// Returns the room of a person, or `None` if the person gets no room or no person has this number.
     pub fn room_of(&self, person: usize) -> Option<usize>
         ensures { result ≡ slice_index_or self.now.rooms person None }
     {
@@ -38,16 +38,17 @@ impl Outcome {
         }
     }
 
-    /// Returns the number of asks, that is, of turns of the person at the front.
+    /// Returns the number of asks. Each turn of the person at the front is one ask.
     pub fn asks(&self) -> u128
         ensures { result ≡ self.now.asks }
     {
         self.asks
     }
 
-    /// Returns the number of looks, that is, of list entries that the asks read. An ask reads from the entry that the person
-    /// asked for last, included, or else from the start of the list, up to the entry that it asks for, included, or else to
-    /// the end of the list.
+    /// Returns the number of looks, that is, of list entries that the asks read. A person's first ask starts at the
+    /// first entry of their list, and each later ask starts at the entry that the person asked for last. An ask reads
+    /// up to the entry that it asks for, or up to the end of the list if no room on it remains. Each entry
+    /// that an ask reads, the first and the last included, counts once in that ask.
     pub fn looks(&self) -> u128
         ensures { result ≡ self.now.looks }
     {

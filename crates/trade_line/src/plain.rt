@@ -70,7 +70,7 @@ fn count(problem: &Problem, stage: &Remaining) -> usize
     count
 }
 
-// Returns whether the person remains and is on a cycle: whether the wishes lead from the person back to the person.
+// Returns whether the person remains and is on a cycle, that is, whether the wishes lead from the person back to them.
 fn is_on_cycle(problem: &Problem, stage: &Remaining, person: usize) -> bool
     requires marks { AreMarks problem.now stage.now }
     requires person { person < problem.now.people }
@@ -89,7 +89,7 @@ fn is_on_cycle(problem: &Problem, stage: &Remaining, person: usize) -> bool
     false
 }
 
-// Takes one step: everybody on a cycle gets the wish and leaves, with the room.
+// Takes one step: everybody on a cycle gets what they wish for and leaves with it.
 fn step(
     alloc: Global,
     problem: &Problem,

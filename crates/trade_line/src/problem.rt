@@ -39,9 +39,9 @@ impl Problem {
     ///
     /// # Errors
     ///
-    /// The first fault in the order of `TradeFault`, each checked over all people. Only problems that are not well formed
-    /// have a fault. `OutOfMemory` may come in place of any fault but `BadIndex`, or of success: the call checks indices
-    /// before it allocates.
+    /// The first fault in the order of `TradeFault`: the call checks each rule for all people before it checks the
+    /// next. A well-formed problem breaks no rule, so the call refuses it only with `OutOfMemory`. `OutOfMemory` may
+    /// come in place of success or of any fault but `BadIndex`, because the call checks indices before it allocates.
     pub fn new(
         alloc: Global,
         order_len: usize,
@@ -114,7 +114,7 @@ impl Problem {
         self.tenants[room]
     }
 
-    // Checks that the person can hand in the list. Otherwise reports the first fault.
+    // Checks that the person can hand in the list, and returns the first fault if they cannot.
     fn check_list(&self, alloc: Global, person: usize, list: &[usize]) -> Result<(), TradeFault>
         ensures fits { OnOk result (IsListFor self.now person list.now) }
         ensures first_fault { IfErr result (IsFirstListFault self.now person list.now) }

@@ -11,7 +11,7 @@ pub(crate) struct Progress {
 }
 
 impl Progress {
-    // Gives the person the room, or nothing. The room no longer remains.
+    // Gives the person `room`, which may be no room. A room that is given no longer remains.
     pub(crate) fn grant(&mut self, person: usize, room: Option<usize>)
         requires person { person < vec_len self.old.given }
         requires room { IfSome room (λ r. r < vec_len self.old.remaining) }

@@ -44,7 +44,8 @@ fn close_loop<L: Line>(
     }
 }
 
-// Serves the person at the front, who asks for the room: grants it, brings its tenant to the front, or closes a loop.
+// Serves the person at the front, who asks for `room`. Grants the room, moves its tenant to the front, or closes a
+// loop.
 fn serve<L: Line>(
     problem: &Problem,
     person: usize,
@@ -76,8 +77,8 @@ fn serve<L: Line>(
     }
 }
 
-// Carries out one turn of the person at the front and returns the number of list entries that it reads. The person's cursor
-// moves to the entry that they ask for, or else to the end of the list.
+// Carries out one turn of `person`, who is at the front, and returns the number of list entries that the turn reads.
+// Moves the person's cursor to the entry that they ask for, or to the end of the list if no room on it remains.
 fn turn<L: Line>(
     problem: &Problem,
     person: usize,
@@ -109,21 +110,21 @@ fn turn<L: Line>(
     found.looks
 }
 
-/// Carries out the exchange by "you request my house, I get your turn" (Abdulkadiroglu and Sönmez 1999). The rooms are those
-/// of top trading cycles.
+/// Carries out the exchange by "you request my house, I get your turn" (Abdulkadiroglu and Sönmez 1999). Each person
+/// gets what top trading cycles give them.
 ///
-/// The person at the front of the line asks for the best remaining room on their list, or else takes the floor: their home,
-/// or no room. If the tenant of that room still waits and has not asked, that tenant first moves to the front. If the tenant
-/// waits and has asked, the people from the front up to the tenant are a loop and leave: the first gets the home of the last,
-/// and each other one gets the home of the person before them in the line. In all other cases the person gets the room, or
-/// the floor, and leaves.
+/// On each turn, the person at the front of the line asks for the best remaining room on their list. If no listed room
+/// remains, they take their floor: their home, or nothing for a newcomer. If the tenant of the room still waits and has
+/// not asked, the tenant moves to the front and asks first. If the tenant still waits and has asked, the people from
+/// the front up to the tenant form a loop and leave: the first gets the home of the last, and each other one gets the
+/// home of the person before them in the line. In all other cases the person gets the room, or the floor, and leaves.
 ///
-/// Each person has a cursor on their list, which never goes back: an ask reads on from there, skips the entries that are gone
-/// and stays at the entry that it asks for.
+/// Each person has a cursor on their list, which never moves back. An ask reads on from the cursor, skips the rooms
+/// that are gone, and leaves the cursor at the entry that the person asks for.
 ///
-/// The line must hold all people in priority order, and the bench must be made for as many people and rooms. A run does not
-/// allocate. Over a `LinkedLine` it takes time linear in its asks and looks; over a `VecLine` it takes time quadratic in
-/// people on top.
+/// `line` must hold all people in priority order, and `bench` must be made for the problem's numbers of people and
+/// rooms. A run does not allocate. Over a `LinkedLine`, a run takes time linear in its asks and looks. Over a
+/// `VecLine`, the calls of the line add time quadratic in the number of people.
 pub fn run<L: Line>(problem: &Problem, line: L, bench: Bench) -> Outcome
     requires line { L.people line ≡ range_with_len 0 problem.now.people }
     requires bench { bench ≡ size_of problem.now }
@@ -139,7 +140,7 @@ pub fn run<L: Line>(problem: &Problem, line: L, bench: Bench) -> Outcome
     ensures looks_least { all_needed problem.now (given_in result.rooms) ≤ result.looks }
     ensures looks_most { result.looks ≤ result.asks + all_listed problem.now }
 {
-    // For the proof: the contract of this call states that the problem is well formed.
+    // The proof needs this call: its contract states that the problem is well formed.
     let _people = problem.people();
     let mut line = line;
     let (progress, cursors) = bench.into_progress();

@@ -12,13 +12,14 @@ use crate::problem::Problem;
 use crate::trade::run;
 use std::alloc::Global;
 
-/// Returns the room that the person gets by handing in `list` instead of their own, while all others keep theirs; `None` is
-/// no room. By the person's own list, it never ranks above the room that they get with that list.
+/// Returns the room that the person gets if they hand in `list` instead of their own list and all others keep theirs,
+/// or `None` if the person gets no room. The person's own list does not rank the result above what they get with their
+/// own list.
 ///
 /// # Errors
 ///
-/// The first fault of the person or the list, in the order of `TradeFault`. `OutOfMemory` may come in place of any fault but
-/// `BadIndex`: the call checks indices before it allocates.
+/// The first fault of the person or the list, in the order of `TradeFault`. `OutOfMemory` may come in place of success
+/// or of any fault but `BadIndex`, because the call checks indices before it allocates.
 pub fn run_with_list(
     alloc: Global,
     problem: &Problem,

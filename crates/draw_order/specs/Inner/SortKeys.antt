@@ -1,4 +1,4 @@
--- The sort key of a ticket: grade and word come first, as they are compared.
+-- The sort key of a ticket. Its parts are in the order in which they are compared: grade, word, identifier.
 use Rattle.std.specs.Prelude.{ℕ}
 use Rattle.std.specs.Borrow.{Bor}
 use Rattle.room_types.specs.Texts.{Text}

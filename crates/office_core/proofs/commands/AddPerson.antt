@@ -12,17 +12,17 @@ use Rattle.office_state.specs.Office.Limits.{people_limit}
 use Rattle.office_state.specs.Office.{owner}
 use Rattle.office_state.specs.declared.office.person.Person.{Person}
 use Rattle.office_state.proofs.offices.People.{nobody_has}
-use Rattle.office_state.proofs.offices.Register.{offices-person_put, len-put_within}
+use Rattle.office_state.proofs.offices.Register.{person_put, len-put_within}
 use Rattle.office_state.proofs.round_phases.Untouched.{prepared, undrawn, words_undrawn}
 use Rattle.office_state.proofs.round_phases.Untouched.{results_undrawn, moves_stay}
-use Rattle.office_state.proofs.offices.Grades.{offices-graded_person}
-use Rattle.office_state.proofs.offices.Leavers.{offices-leaver_person}
-use Rattle.office_state.proofs.offices.ChoiceLists.{offices-person_known, offices-unknown_stays}
+use Rattle.office_state.proofs.offices.Grades.{graded_person}
+use Rattle.office_state.proofs.offices.Leavers.{leaver_person}
+use Rattle.office_state.proofs.offices.ChoiceLists.{person_known, unknown_stays}
 use Rattle.office_core.specs.Refusal.Checks.{first_refusal}
 use Rattle.office_core.proofs.refusals.Checks.{none_applies}
 use Rattle.office_core.specs.Command.AddPerson.{checks, next, changes_of}
 use Rattle.office_core.specs.declared.refusal.Refusal.TheVariants.{LimitReached}
-use Rattle.office_core.proofs.refusals.Checks.{refusals-may_have_home}
+use Rattle.office_core.proofs.refusals.Checks.{may_have_home}
 
 pub add_person-leads : (office : Office) (person name key : Text) (home : Option Text)
     → IsLawful office → first_refusal (checks office person name key home) ≡ None
@@ -30,22 +30,22 @@ pub add_person-leads : (office : Office) (person name key : Text) (home : Option
 add_person-leads office person name key home l h =
     let n = none_applies (checks office person name key home) h in
     let u = undrawn office l (prepared office.phase (not-false _ n.0)) in
-    let may = refusals-may_have_home office home
+    let may = may_have_home office home
     ((nat_le people_limit (map.len office.people), LimitReached) ∷ []) n.1.1.1 in
     let v : Person = record { name = name; key = key; home = home } in
     let new : Office = next office person name key home in
     let lawful : IsLawful new = record {
       kept = l.kept;
-      grades = offices-graded_person office.people office.grades l.grades person v;
-      leavers = offices-leaver_person office.phase office.people office.withdrawn office.going l.leavers
+      grades = graded_person office.people office.grades l.grades person v;
+      leavers = leaver_person office.phase office.people office.withdrawn office.going l.leavers
           person v;
-      register = offices-person_put office.rooms office.people l.register person v
+      register = person_put office.rooms office.people l.register person v
           (λ q e. absurd (nobody_has (λ p. Some p.key) office.people key
           (none_if_not_some (owner office key) n.1.1.0) q e))
           (λ q room e f. absurd (nobody_has (λ p. p.home) office.people room (may.0 room e).1 q f))
           (λ room e. (may.0 room e).0)
           (len-put_within office.people person v people_limit n.1.0 may.1.0);
-      lists = offices-person_known office.rooms office.people office.choices office.withdrawn l.lists person
+      lists = person_known office.rooms office.people office.choices office.withdrawn l.lists person
           v;
       round = l.round;
       words = words_undrawn office.phase new.people office.withdrawn office.going office.words u.has_no_words
@@ -59,7 +59,7 @@ add_person-leads office person name key home l h =
       fits = (
         (
           n.1.0,
-          offices-unknown_stays office.rooms office.people office.choices office.withdrawn l.lists
+          unknown_stays office.rooms office.people office.choices office.withdrawn l.lists
               person n.1.0,
         ),
         tt,

@@ -6,10 +6,10 @@ use Rattle.office_state.specs.Change.{LeadsTo}
 use Rattle.office_state.specs.Office.Invariants.{IsLawful}
 use Rattle.office_state.specs.declared.office.Office.{Office}
 use Rattle.office_state.specs.Office.Limits.{room_limit}
-use Rattle.office_state.proofs.offices.Register.{offices-room_put, len-put_within}
+use Rattle.office_state.proofs.offices.Register.{room_put, len-put_within}
 use Rattle.office_state.proofs.round_phases.Untouched.{prepared, undrawn, results_undrawn}
 use Rattle.office_state.proofs.round_phases.Untouched.{moves_stay}
-use Rattle.office_state.proofs.offices.ChoiceLists.{offices-room_known}
+use Rattle.office_state.proofs.offices.ChoiceLists.{room_known}
 use Rattle.office_core.specs.Refusal.Checks.{first_refusal}
 use Rattle.office_core.proofs.refusals.Checks.{none_applies}
 use Rattle.office_core.specs.Command.AddRoom.{checks, next, changes_of}
@@ -24,9 +24,9 @@ add_room-leads office room l h =
       kept = l.kept;
       grades = l.grades;
       leavers = l.leavers;
-      register = offices-room_put office.rooms office.people l.register room
+      register = room_put office.rooms office.people l.register room
           (len-put_within office.rooms room false room_limit n.1.0 n.1.1.0);
-      lists = offices-room_known office.rooms office.people office.choices office.withdrawn l.lists room
+      lists = room_known office.rooms office.people office.choices office.withdrawn l.lists room
           false;
       round = l.round;
       words = l.words;

@@ -4,7 +4,7 @@ use Rattle.office_state.specs.Empty.{is_empty}
 use Rattle.office_state.specs.declared.change.Change.{Change}
 
 -- a list of changes with this one in it is not empty
-pub commands_has_last : (changes others : List Change) (change : Change)
+pub has_last : (changes others : List Change) (change : Change)
     → is_empty (changes ++ change ∷ others) ≡ false
-commands_has_last [] others change = refl
-commands_has_last (first ∷ changes) others change = refl
+has_last [] others change = refl
+has_last (first ∷ changes) others change = refl

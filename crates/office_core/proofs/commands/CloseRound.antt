@@ -5,7 +5,7 @@ use Rattle.room_types.specs.declared.phase.Phase.TheVariants.{Closed}
 use Rattle.office_state.specs.Change.{LeadsTo}
 use Rattle.office_state.specs.Office.Invariants.{IsLawful}
 use Rattle.office_state.specs.declared.office.Office.{Office}
-use Rattle.office_state.proofs.offices.Leavers.{offices-leaver_phase}
+use Rattle.office_state.proofs.offices.Leavers.{leaver_phase}
 use Rattle.office_state.proofs.round_phases.Over.{over-under_way}
 use Rattle.office_state.proofs.round_phases.Untouched.{prepared, open_preparing, open_busy, undrawn}
 use Rattle.office_state.proofs.round_phases.Untouched.{words_undrawn, results_undrawn, moves_stay}
@@ -23,7 +23,7 @@ close_round-leads office l h =
     let lawful : IsLawful (next office) = record {
       kept = l.kept;
       grades = l.grades;
-      leavers = offices-leaver_phase office.phase office.people office.withdrawn office.going l.leavers
+      leavers = leaver_phase office.phase office.people office.withdrawn office.going l.leavers
           Closed refl;
       register = l.register;
       lists = l.lists;

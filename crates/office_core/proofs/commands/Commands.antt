@@ -22,7 +22,7 @@ use Rattle.office_core.proofs.commands.Leave.{leave-leads}
 use Rattle.office_core.proofs.commands.OpenRound.{open_round-leads}
 use Rattle.office_core.proofs.commands.Publish.{publish-leads}
 use Rattle.office_core.proofs.commands.Run.{run-leads}
-use Rattle.office_core.proofs.settlements.Settle.{settlements-settle-leads}
+use Rattle.office_core.proofs.settlements.Settle.{settle-leads}
 use Rattle.office_core.proofs.commands.Remove.{remove-leads}
 use Rattle.office_core.proofs.commands.Reopen.{reopen-leads}
 use Rattle.office_core.proofs.commands.SetChoices.{set_choices-leads}
@@ -49,7 +49,7 @@ accepted_command_leads office command.CloseRound f l h = close_round-leads offic
 accepted_command_leads office (command.Draw words) f l h = draw-leads office words l h
 accepted_command_leads office command.Run f l h = run-leads office l h
 accepted_command_leads office command.Publish f l h = publish-leads office l h
-accepted_command_leads office command.Settle f l h = settlements-settle-leads office l h
+accepted_command_leads office command.Settle f l h = settle-leads office l h
 accepted_command_leads office command.Cancel f l h = cancel-leads office l h
 accepted_command_leads office (command.Import label kind bytes) f l h =
     import-leads office label kind bytes l h

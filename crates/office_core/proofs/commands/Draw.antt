@@ -16,7 +16,7 @@ use Rattle.office_state.specs.Office.{participants, knows_person, sits_out}
 use Rattle.office_state.specs.declared.change.Change.{Change}
 use Rattle.office_state.specs.declared.change.Change.TheVariants.{PutRound}
 use Rattle.office_state.specs.declared.office.Office.{Office}
-use Rattle.office_state.proofs.offices.Leavers.{offices-leaver_phase}
+use Rattle.office_state.proofs.offices.Leavers.{leaver_phase}
 use Rattle.office_state.proofs.round_problems.People.{participants_ascend, participants_hold}
 use Rattle.office_state.proofs.round_phases.Over.{over-under_way}
 use Rattle.office_state.proofs.round_phases.Untouched.{closed_undrawn, closed_busy, undrawn}
@@ -42,7 +42,7 @@ draw-leads office words l h =
     let lawful : IsLawful new = record {
       kept = l.kept;
       grades = l.grades;
-      leavers = offices-leaver_phase office.phase office.people office.withdrawn office.going l.leavers
+      leavers = leaver_phase office.phase office.people office.withdrawn office.going l.leavers
           Drawn refl;
       register = l.register;
       lists = l.lists;

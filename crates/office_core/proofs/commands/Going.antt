@@ -10,7 +10,7 @@ use Rattle.office_state.specs.declared.office.Office.{Office}
 use Rattle.office_state.specs.declared.change.Change.TheVariants.{PutGoing}
 use Rattle.office_state.proofs.round_phases.Untouched.{prepared, open_preparing, open_busy, undrawn}
 use Rattle.office_state.proofs.round_phases.Untouched.{words_undrawn, results_undrawn, moves_stay}
-use Rattle.office_state.proofs.offices.Leavers.{offices-leaver_put}
+use Rattle.office_state.proofs.offices.Leavers.{leaver_put}
 use Rattle.office_core.specs.Refusal.Checks.{first_refusal}
 use Rattle.office_core.proofs.refusals.Checks.{none_applies}
 use Rattle.office_core.proofs.commands.Withdraw.{put_again}
@@ -50,7 +50,7 @@ going-leads office person l h =
       lists = l.lists;
       round = l.round;
       grades = l.grades;
-      leavers = offices-leaver_put office.phase office.people office.withdrawn office.going l.leavers person
+      leavers = leaver_put office.phase office.people office.withdrawn office.going l.leavers person
           busy known n.1.1.0;
       words = words_undrawn office.phase office.people office.withdrawn new.going office.words
           u.has_no_words u.no_words;

@@ -7,7 +7,7 @@ use Rattle.office_state.specs.Change.{LeadsTo}
 use Rattle.office_state.specs.Office.Invariants.{IsLawful}
 use Rattle.office_state.specs.declared.office.Office.{Office}
 use Rattle.office_state.specs.Office.Limits.{round_limit}
-use Rattle.office_state.proofs.offices.Leavers.{offices-leaver_phase}
+use Rattle.office_state.proofs.offices.Leavers.{leaver_phase}
 use Rattle.office_state.proofs.round_phases.Over.{over-begun}
 use Rattle.office_state.proofs.round_phases.Untouched.{prepared, idle_preparing, undrawn}
 use Rattle.office_state.proofs.round_phases.Untouched.{words_undrawn, results_undrawn, moves_stay}
@@ -25,7 +25,7 @@ open_round-leads office l h =
     let lawful : IsLawful (next office) = record {
       kept = l.kept;
       grades = l.grades;
-      leavers = offices-leaver_phase office.phase office.people office.withdrawn office.going l.leavers
+      leavers = leaver_phase office.phase office.people office.withdrawn office.going l.leavers
           Opened refl;
       register = l.register;
       lists = l.lists;

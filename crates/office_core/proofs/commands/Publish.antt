@@ -5,7 +5,7 @@ use Rattle.room_types.specs.declared.phase.Phase.TheVariants.{Published}
 use Rattle.office_state.specs.Change.{LeadsTo}
 use Rattle.office_state.specs.Office.Invariants.{IsLawful}
 use Rattle.office_state.specs.declared.office.Office.{Office}
-use Rattle.office_state.proofs.offices.Leavers.{offices-leaver_phase}
+use Rattle.office_state.proofs.offices.Leavers.{leaver_phase}
 use Rattle.office_state.proofs.round_phases.Over.{over-under_way}
 use Rattle.office_state.proofs.round_outcomes.Stays.{round_results-along}
 use Rattle.office_state.proofs.round_phases.Untouched.{ran_worded, ran_busy, ran_given, moves_stay}
@@ -22,7 +22,7 @@ publish-leads office l h =
     let lawful : IsLawful (next office) = record {
       kept = l.kept;
       grades = l.grades;
-      leavers = offices-leaver_phase office.phase office.people office.withdrawn office.going l.leavers
+      leavers = leaver_phase office.phase office.people office.withdrawn office.going l.leavers
           Published refl;
       register = l.register;
       lists = l.lists;

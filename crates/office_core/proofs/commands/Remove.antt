@@ -13,9 +13,9 @@ use Rattle.office_state.specs.declared.office.Office.{Office}
 use Rattle.office_state.specs.Office.Invariants.{AreValidLists}
 use Rattle.office_state.proofs.offices.Dropping.{person_dropped}
 use Rattle.office_state.proofs.offices.Empty.{no_lists}
-use Rattle.office_state.proofs.offices.Grades.{offices-grade_dropped}
-use Rattle.office_state.proofs.offices.Leavers.{offices-leaver_dropped}
-use Rattle.office_state.proofs.offices.Register.{offices-person_gone}
+use Rattle.office_state.proofs.offices.Grades.{grade_dropped}
+use Rattle.office_state.proofs.offices.Leavers.{leaver_dropped}
+use Rattle.office_state.proofs.offices.Register.{person_gone}
 use Rattle.office_state.proofs.round_phases.Untouched.{prepared, idle_preparing, undrawn}
 use Rattle.office_state.proofs.round_phases.Untouched.{words_undrawn, results_undrawn, moves_stay}
 use Rattle.office_core.specs.Refusal.Checks.{first_refusal}
@@ -39,10 +39,10 @@ remove-leads office person l h =
     ∙ ap is_some (get-empty text_cmp person) in
     let lawful : IsLawful new = record {
       kept = l.kept;
-      grades = offices-grade_dropped office.people office.grades l.grades person;
-      leavers = offices-leaver_dropped office.phase office.people office.withdrawn office.going l.leavers
+      grades = grade_dropped office.people office.grades l.grades person;
+      leavers = leaver_dropped office.phase office.people office.withdrawn office.going l.leavers
           person stays;
-      register = offices-person_gone office.rooms office.people l.register person;
+      register = person_gone office.rooms office.people l.register person;
       lists = subst (λ choices. AreValidLists office.rooms new.people choices office.withdrawn)
           (sym no_choices)
           (subst (λ withdrawn. AreValidLists office.rooms new.people map.empty withdrawn) (sym nobody)

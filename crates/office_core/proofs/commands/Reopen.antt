@@ -9,11 +9,11 @@ use Rattle.office_state.specs.Office.Limits.{room_limit}
 use Rattle.office_core.specs.Refusal.Checks.{first_refusal}
 use Rattle.office_core.proofs.refusals.Checks.{none_applies}
 use Rattle.office_core.specs.Command.Reopen.{checks, next, changes_of}
-use Rattle.room_types.proofs.maps.TextMaps.{maps-len-put_known}
-use Rattle.office_state.proofs.offices.Register.{offices-room_put}
+use Rattle.room_types.proofs.maps.TextMaps.{len-put_known}
+use Rattle.office_state.proofs.offices.Register.{room_put}
 use Rattle.office_state.proofs.round_phases.Untouched.{prepared, undrawn, results_undrawn}
 use Rattle.office_state.proofs.round_phases.Untouched.{moves_stay}
-use Rattle.office_state.proofs.offices.ChoiceLists.{offices-room_known}
+use Rattle.office_state.proofs.offices.ChoiceLists.{room_known}
 
 pub reopen-leads : (office : Office) (room : Text) → IsLawful office
     → first_refusal (checks office room) ≡ None
@@ -25,10 +25,10 @@ reopen-leads office room l h =
       kept = l.kept;
       grades = l.grades;
       leavers = l.leavers;
-      register = offices-room_put office.rooms office.people l.register room
+      register = room_put office.rooms office.people l.register room
           (subst (λ k. k ≤ room_limit) (sym
-          (maps-len-put_known office.rooms room false (not-false _ n.1.0))) l.register.few_rooms);
-      lists = offices-room_known office.rooms office.people office.choices office.withdrawn l.lists room
+          (len-put_known office.rooms room false (not-false _ n.1.0))) l.register.few_rooms);
+      lists = room_known office.rooms office.people office.choices office.withdrawn l.lists room
           false;
       round = l.round;
       words = l.words;

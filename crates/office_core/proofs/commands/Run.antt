@@ -9,9 +9,9 @@ use Rattle.std.specs.Ordering.{eq_by_cmp, is_eq}
 use Rattle.std.specs.FinMap as map
 use Rattle.std.specs.FinMap.{entries_sorted, find, get-empty, get-entries, is_sorted}
 use Rattle.std.specs.FinMap.Entries.{below_all}
-use Rattle.room_types.proofs.maps.TextMaps.{first_holds, maps-get-put_other, second_holds, text_cases}
+use Rattle.room_types.proofs.maps.TextMaps.{first_holds, get-put_other, second_holds, text_cases}
 use Rattle.room_types.specs.Texts.{Text, text_cmp}
-use Rattle.room_types.proofs.maps.Entries.{maps-none_below}
+use Rattle.room_types.proofs.maps.Entries.{none_below}
 use Rattle.room_types.specs.declared.phase.Phase.TheVariants.{Ran}
 use Rattle.office_state.specs.Change.{applied_all, LeadsTo, HomesStayDistinct, AllFit}
 use Rattle.office_state.specs.Office.Invariants.{IsLawful, HomesDiffer}
@@ -22,7 +22,7 @@ use Rattle.office_state.specs.declared.change.Change.{Change}
 use Rattle.office_state.specs.declared.change.Change.TheVariants.{PutRound}
 use Rattle.office_state.specs.declared.office.Assigned.{Assigned}
 use Rattle.office_state.specs.declared.office.Office.{Office}
-use Rattle.office_state.proofs.offices.Leavers.{offices-leaver_phase}
+use Rattle.office_state.proofs.offices.Leavers.{leaver_phase}
 use Rattle.office_state.proofs.round_phases.Over.{over-under_way}
 use Rattle.office_state.proofs.round_problems.Puts.{with_all-entries}
 use Rattle.office_state.proofs.round_outcomes.Results.{contains_key-round_results}
@@ -63,7 +63,7 @@ found_below p es below q found =
       | inl same ↦
           let no : true ≡ false = sym found
           ∙ ap (λ k. is_some (find text_cmp k es)) same
-          ∙ ap is_some (maps-none_below text_cmp p es below) in
+          ∙ ap is_some (none_below text_cmp p es below) in
           absurd (cc)
       | inr other ↦ other
     ]
@@ -83,7 +83,7 @@ results-fit first office (e ∷ es) rest sorted new s = (
       (second_holds _ _ sorted)
       (λ q h. let there = new q (found_later (eq_by_cmp text_cmp q e.0) e.1 (find text_cmp q es) h) in (
         there.0,
-        ap is_some (maps-get-put_other office.results e.0 e.1 q
+        ap is_some (get-put_other office.results e.0 e.1 q
             (found_below e.0 es (first_holds _ _ sorted) q h)) ∙ there.1,
       )) s,
 )
@@ -100,7 +100,7 @@ run-leads office l h =
     let lawful : IsLawful new = record {
       kept = l.kept;
       grades = l.grades;
-      leavers = offices-leaver_phase office.phase office.people office.withdrawn office.going l.leavers
+      leavers = leaver_phase office.phase office.people office.withdrawn office.going l.leavers
           Ran refl;
       register = l.register;
       lists = l.lists;

@@ -8,7 +8,7 @@ use Rattle.office_state.specs.Office.Invariants.{IsLawful}
 use Rattle.office_state.specs.declared.office.Office.{Office}
 use Rattle.office_state.proofs.round_phases.Untouched.{prepared, open_preparing, open_busy, undrawn}
 use Rattle.office_state.proofs.round_phases.Untouched.{results_undrawn, moves_stay}
-use Rattle.office_state.proofs.offices.ChoiceLists.{offices-list_put}
+use Rattle.office_state.proofs.offices.ChoiceLists.{list_put}
 use Rattle.office_core.specs.Refusal.Checks.{first_refusal}
 use Rattle.office_core.proofs.refusals.Checks.{none_applies}
 use Rattle.office_core.specs.Command.SetChoices.{checks, next, changes_of}
@@ -28,7 +28,7 @@ set_choices-leads office person choices formed l h =
       grades = l.grades;
       leavers = l.leavers;
       register = l.register;
-      lists = offices-list_put office.rooms office.people office.choices office.withdrawn l.lists person
+      lists = list_put office.rooms office.people office.choices office.withdrawn l.lists person
           choices (not-false _ n.1.0) (known_all office choices n.1.1.1.1) formed;
       round = record {
         few_rounds = l.round.few_rounds;

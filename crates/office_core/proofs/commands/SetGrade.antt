@@ -7,7 +7,7 @@ use Rattle.office_state.specs.Office.Invariants.{IsLawful}
 use Rattle.office_state.specs.declared.office.Office.{Office}
 use Rattle.office_state.proofs.round_phases.Untouched.{prepared, undrawn}
 use Rattle.office_state.proofs.round_phases.Untouched.{results_undrawn, moves_stay}
-use Rattle.office_state.proofs.offices.Grades.{offices-grade_put}
+use Rattle.office_state.proofs.offices.Grades.{grade_put}
 use Rattle.office_core.specs.Refusal.Checks.{first_refusal}
 use Rattle.office_core.proofs.refusals.Checks.{none_applies}
 use Rattle.office_core.specs.Command.SetGrade.{checks, next, changes_of}
@@ -24,7 +24,7 @@ set_grade-leads office person grade l h =
       register = l.register;
       lists = l.lists;
       round = l.round;
-      grades = offices-grade_put office.people office.grades l.grades person grade (not-false _ n.1.0);
+      grades = grade_put office.people office.grades l.grades person grade (not-false _ n.1.0);
       leavers = l.leavers;
       words = l.words;
       results = results_undrawn new u.has_no_results u.no_results;

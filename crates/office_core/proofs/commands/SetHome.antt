@@ -13,14 +13,14 @@ use Rattle.office_state.proofs.round_phases.Untouched.{prepared, idle_preparing}
 use Rattle.office_core.specs.Refusal.Checks.{first_refusal}
 use Rattle.office_core.proofs.refusals.Checks.{none_applies}
 use Rattle.office_core.specs.Command.SetHome.{checks, next, changes_of}
-use Rattle.office_core.proofs.refusals.Checks.{refusals-may_live}
+use Rattle.office_core.proofs.refusals.Checks.{may_live}
 
 pub set_home-leads : (office : Office) (person room : Text) → IsLawful office
     → first_refusal (checks office person room) ≡ None
     → LeadsTo office (next office person room) (changes_of office person room)
 set_home-leads office person room l h =
     let n = none_applies (checks office person room) h in
-    let may = refusals-may_live office room n.1.1.1 in
+    let may = may_live office room n.1.1.1 in
     let before = prepared office.phase (idle_preparing office.phase (not-false _ n.0)) in
     let lawful : IsLawful (next office person room) =
     moved-lawful office person (Some room) l before

@@ -13,10 +13,10 @@ use Rattle.office_state.specs.Office.Phases.{has_words}
 use Rattle.office_state.specs.declared.change.Change.TheVariants.{PutRoom}
 use Rattle.office_state.proofs.offices.Homes.{moved-lawful, rooms_stay, phase_stays, left_empty}
 use Rattle.office_state.proofs.offices.People.{nobody_has, holder_has}
-use Rattle.office_state.proofs.offices.Register.{offices-room_shut}
+use Rattle.office_state.proofs.offices.Register.{room_shut}
 use Rattle.office_state.proofs.round_phases.Untouched.{prepared, undrawn, results_undrawn}
 use Rattle.office_state.proofs.round_phases.Untouched.{moves_stay}
-use Rattle.office_state.proofs.offices.ChoiceLists.{offices-room_known}
+use Rattle.office_state.proofs.offices.ChoiceLists.{room_known}
 use Rattle.office_core.specs.Refusal.Checks.{first_refusal}
 use Rattle.office_core.proofs.refusals.Checks.{none_applies}
 use Rattle.office_core.specs.Command.Shut.{checks, next, changes_of, without_tenant, leaving}
@@ -33,8 +33,8 @@ shut-lawful office room l before known empty =
       kept = l.kept;
       grades = l.grades;
       leavers = l.leavers;
-      register = offices-room_shut office.rooms office.people l.register room known empty;
-      lists = offices-room_known office.rooms office.people office.choices office.withdrawn l.lists room
+      register = room_shut office.rooms office.people l.register room known empty;
+      lists = room_known office.rooms office.people office.choices office.withdrawn l.lists room
           true;
       round = l.round;
       words = l.words;

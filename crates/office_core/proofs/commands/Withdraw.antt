@@ -17,8 +17,8 @@ use Rattle.office_state.specs.Office.{has_withdrawn}
 use Rattle.office_state.specs.declared.change.Change.TheVariants.{PutWithdrawn}
 use Rattle.office_state.proofs.round_phases.Untouched.{prepared, open_preparing, open_busy, undrawn}
 use Rattle.office_state.proofs.round_phases.Untouched.{words_undrawn, results_undrawn, moves_stay}
-use Rattle.office_state.proofs.offices.Leavers.{offices-leaver_withdrawn}
-use Rattle.office_state.proofs.offices.ChoiceLists.{offices-withdrawn_put}
+use Rattle.office_state.proofs.offices.Leavers.{leaver_withdrawn}
+use Rattle.office_state.proofs.offices.ChoiceLists.{withdrawn_put}
 use Rattle.office_core.specs.Refusal.Checks.{first_refusal}
 use Rattle.office_core.proofs.refusals.Checks.{none_applies}
 use Rattle.office_core.specs.Command.Withdraw.{checks, next, changes_of}
@@ -78,10 +78,10 @@ withdraw-leads office person l h =
     let lawful : IsLawful new = record {
       kept = l.kept;
       grades = l.grades;
-      leavers = offices-leaver_withdrawn office.phase office.people office.withdrawn office.going l.leavers
+      leavers = leaver_withdrawn office.phase office.people office.withdrawn office.going l.leavers
           person n.1.1.0;
       register = l.register;
-      lists = offices-withdrawn_put office.rooms office.people office.choices office.withdrawn l.lists
+      lists = withdrawn_put office.rooms office.people office.choices office.withdrawn l.lists
           person known;
       round = record {
         few_rounds = l.round.few_rounds;

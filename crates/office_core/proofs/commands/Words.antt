@@ -10,7 +10,7 @@ use Rattle.std.specs.Ordering.{eq_by_cmp, is_eq}
 use Rattle.std.specs.Cmp.Lexicographic.{nat_list_cmp_total}
 use Rattle.std.specs.FinMap as map
 use Rattle.std.specs.FinMap.{get-insert}
-use Rattle.room_types.proofs.maps.TextMaps.{maps-get-put_other, text_cases}
+use Rattle.room_types.proofs.maps.TextMaps.{get-put_other, text_cases}
 use Rattle.room_types.specs.Texts.{Text, TextMap, text_cmp}
 use Rattle.office_state.specs.Change.{applied_all, HomesStayDistinct, AllFit}
 use Rattle.office_state.specs.Office.Invariants.{HomesDiffer}
@@ -21,12 +21,12 @@ use Rattle.office_state.specs.declared.office.Office.{Office}
 use Rattle.office_core.specs.Command.Draw.{word_changes, with_words}
 use Rattle.office_core.proofs.imports.Indexed.{some_or}
 
-pub commands_word_changes_more : (people : List Text) (words : List ℕ) (i : ℕ) (d : Text) (e : ℕ)
+pub word_changes_more : (people : List Text) (words : List ℕ) (i : ℕ) (d : Text) (e : ℕ)
     → i < length people → i < length words
     → word_changes (drop i people) (drop i words)
     ≡ PutWord (get_or people i d) (get_or words i e) ∷ word_changes (drop (i + 1) people)
     (drop (i + 1) words)
-commands_word_changes_more people words i d e h k =
+word_changes_more people words i d e h k =
     ap (λ p. word_changes p (drop i words)) (drop_more people i d h)
     ∙ ap (λ w. word_changes (get_or people i d ∷ drop (i + 1) people) w) (drop_more words i e k)
 
@@ -88,7 +88,7 @@ word_changes-fit first office (person ∷ people) (word ∷ words) rest differ n
       (λ q e. let there = new q (or_right (eq_by_cmp text_cmp q person)
       (list_any (eq_by_cmp text_cmp q) people) e) in (
         there.0,
-        ap is_some (maps-get-put_other office.words person word q (comes_later person people differ.0 q e))
+        ap is_some (get-put_other office.words person word q (comes_later person people differ.0 q e))
             ∙ there.1,
       )) s,
 )

@@ -6,7 +6,7 @@ use Rattle.std.proofs.lemmas.Bool.{ltb-false, not-false}
 use Rattle.std.specs.FinMap as map
 use Rattle.std.specs.Option.{is_some}
 use Rattle.room_types.specs.Choices.{IsChoices}
-use Rattle.room_types.proofs.maps.TextMaps.{maps-contains_key-put, maps-get-put_other, maps-get-put_same, text_cases}
+use Rattle.room_types.proofs.maps.TextMaps.{contains_key-put, get-put_other, get-put_same, text_cases}
 use Rattle.room_types.specs.Texts.{Text, TextMap}
 use Rattle.room_types.specs.declared.kinds.ListKind.{ListKind}
 use Rattle.room_types.specs.declared.kinds.ListKind.TheVariants.{Rooms, People, Choices, Grades}
@@ -77,7 +77,7 @@ room_steps = record {
   fits = λ first office room good grows l h.
       unknown_first first office room grows (none_applies (room_command.checks office room) h).1.0;
   grows = λ first office room grows q known.
-      maps-contains_key-put office.rooms room false q (grows q known);
+      contains_key-put office.rooms room false q (grows q known);
   lists = λ office room. refl;
   phase = λ office room. refl;
 }
@@ -131,11 +131,11 @@ record Leads (command : EntryCommand) (first office : Office) (entries : List co
   pub phase : (office_after command office entries).phase ≡ office.phase
 
 module _ (command : EntryCommand) (Good : command.Entry → Type 0) (steps : Steps command Good) where
-  imports-all_lead : (first office : Office) (at : ℕ) (entries : List command.Entry) (rest : List Change)
+  all_lead : (first office : Office) (at : ℕ) (entries : List command.Entry) (rest : List Change)
       → Each Good entries → Grows first office → IsLawful office
       → first_denied command office at entries ≡ None
       → Leads command first office entries rest
-  imports-all_lead first office at [] rest good grows l h = record {
+  all_lead first office at [] rest good grows l h = record {
     leads = refl;
     apart = λ s. s;
     fits = λ f. f;
@@ -143,14 +143,14 @@ module _ (command : EntryCommand) (Good : command.Entry → Type 0) (steps : Ste
     lists = refl;
     phase = refl;
   }
-  imports-all_lead first office at (entry ∷ entries) rest good grows l h =
+  all_lead first office at (entry ∷ entries) rest good grows l h =
       let after = command.next office entry in
       let others = changes_by command entries ++ rest in
       let n = none_of (λ refusal. Some (refused.BadRecord at (Denied (number_of refusal))))
       (first_refusal (command.checks office entry)) (first_denied command after (at + 1) entries)
       (λ x e. cc) h in
       let same = steps.applies office entry in
-      let later = imports-all_lead first after (at + 1) entries rest good.1
+      let later = all_lead first after (at + 1) entries rest good.1
       (steps.grows first office entry grows) (steps.lawful office entry good.0 l n.0) n.1 in
       record {
         leads = ap (λ o. applied_all o others) same ∙ later.leads;
@@ -176,10 +176,10 @@ all_put P lists label list all one q kept h =
       | inl same ↦
           let here : Some list ≡ Some kept =
           sym (ap (λ k. map.get (map.insert lists label list) k) same
-          ∙ maps-get-put_same lists label list) ∙ h in
+          ∙ get-put_same lists label list) ∙ h in
           let it : list ≡ kept = cc in
           subst P it one
-      | inr other ↦ all q kept (sym (maps-get-put_other lists label list q other) ∙ h)
+      | inr other ↦ all q kept (sym (get-put_other lists label list q other) ∙ h)
     ]
 
 kept_put : (lists : TextMap StoredImport) (label : Text) (list : StoredImport) → AreValidImports lists
@@ -217,17 +217,17 @@ module _ (office : Office) (label : Text) (kind : ListKind) (bytes : List ℕ) (
     (few : nat_le label_limit (map.len office.lists) ≡ false)
     (short : nat_lt byte_limit (length bytes) ≡ false)
     (before : is_preparing office.phase ≡ true) where
-  imports-tried-leads : (command : EntryCommand) (Good : command.Entry → Type 0) → Steps command Good
+  tried-leads : (command : EntryCommand) (Good : command.Entry → Type 0) → Steps command Good
       → (list_fault command.form (records_of bytes) ≡ None → Each Good (entries_in command bytes))
       → list_refusal command office bytes ≡ None
       → LeadsTo office (keeping (office_after command office (entries_in command bytes)) label kind bytes)
       (changes_by command (entries_in command bytes) ++ KeepList label kind bytes (record_count bytes) ∷ [])
-  imports-tried-leads command Good steps good h =
+  tried-leads command Good steps good h =
       let entries = entries_in command bytes in
       let n = none_of (λ fault. Some (bad_list fault)) (list_fault command.form (records_of bytes))
       (first_denied command office 1 entries) (λ x e. cc) h in
       let keep : Change = KeepList label kind bytes (record_count bytes) in
-      let led = imports-all_lead command Good steps office office 1 entries (keep ∷ []) (good n.0)
+      let led = all_lead command Good steps office office 1 entries (keep ∷ []) (good n.0)
       (λ room known. known) l n.1 in
       let after = office_after command office entries in
       let kept : AreValidImports (keeping after label kind bytes).lists =
@@ -274,16 +274,16 @@ new-leads office label kind bytes l new h =
         → LeadsTo office (keeping (office_with kind office bytes) label kind bytes)
         (new_label_changes label kind bytes)
     by Rooms few short before good =
-        imports-tried-leads office label Rooms bytes l new few short before room_command (λ x. Unit {0})
+        tried-leads office label Rooms bytes l new few short before room_command (λ x. Unit {0})
         room_steps (λ e. each_any (entries_in room_command bytes)) good
     by People few short before good =
-        imports-tried-leads office label People bytes l new few short before person_command (λ x. Unit {0})
+        tried-leads office label People bytes l new few short before person_command (λ x. Unit {0})
         person_steps (λ e. each_any (entries_in person_command bytes)) good
     by Choices few short before good =
-        imports-tried-leads office label Choices bytes l new few short before choices_command
+        tried-leads office label Choices bytes l new few short before choices_command
         (λ entry. IsChoices entry.choices) choices_steps (each_recordable bytes) good
     by Grades few short before good =
-        imports-tried-leads office label Grades bytes l new few short before grade_command (λ x. Unit {0})
+        tried-leads office label Grades bytes l new few short before grade_command (λ x. Unit {0})
         grade_steps (λ e. each_any (entries_in grade_command bytes)) good
 
 pub import-leads : (office : Office) (label : Text) (kind : ListKind) (bytes : List ℕ)

@@ -12,7 +12,7 @@ use Rattle.room_types.proofs.maps.TextMaps.{text_cases}
 use Rattle.room_types.proofs.options.Options.{none_if_not_some}
 use Rattle.office_state.specs.Office.{had_by, holder, is_text}
 use Rattle.office_state.specs.declared.office.person.Person.{Person}
-use Rattle.office_state.proofs.offices.People.{offices-had_by-put_same, offices-had_by-put_other, held-is_text}
+use Rattle.office_state.proofs.offices.People.{had_by-put_same, had_by-put_other, held-is_text}
 use Rattle.office_state.proofs.offices.People.{holder_has, nobody_has}
 use Rattle.office_state.proofs.offices.Truths.{text_eq-same}
 use Rattle.office_core.specs.Inner.Tries.{HasKeys, HasHomes, IsIndexed, placed}
@@ -33,53 +33,53 @@ some_or true x o = refl
 some_or false x o = refl
 
 module _ (which : Person → Option Text) where
-  imports-held_by : (m : TextMap Person) (text : Text) → is_some (holder which m text) ≡ true
+  held_by : (m : TextMap Person) (text : Text) → is_some (holder which m text) ≡ true
       → (q : Text) × (had_by which m q ≡ Some text)
-  imports-held_by m text h =
+  held_by m text h =
       elim (holder which m text) as (λ o. holder which m text ≡ o → is_some o ≡ true
       → (q : Text) × (had_by which m q ≡ Some text)) [
         | None ↦ λ e h. cc
         | Some q ↦ λ e h. (q, holder_has which m text q e)
       ] refl h
 
-  imports-holds : (m : TextMap Person) (text q : Text) → had_by which m q ≡ Some text
+  holder_of_had : (m : TextMap Person) (text q : Text) → had_by which m q ≡ Some text
       → is_some (holder which m text) ≡ true
-  imports-holds m text q h =
+  holder_of_had m text q h =
       elim (holder which m text) as (λ o. holder which m text ≡ o → is_some o ≡ true) [
         | None ↦ λ e. absurd (nobody_has which m text e q h)
         | Some q ↦ λ e. refl
       ] refl
 
-  imports-unknown_has_none : (m : TextMap Person) (k text : Text) → map.contains_key m k ≡ false
+  unknown_has_none : (m : TextMap Person) (k text : Text) → map.contains_key m k ≡ false
       → had_by which m k ≡ Some text → ⊥
-  imports-unknown_has_none m k text new h =
+  unknown_has_none m k text new h =
       let none : had_by which m k ≡ None =
       ap (option_and_then which) (none_if_not_some (map.get m k) new) in
       cc
 
   -- after a person is added, somebody holds a text exactly if that person does or somebody held it before
-  pub imports-holder_put : (m : TextMap Person) (k : Text) (v : Person) (text : Text)
+  pub holder_put : (m : TextMap Person) (k : Text) (v : Person) (text : Text)
       → map.contains_key m k ≡ false
       → is_some (holder which (map.insert m k v) text)
       ≡ (is_text (which v) text || is_some (holder which m text))
-  imports-holder_put m k v text new =
+  holder_put m k v text new =
       alike (is_some (holder which (map.insert m k v) text))
       (is_text (which v) text || is_some (holder which m text)) to from
     where
       to : is_some (holder which (map.insert m k v) text) ≡ true
           → (is_text (which v) text || is_some (holder which m text)) ≡ true
       to h =
-          let by = imports-held_by (map.insert m k v) text h in
+          let by = held_by (map.insert m k v) text h in
           elim (text_cases by.0 k) as
           (λ _. (is_text (which v) text || is_some (holder which m text)) ≡ true) [
             | inl same ↦
                 let own : which v ≡ Some text =
-                sym (offices-had_by-put_same which m k v by.0 same) ∙ by.1 in
+                sym (had_by-put_same which m k v by.0 same) ∙ by.1 in
                 ap (λ o. is_text o text || is_some (holder which m text)) own
                 ∙ ap (λ b. b || is_some (holder which m text)) (text_eq-same text)
             | inr other ↦
                 or_right (is_text (which v) text) (is_some (holder which m text))
-                (imports-holds m text by.0 (sym (offices-had_by-put_other which m k v by.0 other) ∙ by.1))
+                (holder_of_had m text by.0 (sym (had_by-put_other which m k v by.0 other) ∙ by.1))
           ]
 
       from : (is_text (which v) text || is_some (holder which m text)) ≡ true
@@ -87,16 +87,16 @@ module _ (which : Person → Option Text) where
       from h =
           elim (is_text (which v) text) as (λ b. is_text (which v) text ≡ b
           → is_some (holder which (map.insert m k v) text) ≡ true) [
-            | true ↦ λ e. imports-holds (map.insert m k v) text k
-                (offices-had_by-put_same which m k v k refl ∙ held-is_text (which v) text e)
+            | true ↦ λ e. holder_of_had (map.insert m k v) text k
+                (had_by-put_same which m k v k refl ∙ held-is_text (which v) text e)
             | false ↦ λ e.
-                let by = imports-held_by m text (either (is_text (which v) text) _ h e) in
+                let by = held_by m text (either (is_text (which v) text) _ h e) in
                 elim (text_cases by.0 k) as
                 (λ _. is_some (holder which (map.insert m k v) text) ≡ true) [
-                  | inl same ↦ absurd (imports-unknown_has_none m k text new
+                  | inl same ↦ absurd (unknown_has_none m k text new
                       (ap (λ q. had_by which m q) (sym same) ∙ by.1))
-                  | inr other ↦ imports-holds (map.insert m k v) text by.0
-                      (offices-had_by-put_other which m k v by.0 other ∙ by.1)
+                  | inr other ↦ holder_of_had (map.insert m k v) text by.0
+                      (had_by-put_other which m k v by.0 other ∙ by.1)
                 ]
           ] refl
 
@@ -128,7 +128,7 @@ HasKeys-put : {X : Type 0} (m : TextMap Person) (keys : TextMap X) (k : Text) (v
 HasKeys-put m keys k v x new has key =
     put_known keys v.key x key
     ∙ ap (λ b. text_eq v.key key || b) (has key)
-    ∙ sym (imports-holder_put (λ p. Some p.key) m k v key new)
+    ∙ sym (holder_put (λ p. Some p.key) m k v key new)
 
 -- and so is a table of homes
 HasHomes-put : (m : TextMap Person) (tenants : TextMap Text) (k : Text) (v : Person)
@@ -137,15 +137,15 @@ HasHomes-put : (m : TextMap Person) (tenants : TextMap Text) (k : Text) (v : Per
 HasHomes-put m tenants k v None lives new has room =
     has room
     ∙ ap (λ o. is_text o room || is_some (holder (λ p. p.home) m room)) (sym lives)
-    ∙ sym (imports-holder_put (λ p. p.home) m k v room new)
+    ∙ sym (holder_put (λ p. p.home) m k v room new)
 HasHomes-put m tenants k v (Some home) lives new has room =
     put_known tenants home k room
     ∙ ap (λ b. text_eq home room || b) (has room)
     ∙ ap (λ o. is_text o room || is_some (holder (λ p. p.home) m room)) (sym lives)
-    ∙ sym (imports-holder_put (λ p. p.home) m k v room new)
+    ∙ sym (holder_put (λ p. p.home) m k v room new)
 
 -- a register is indexed, also after a person is added
-pub imports_still_indexed : (people : TextMap Person) (keys : TextMap (Unit {0})) (tenants : TextMap Text)
+pub still_indexed : (people : TextMap Person) (keys : TextMap (Unit {0})) (tenants : TextMap Text)
     (k : Text) (v : Person)
     → map.contains_key people k ≡ false
     → IsIndexed (record { people = people; keys = keys; tenants = tenants })
@@ -154,7 +154,7 @@ pub imports_still_indexed : (people : TextMap Person) (keys : TextMap (Unit {0})
       keys = map.insert keys v.key tt;
       tenants = placed tenants v.home k;
     })
-imports_still_indexed people keys tenants k v new is = record {
+still_indexed people keys tenants k v new is = record {
   keys = HasKeys-put people keys k v tt new is.keys;
   homes = HasHomes-put people tenants k v v.home refl new is.homes;
 }

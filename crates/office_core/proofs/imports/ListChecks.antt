@@ -31,31 +31,31 @@ use Rattle.office_core.specs.Refusal.{number_of}
 use Rattle.office_core.specs.Refusal.Checks.{Check, first_refusal, names_room, names_record}
 use Rattle.office_core.specs.declared.refusal.Refusal.{Refusal}
 use Rattle.office_core.specs.declared.refusal.Refusal.TheVariants as refused
-use Rattle.office_core.proofs.commands.Changes.{commands_has_last}
+use Rattle.office_core.proofs.commands.Changes.{has_last}
 use Rattle.office_core.proofs.imports.Records.{few_rows}
 
 pub first_of : (o : Option Refusal) → first_refusal (check_of o) ≡ o
 first_of None = refl
 first_of (Some refusal) = refl
 
-pub imports_few_entries : {X : Type 0} (form : ListForm X) (bytes : List ℕ) (entries : List X)
+pub few_entries : {X : Type 0} (form : ListForm X) (bytes : List ℕ) (entries : List X)
     → ParsesTo form bytes entries → length entries ≤ record_limit
-imports_few_entries form bytes entries returned =
+few_entries form bytes entries returned =
     subst (λ es. length es ≤ record_limit) (sym returned.returned) (few_rows form bytes returned.good)
 
-pub imports_few_changes : (command : EntryCommand) (office : Office) (entries : List command.Entry)
+pub few_changes : (command : EntryCommand) (office : Office) (entries : List command.Entry)
     (changes : List Change)
     → AreAllowed command office entries changes → length entries ≤ record_limit
     → length changes ≤ record_limit
-imports_few_changes command office entries changes are few =
+few_changes command office entries changes are few =
     let same : length changes ≡ length entries =
     ap (λ cs. length cs) are.changed ∙ length-map entries (λ entry. command.change entry) in
     subst (λ n. n ≤ record_limit) (sym same) few
 
 -- there are as many changes as records
-pub imports_as_many : (command : EntryCommand) (office : Office) (bytes : List ℕ) (changes : List Change)
+pub as_many_changes : (command : EntryCommand) (office : Office) (bytes : List ℕ) (changes : List Change)
     → AreAdded command office bytes changes → length changes ≡ record_count bytes
-imports_as_many command office bytes changes are =
+as_many_changes command office bytes changes are =
     ap (λ cs. length cs) are.changed
     ∙ length-map (entries_in command bytes) (λ entry. command.change entry)
     ∙ length-map (data_records (records_of bytes)) command.form.entry
@@ -192,5 +192,5 @@ pub list_is_refused : (office : Office) (label : Text) (kind : ListKind) (bytes 
 list_is_refused office label kind bytes refusal may few short h =
     list_refused (new_label_changes label kind bytes) (new_label_checks office kind bytes)
     (refusal_of kind office bytes) refusal
-    (commands_has_last (record_changes kind bytes) [] (KeepList label kind bytes (record_count bytes)))
+    (has_last (record_changes kind bytes) [] (KeepList label kind bytes (record_count bytes)))
     (first_of_list office kind bytes may few short) (refusal_of-names_record kind office bytes) h

@@ -33,20 +33,20 @@ open_room None known unshut = cc
 open_room (Some shut) known unshut = ap (λ b. Some b) unshut
 
 -- a room that passes the checks of a home is not shut and has no tenant
-pub refusals-may_live : (office : Office) (room : Text) → NoneApplies (home_checks office room)
+pub may_live : (office : Office) (room : Text) → NoneApplies (home_checks office room)
     → (map.get office.rooms room ≡ Some false) × (tenant office room ≡ None)
-refusals-may_live office room n =
+may_live office room n =
     (open_room (map.get office.rooms room) n.0 n.1.0, none_if_not_some (tenant office room) n.1.1.0)
 
 -- the same for an optional home, with other checks after its own
-pub refusals-may_have_home : (office : Office) (home : Option Text) (others : List Check)
+pub may_have_home : (office : Office) (home : Option Text) (others : List Check)
     → NoneApplies (home_checks_if_any office home ++ others)
     → ((room : Text) → home ≡ Some room
     → (map.get office.rooms room ≡ Some false) × (tenant office room ≡ None))
     × NoneApplies others
-refusals-may_have_home office None others n = ((λ room e. cc), n)
-refusals-may_have_home office (Some home) others n =
-    let may = refusals-may_live office home (n.0, (n.1.0, (n.1.1.0, tt))) in (
+may_have_home office None others n = ((λ room e. cc), n)
+may_have_home office (Some home) others n =
+    let may = may_live office home (n.0, (n.1.0, (n.1.1.0, tt))) in (
       (λ room e.
           let same : home ≡ room = cc in (
             ap (λ r. map.get office.rooms r) (sym same) ∙ may.0,

@@ -16,15 +16,15 @@ some_of_some : {A B : Type 0} (f : A → B) (es : List A) → eqb (length es) 0 
 some_of_some f [] e = cc
 some_of_some f (x ∷ es) e = refl
 
-pub reply_rows_no_rows : {X B : Type 0} (f : Text × X → B) (m : TextMap X) → eqb (maps.len m) 0 ≡ true
+pub no_rows : {X B : Type 0} (f : Text × X → B) (m : TextMap X) → eqb (maps.len m) 0 ≡ true
     → map f (maps.entries m) ≡ []
-reply_rows_no_rows f m e = none_of_none f (maps.entries m) (ap (λ n. eqb n 0) (sym (len-entries m)) ∙ e)
+no_rows f m e = none_of_none f (maps.entries m) (ap (λ n. eqb n 0) (sym (len-entries m)) ∙ e)
 
-pub reply_rows_some_rows : {X B : Type 0} (f : Text × X → B) (m : TextMap X) → eqb (maps.len m) 0 ≡ false
+pub some_rows : {X B : Type 0} (f : Text × X → B) (m : TextMap X) → eqb (maps.len m) 0 ≡ false
     → is_empty (map f (maps.entries m)) ≡ false
-reply_rows_some_rows f m e = some_of_some f (maps.entries m) (ap (λ n. eqb n 0) (sym (len-entries m)) ∙ e)
+some_rows f m e = some_of_some f (maps.entries m) (ap (λ n. eqb n 0) (sym (len-entries m)) ∙ e)
 
-pub reply_rows_some_ordered : {A B : Type 0} (f : A → B) (es : List A) → 0 < length es
+pub some_ordered : {A B : Type 0} (f : A → B) (es : List A) → 0 < length es
     → is_empty (map f es) ≡ false
-reply_rows_some_ordered f [] some = absurd (omega (arith, some))
-reply_rows_some_ordered f (x ∷ es) some = refl
+some_ordered f [] some = absurd (omega (arith, some))
+some_ordered f (x ∷ es) some = refl

@@ -2,7 +2,7 @@
 use Rattle.std.proofs.Common.{sym, subst}
 use Rattle.std.specs.FinMap as maps
 use Rattle.std.specs.Prelude.{ℕ, List, Result, Ok, Err, IfOk, Bool, true, false, Option, None, Some, if◌then◌else◌, refl}
-use Rattle.room_types.proofs.maps.TextMaps.{maps-rows_ascend}
+use Rattle.room_types.proofs.maps.TextMaps.{rows_ascend}
 use Rattle.room_types.specs.Texts.{Text}
 use Rattle.office_state.specs.Office.{is_over, owner}
 use Rattle.office_state.specs.Office.Phases.{has_results, has_words}
@@ -55,22 +55,22 @@ owner_ascends office None = tt
 owner_ascends office (Some person) = person_ascends office person (maps.get office.people person)
 
 -- the rows of the reply to a query ascend
-reply_rows_ascend : (office : Office) (asked : Query) → IfOk (returned office asked) RowsAscend
-reply_rows_ascend office query.Rooms =
-    maps-rows_ascend (room_row office) (λ row. row.room) (λ e. refl) office.rooms
-reply_rows_ascend office query.People =
-    maps-rows_ascend person_row (λ row. row.person) (λ e. refl) office.people
-reply_rows_ascend office query.Round = tt
-reply_rows_ascend office query.Order =
+replies_ascend : (office : Office) (asked : Query) → IfOk (returned office asked) RowsAscend
+replies_ascend office query.Rooms =
+    rows_ascend (room_row office) (λ row. row.room) (λ e. refl) office.rooms
+replies_ascend office query.People =
+    rows_ascend person_row (λ row. row.person) (λ e. refl) office.people
+replies_ascend office query.Round = tt
+replies_ascend office query.Order =
     if_ascends (has_words office.phase) (reply.Order (order_rows office)) (BadPhase office.phase) tt
-reply_rows_ascend office query.Results =
+replies_ascend office query.Results =
     if_ascends (has_results office.phase) (reply.Results (result_rows office))
     (BadPhase office.phase)
-    (maps-rows_ascend result_row (λ row. row.person) (λ e. refl) office.results)
-reply_rows_ascend office (query.Moves number) =
+    (rows_ascend result_row (λ row. row.person) (λ e. refl) office.results)
+replies_ascend office (query.Moves number) =
     if_ascends (is_over office number) (reply.Moves (move_rows office number)) NoSuchRound tt
-reply_rows_ascend office (query.Me key) = owner_ascends office (owner office key)
-reply_rows_ascend office (query.WhatIf person choices) =
+replies_ascend office (query.Me key) = owner_ascends office (owner office key)
+replies_ascend office (query.WhatIf person choices) =
     unless_ascends (first_refusal (list_checks office person choices))
     (reply.WouldGet (result_by office person choices)) tt
 
@@ -105,7 +105,7 @@ reply_ascends office (command.Going person) = tt
 pub answer_ascends : (office : Office) (asked : Query) (result : Result Reply Refusal)
     → IsAnswered (returned office asked) result → IfOk result RowsAscend
 answer_ascends office asked (Ok reply) t =
-    subst (λ r. IfOk r RowsAscend) t (reply_rows_ascend office asked)
+    subst (λ r. IfOk r RowsAscend) t (replies_ascend office asked)
 answer_ascends office asked (Err refusal) t = tt
 
 pub decision_ascends : (office : Office) (given : Command) (result : Result Decision Refusal)

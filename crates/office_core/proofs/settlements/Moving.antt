@@ -20,11 +20,11 @@ use Rattle.room_types.specs.Texts.{Text, text_cmp}
 use Rattle.room_types.specs.declared.moves.Move.{Move}
 use Rattle.room_types.specs.declared.moves.Wave.{Wave}
 use Rattle.room_types.specs.declared.moves.Wave.TheVariants.{Swap, Nth}
-use Rattle.room_types.proofs.arranged.Arrangements.{arranged-one_arrangement}
+use Rattle.room_types.proofs.arranged.Arrangements.{arrangements_agree}
 use Rattle.office_lists.specs.MoveDay.{is_swap, move_cmp, wave_cmp}
 use Rattle.office_lists.specs.Waves.{Relocation, NewRoomsDiffer, leaver, leavers, end_numbers, next, wave_of, waves_of, IsWave}
-use Rattle.office_lists.proofs.move_days.Following.{move_days-number-later}
-use Rattle.office_lists.proofs.move_days.Leavers.{move_days-length-waves_of, has_left, has_left_room, left_room, move_days-one_wave_each, position_found}
+use Rattle.office_lists.proofs.move_days.Following.{number-later}
+use Rattle.office_lists.proofs.move_days.Leavers.{length-waves_of, has_left, has_left_room, left_room, waves_agree, position_found}
 use Rattle.office_lists.proofs.move_days.MoveDayLists.{move_total}
 use Rattle.office_state.specs.Round.Settlement.{moves_with}
 use Rattle.office_state.proofs.moving_people.Relocations.{relocates}
@@ -46,7 +46,7 @@ pub relocates-ascending : (ms : List Move) (q : Text)
 relocates-ascending ms q =
     any_relocation (ascending move_cmp ms) q
     ∙ sym (list_any-IsPermutation (λ (m : Move). eq_by_cmp text_cmp q m.person) ms
-    (ascending move_cmp ms) (arranged-one_arrangement move_cmp move_total ms).some.same_items)
+    (ascending move_cmp ms) (arrangements_agree move_cmp move_total ms).some.same_items)
     ∙ sym (any_relocation ms q)
 
 -- a person of one of the moves that pass a test is a person of one of all moves
@@ -183,7 +183,7 @@ pub empty_in_order : (home : Text → Option Text) (moves : List Move)
     → All (IsCleared home moves) moves → FindEmpty home (ascending move_cmp moves)
 empty_in_order home moves h =
     let rows = ascending move_cmp moves in
-    let so = (arranged-one_arrangement move_cmp move_total moves).some in
+    let so = (arrangements_agree move_cmp move_total moves).some in
     let each : All (IsCleared home moves) rows =
     All-permutation (IsCleared home moves) moves rows so.same_items h in
     λ k d within q room goes lives. elim (each k d within q room goes lives) as
@@ -230,14 +230,14 @@ module _ (n : ℕ) (ms : List Relocation) (differ : NewRoomsDiffer ms) (before n
   abbrev wave : ℕ → Wave
   wave = wave_of (end_numbers ms) (leavers ms)
 
-  settlements-wave_is : (k : ℕ) → k < length ms → get_or (waves_of ms) k Swap ≡ wave k
-  settlements-wave_is k within = get_or-map-range_with_len wave 0 (length ms) k k Swap within (omega arith)
+  wave_is : (k : ℕ) → k < length ms → get_or (waves_of ms) k Swap ≡ wave k
+  wave_is k within = get_or-map-range_with_len wave 0 (length ms) k k Swap within (omega arith)
 
   -- the relocation of the person who lives in the new room of relocation `i`, if that person relocates
-  settlements-holder : (i : ℕ) (q room : Text) → i < length ms → (get_or ms i nobody).2 ≡ Some room
+  holder : (i : ℕ) (q room : Text) → i < length ms → (get_or ms i nobody).2 ≡ Some room
       → before q ≡ Some room → relocates ms q ≡ true
       → (k : ℕ) × (k < length ms) × ((get_or ms k nobody).0 ≡ q) × (next (leavers ms) i ≡ Some k)
-  settlements-holder i q room within goes lives relocation =
+  holder i q room within goes lives relocation =
       let at = relocation_at ms q relocation in
       let old : (get_or ms at.0 nobody).1 ≡ Some room =
       from at.0 at.1 ∙ ap before (at.2 nobody) ∙ lives in
@@ -252,19 +252,19 @@ module _ (n : ℕ) (ms : List Relocation) (differ : NewRoomsDiffer ms) (before n
             ∙ ap (option_and_then (leaver ms)) goes ∙ found.1,
       )
 
-  pub settlements-all_cleared : All (IsCleared now moves) moves
-  settlements-all_cleared = all_moves (IsCleared now moves) n ms (waves_of ms) (move_days-length-waves_of ms) (λ i within q room goes lives.
+  pub all_cleared : All (IsCleared now moves) moves
+  all_cleared = all_moves (IsCleared now moves) n ms (waves_of ms) (length-waves_of ms) (λ i within q room goes lives.
       let lived = kept q room lives in
       elim (known i q room within goes lived.0) as
       (λ _. (q ≡ (get_or ms i nobody).0) ⊎ ((b : Move) × Contains moves b × (b.person ≡ q)
       × (is_lt (move_cmp b (move_at n ms (waves_of ms) i)) ≡ true))) [
         | inl own ↦ inl own
         | inr relocation ↦
-            let one = move_days-one_wave_each ms differ in
-            let h = settlements-holder i q room within goes lived.0 relocation in
+            let one = waves_agree ms differ in
+            let h = holder i q room within goes lived.0 relocation in
             let b : Move = move_at n ms (waves_of ms) h.0 in
-            let is : get_or moves h.0 b ≡ b = moves_with-at n ms (waves_of ms) h.0 b (move_days-length-waves_of ms) h.1 in
-            let in' : h.0 < length moves = omega (arith, h.1, length-moves_with n ms (waves_of ms) (move_days-length-waves_of ms)) in
+            let is : get_or moves h.0 b ≡ b = moves_with-at n ms (waves_of ms) h.0 b (length-waves_of ms) h.1 in
+            let in' : h.0 < length moves = omega (arith, h.1, length-moves_with n ms (waves_of ms) (length-waves_of ms)) in
             inr (
               b,
               (h.0, in', is),
@@ -273,16 +273,16 @@ module _ (n : ℕ) (ms : List Relocation) (differ : NewRoomsDiffer ms) (before n
                   (λ w. wave h.0 ≡ w → is_lt (move_cmp b (move_at n ms (waves_of ms) i)) ≡ true) [
                     | Swap ↦ λ swap.
                         let gone = swap_at moves h.0 b in'
-                        (ap (λ (m : Move). is_swap m.wave) is ∙ ap is_swap (settlements-wave_is h.0 h.1 ∙ swap)) in
+                        (ap (λ (m : Move). is_swap m.wave) is ∙ ap is_swap (wave_is h.0 h.1 ∙ swap)) in
                         absurd (false≢true (sym lived.1
                         ∙ ap (relocates (map_list relocation_of (swaps moves))) (sym (ap (λ (m : Move). m.person) is ∙ h.2))
                         ∙ gone))
                     | Nth number ↦ λ numbered.
                         let later : IsWave (end_numbers ms) (leavers ms) i (Nth (suc number)) =
-                        move_days-number-later (end_numbers ms) (leavers ms) number i h.0 h.3
+                        number-later (end_numbers ms) (leavers ms) number i h.0 h.3
                         (subst (IsWave (end_numbers ms) (leavers ms) h.0) numbered (one.some h.0 h.1)) in
-                        next_wave number b (move_at n ms (waves_of ms) i) (settlements-wave_is h.0 h.1 ∙ numbered)
-                        (settlements-wave_is i within ∙ sym (one.one i (Nth (suc number)) within later))
+                        next_wave number b (move_at n ms (waves_of ms) i) (wave_is h.0 h.1 ∙ numbered)
+                        (wave_is i within ∙ sym (one.one i (Nth (suc number)) within later))
                   ] refl,
             )
       ])

@@ -7,13 +7,13 @@ use Rattle.room_types.specs.declared.moves.Move.{Move}
 use Rattle.room_types.specs.declared.moves.Wave.{Wave}
 use Rattle.office_lists.specs.MoveDay.{is_swap}
 use Rattle.office_lists.specs.Waves.{Relocation, waves_of}
-use Rattle.office_lists.proofs.move_days.Leavers.{move_days-length-waves_of}
+use Rattle.office_lists.proofs.move_days.Leavers.{length-waves_of}
 use Rattle.office_state.specs.Round.Settlement.{relocations, moves_with, settled_moves}
 use Rattle.office_state.specs.declared.office.Office.{Office}
 use Rattle.office_core.specs.Command.Settle.{departures, swaps}
 use Rattle.office_core.proofs.settlements.Moving.{length-moves_with}
 
-pub settlements_moves_with_more : (round : ℕ) (ms : List Relocation) (waves : List Wave) (i : ℕ) (d : Relocation)
+pub moves_with_more : (round : ℕ) (ms : List Relocation) (waves : List Wave) (i : ℕ) (d : Relocation)
     (e : Wave) → i < length ms → i < length waves
     → moves_with round (drop i ms) (drop i waves)
     ≡ record {
@@ -24,22 +24,22 @@ pub settlements_moves_with_more : (round : ℕ) (ms : List Relocation) (waves : 
       wave =
           get_or waves i e;
     } ∷ moves_with round (drop (i + 1) ms) (drop (i + 1) waves)
-settlements_moves_with_more round ms waves i d e h k =
+moves_with_more round ms waves i d e h k =
     ap (λ m. moves_with round m (drop i waves)) (drop_more ms i d h)
     ∙ ap (λ w. moves_with round (get_or ms i d ∷ drop (i + 1) ms) w) (drop_more waves i e k)
 
-pub settlements_swaps_more : (moves : List Move) (i : ℕ) (d : Move) → i < length moves
+pub swaps_more : (moves : List Move) (i : ℕ) (d : Move) → i < length moves
     → swaps (take (i + 1) moves)
     ≡ swaps (take i moves) ++ cond (is_swap (get_or moves i d).wave) (get_or moves i d ∷ []) []
-settlements_swaps_more moves i d within = filter_more (λ move. is_swap move.wave) moves i d within
+swaps_more moves i d within = filter_more (λ move. is_swap move.wave) moves i d within
 
-pub settlements_departures_more : (moves : List Move) (i : ℕ) (d : Move) → i < length moves
+pub departures_more : (moves : List Move) (i : ℕ) (d : Move) → i < length moves
     → departures (take (i + 1) moves)
     ≡ departures (take i moves) ++ cond (not (is_some (get_or moves i d).to)) (get_or moves i d ∷ []) []
-settlements_departures_more moves i d within = filter_more (λ move. not (is_some move.to)) moves i d within
+departures_more moves i d within = filter_more (λ move. not (is_some move.to)) moves i d within
 
 -- there are as many moves as relocations
 pub as_many_settled : (office : Office) → length (settled_moves office) ≡ length (relocations office)
 as_many_settled office =
     length-moves_with office.number (relocations office) (waves_of (relocations office))
-    (move_days-length-waves_of (relocations office))
+    (length-waves_of (relocations office))

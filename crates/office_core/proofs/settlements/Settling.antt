@@ -6,7 +6,7 @@ use Rattle.std.specs.List.{All}
 use Rattle.std.specs.Ordering.{eq_by_cmp}
 use Rattle.std.specs.FinMap as map
 use Rattle.room_types.specs.Texts.{Text, TextMap, text_cmp}
-use Rattle.room_types.proofs.maps.TextMaps.{maps-differ, tied_text}
+use Rattle.room_types.proofs.maps.TextMaps.{unequal_texts, tied_text}
 use Rattle.room_types.specs.declared.moves.Move.{Move}
 use Rattle.office_state.specs.Change.{with_home, applied_all, HomesStayDistinct, AllFit}
 use Rattle.office_state.specs.Office.Invariants.{HomesDiffer, Unshared}
@@ -145,7 +145,7 @@ others_find_empty people outer move others apart lead empty k d within q room go
   where
     earlier : eq_by_cmp text_cmp q move.person ≡ false → (j : ℕ) → j < suc k
         → (get_or (move ∷ others) j d).person ≡ q → CameBefore others k d q
-    earlier other zero low same = absurd (maps-differ q move.person (sym same) other)
+    earlier other zero low same = absurd (unequal_texts q move.person (sym same) other)
     earlier other (suc j) low same = inr (j, omega (arith, low), same)
 
 pub arrived-apart : (office : Office) (outer : TextMap Person) (ms : List Move) (rest : List Change)
@@ -171,10 +171,10 @@ arrived-apart office outer (move ∷ others) rest apart settled lead empty s =
 pub moves-apart : (office : Office) (moves : List Move) (rest : List Change) → HomesDiffer office
     → HomesStayDistinct (record office { moves = with_moves office.moves moves }) rest
     → HomesStayDistinct office (map_list (λ move. AddMove move) moves ++ rest)
-moves-apart office [] rest maps-differ s = s
-moves-apart office (move ∷ moves) rest maps-differ s = (
-  maps-differ,
-  moves-apart (record office { moves = with_move office.moves move }) moves rest maps-differ
+moves-apart office [] rest unequal_texts s = s
+moves-apart office (move ∷ moves) rest unequal_texts s = (
+  unequal_texts,
+  moves-apart (record office { moves = with_move office.moves move }) moves rest unequal_texts
       s,
 )
 

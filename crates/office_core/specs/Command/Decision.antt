@@ -10,8 +10,8 @@ use Rattle.office_core.specs.declared.refusal.Refusal.{Refusal}
 use Rattle.office_core.specs.declared.refusal.Refusal.TheVariants.{OutOfMemory}
 use Rattle.office_core.specs.declared.reply.Reply.{Reply}
 
--- whether deciding needs memory: for the room that the first refusal names, for the list that is read to find it, or, if none
--- applies, for the changes, if there are any
+-- Whether deciding needs memory. A refusal needs memory exactly if it names a room (its code is copied) or a record
+-- (the list is read to find it). If no refusal applies, the changes need memory, if there are any.
 abbrev pub refusal_allocates : List Change → Option Refusal → Bool
 refusal_allocates changes None = not (is_empty changes)
 refusal_allocates changes (Some refusal) = names_room refusal || names_record refusal
@@ -29,7 +29,8 @@ pub record IsDecision (checks : List Check) (reply : Reply) (changes : List Chan
   pub replied : decision.reply ≡ reply
   pub changed : decision.changes.items ≡ changes
 
--- the result is the reply and the changes if no check refuses, else the first refusal that applies, or `OutOfMemory` as above
+-- The result is the reply and the changes if no check refuses, else the first refusal that applies. In both cases it
+-- may be `OutOfMemory` instead if deciding needs memory.
 abbrev pub IsDecided : List Check → Reply → List Change → Result Decision Refusal → Type 0
 IsDecided checks reply changes result =
     MatchResult result (IsDecision checks reply changes) (IsRefusal changes checks)

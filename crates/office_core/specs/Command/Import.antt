@@ -1,5 +1,5 @@
--- Imports a list under a label: one command for each record, and all of them take effect or none. Under a known label the same
--- list gets the same reply without effect, and any other list is refused.
+-- Imports a list under a label. Each record is one command, and either all of them take effect or none does. If the
+-- label is known, the same list gets the reply of the first import and has no effect, and any other list is refused.
 use Rattle.std.specs.Prelude.{ℕ, ◌+◌, Bool, true, false, not, ◌&&◌, nat_le, nat_lt, List, [], ◌∷◌}
 use Rattle.std.specs.Prelude.{◌++◌, length, map as map_list, Option, None, Some}
 use Rattle.std.specs.Option.{option_map_or}
@@ -43,7 +43,7 @@ pub record EntryCommand : Type 1 where
   pub next : Office → Entry → Office
   pub change : Entry → Change
 
--- a list of rooms: add a room
+-- a list of rooms: each record adds a room
 abbrev pub room_command : EntryCommand
 room_command = record {
   Entry = Text;
@@ -53,7 +53,7 @@ room_command = record {
   change = λ room. PutRoom room false;
 }
 
--- a list of people: add a person
+-- a list of people: each record adds a person
 abbrev pub person_command : EntryCommand
 person_command = record {
   Entry = PersonEntry;
@@ -63,7 +63,7 @@ person_command = record {
   change = λ e. PutPerson e.person e.name e.key e.home;
 }
 
--- a list of choices: replace a person's list
+-- a list of choices: each record replaces a person's list
 abbrev pub choices_command : EntryCommand
 choices_command = record {
   Entry = ChoicesEntry;
@@ -73,7 +73,7 @@ choices_command = record {
   change = λ e. PutChoices e.person e.choices;
 }
 
--- a list of grades: give a person a grade
+-- a list of grades: each record gives a person a grade
 abbrev pub grade_command : EntryCommand
 grade_command = record {
   Entry = GradeRow;
@@ -93,8 +93,8 @@ office_after command office [] = office
 office_after command office (entry ∷ entries) =
     office_after command (command.next office entry) entries
 
--- the refusal for the first entry whose command is refused by the office at that point; the first of the entries has the record
--- number `at`
+-- the refusal for the first entry whose command the office refuses after the commands of the entries before it; `at` is
+-- the record number of the first entry of this list
 abbrev pub first_denied : (command : EntryCommand) → Office → ℕ → List command.Entry → Option Refusal
 first_denied command office at [] = None
 first_denied command office at (entry ∷ entries) =
@@ -107,7 +107,7 @@ abbrev pub bad_list : ListFault → Refusal
 bad_list (list.Bad at cause) = BadRecord at cause
 bad_list list.OutOfMemory = OutOfMemory
 
--- the refusal of a list: for its first bad record, and if there is none for the first whose command is refused
+-- the refusal of a list: for its first bad record or, if no record is bad, for the first whose command is refused
 abbrev pub list_refusal : EntryCommand → Office → List ℕ → Option Refusal
 list_refusal command office bytes =
     option_map_or (λ fault. Some (bad_list fault)) (list_fault command.form (records_of bytes))
@@ -156,11 +156,11 @@ is_same_kind Choices Choices = true
 is_same_kind Grades Grades = true
 is_same_kind _ _ = false
 
--- this is the stored list
+-- the stored list has this kind and these bytes
 abbrev pub is_same_import : StoredImport → ListKind → List ℕ → Bool
 is_same_import kept kind bytes = is_same_kind kept.kind kind && text_eq kept.bytes bytes
 
--- a check that refuses for this, if there is a refusal
+-- one check, which refuses with this refusal, or no check if there is no refusal
 abbrev pub check_of : Option Refusal → List Check
 check_of None = []
 check_of (Some refusal) = (true, refusal) ∷ []
@@ -190,7 +190,7 @@ keeping office label kind bytes =
           (record { kind = kind; bytes = bytes; count = record_count bytes });
     }
 
--- by cases of the list stored under the label
+-- the checks, by whether a list is stored under the label
 abbrev pub checks_where : Option StoredImport → Office → ListKind → List ℕ → List Check
 checks_where (Some kept) office kind bytes = known_label_checks kept kind bytes
 checks_where None office kind bytes = new_label_checks office kind bytes

@@ -43,7 +43,7 @@ swaps = filter (λ move. is_swap move.wave)
 abbrev pub departures : List Move → List Move
 departures = filter (λ move. not (is_some move.to))
 
--- the moves of those who leave before anybody arrives
+-- the moves of those who leave their rooms before anybody arrives
 abbrev pub first_out : List Move → List Move
 first_out moves = departures moves ++ swaps moves
 
@@ -51,9 +51,11 @@ first_out moves = departures moves ++ swaps moves
 abbrev pub arriving : Move → Change
 arriving move = PutHome move.person move.to
 
--- First those who move into no room leave, then those who swap. Then everybody arrives, in the order of the list for the day of
--- moving: anyone who lives where somebody of a later wave arrives has moved by then, so that no room is ever the home of two
--- people. The arrival of those who move into no room changes nothing.
+-- First those who move into no room leave their rooms, then those who swap leave theirs. Then everybody arrives, in the
+-- order of the list for the day of moving. When somebody arrives in a room, the old tenant, if there was one, has
+-- already left it. So no room is ever the home of two people. The arrival of those who move into no room changes
+-- nothing. Then the moves are recorded, the round's lists, withdrawals, leavers, words and results are cleared, and the
+-- phase becomes `Idle`.
 abbrev pub changes_of : Office → List Change
 changes_of office =
     map leaving (first_out (settled_moves office))

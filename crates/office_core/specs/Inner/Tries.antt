@@ -17,7 +17,7 @@ use Rattle.office_core.specs.declared.command.import.register.Register.{Register
 use Rattle.office_core.specs.declared.refusal.Refusal.{Refusal}
 use Rattle.office_core.specs.declared.refusal.Refusal.TheVariants.{BadRecord, OutOfMemory}
 
--- the refusal of the list for its record `at`, whose command has this refusal; `OutOfMemory` is unchanged
+-- the refusal of a list if the office refuses the command of record `at` with this refusal; `OutOfMemory` is unchanged
 abbrev pub denial_of : ℕ → Refusal → Refusal
 denial_of at refusal =
     if is_out_of_memory refusal then OutOfMemory else BadRecord at (Denied (number_of refusal))
@@ -53,7 +53,7 @@ pub record IsIndexed (register : Register) : Type 0 where
   pub keys : HasKeys register.people register.keys
   pub homes : HasHomes register.people register.tenants
 
--- the tenants of rooms after a person is added, who may have a home
+-- the tenants of rooms after a person with this home, or without one, is added
 abbrev pub placed : TextMap Text → Option Text → Text → TextMap Text
 placed tenants None person = tenants
 placed tenants (Some room) person = map.insert tenants room person

@@ -7,8 +7,8 @@ use Rattle.office_core.specs.declared.refusal.Refusal.TheVariants.{OutOfMemory}
 use Rattle.office_core.specs.declared.reply.Reply.{Reply}
 use Rattle.office_core.specs.declared.reply.Reply.TheVariants as reply
 
--- Whether returning the answer needs memory: for the room that a refusal names, and for every reply except that of `Round`, and
--- those of `Rooms`, `People`, `Order`, `Results` and `Moves` without rows.
+-- Whether returning the answer needs memory. A refusal needs memory exactly if it names a room. Every reply needs
+-- memory except that of `Round`, and those of `Rooms`, `People`, `Order`, `Results` and `Moves` that have no rows.
 abbrev pub reply_allocates : Result Reply Refusal → Bool
 reply_allocates (Ok (reply.Round number phase people withdrawn going)) = false
 reply_allocates (Ok (reply.Rooms rows)) = not (is_empty rows)

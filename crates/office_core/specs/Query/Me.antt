@@ -30,12 +30,12 @@ standing_of office person kept = record {
   result = shown_result office person;
 }
 
--- the answer for the person with this identifier, if known
+-- the answer for the person with this identifier, or the refusal if the person is unknown
 abbrev pub person_answer : Office → Text → Option Person → Result Reply Refusal
 person_answer office person None = Err UnknownPerson
 person_answer office person (Some kept) = Ok (reply.Me (standing_of office person kept))
 
--- the answer for the owner of a key, if it has one
+-- the answer for the owner of a key, or the refusal if the key has no owner
 abbrev pub owner_answer : Office → Option Text → Result Reply Refusal
 owner_answer office None = Err UnknownPerson
 owner_answer office (Some person) = person_answer office person (map.get office.people person)

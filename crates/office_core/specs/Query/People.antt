@@ -1,4 +1,4 @@
--- The people by identifier, each with the home.
+-- The people by identifier, each with the name and the home.
 use Rattle.std.specs.Prelude.{List, Result, Ok, map}
 use Rattle.std.specs.FinMap as maps
 use Rattle.room_types.specs.Texts.{Text}

@@ -1,4 +1,5 @@
--- The number and phase of the round, and how many people there are, have withdrawn and leave the college.
+-- The number of the latest round (0 before the first), the phase, and three counts: all people, those who have
+-- withdrawn, and those who leave the college.
 use Rattle.std.specs.Prelude.{Result, Ok}
 use Rattle.std.specs.FinMap as map
 use Rattle.office_state.specs.declared.office.Office.{Office}

@@ -16,9 +16,9 @@ use std::alloc::Global;
 ///
 /// # Errors
 ///
-/// The first that applies of: `BadPhase` unless idle or open; `DuplicatePerson`; `KeyInUse`; `UnknownRoom`, `RoomShut`
-/// or `RoomTaken` for the home, if there is one; `LimitReached` at `PEOPLE_LIMIT` people. `OutOfMemory` if an
-/// allocation fails.
+/// The first of these that applies: `BadPhase` unless idle or open; `DuplicatePerson`; `KeyInUse`; `UnknownRoom`,
+/// `RoomShut` or `RoomTaken` for the home, if there is one; `LimitReached` at `PEOPLE_LIMIT` people. `OutOfMemory` if
+/// an allocation fails.
 pub fn add_person(
     alloc: Global,
     office: &Office,

@@ -32,8 +32,8 @@ use crate::refusal::Refusal;
 use office_state::Office;
 use std::alloc::Global;
 
-/// Decides a command. Changes nothing by itself: to carry the command out, apply the changes of the decision in order,
-/// each with `apply`. This preserves the invariants of the office.
+/// Decides a command. Does not change the office. To carry the command out, apply the changes of the decision in order,
+/// each with `apply`. Applying them all preserves the invariants of the office.
 ///
 /// # Errors
 ///

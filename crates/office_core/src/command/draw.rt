@@ -11,13 +11,13 @@ use office_state::{Change, Office};
 use room_types::{OutOfMemory, PersonId, Phase, Word};
 use std::alloc::Global;
 
-/// Decides to give word i to participant i, in ascending order of identifier.
+/// Decides to give each participant a lottery number: the first word to the first participant by identifier, and so on.
 ///
 /// # Errors
 ///
-/// The first that applies of: `BadPhase` unless closed; `WrongWordCount` unless there is one word for each participant.
-/// `OutOfMemory` if an allocation fails.
-#[tactic(auto, using(crate::proofs::commands::Changes::commands_has_last))]
+/// The first of these that applies: `BadPhase` unless closed; `WrongWordCount` unless there is one word for each
+/// participant. `OutOfMemory` if an allocation fails.
+#[tactic(auto, using(crate::proofs::commands::Changes::has_last))]
 pub fn draw(alloc: Global, office: &Office, words: &[Word]) -> Result<Decision, Refusal>
     ensures { IsDecided (checks office.now words.now) (reply_to office.now words.now)
         (changes_of office.now words.now) result }
@@ -43,7 +43,7 @@ pub fn draw(alloc: Global, office: &Office, words: &[Word]) -> Result<Decision, 
 }
 
 // Returns a change for each word.
-#[tactic(auto, using(crate::proofs::commands::Words::commands_word_changes_more))]
+#[tactic(auto, using(crate::proofs::commands::Words::word_changes_more))]
 fn word_changes(
     alloc: Global,
     people: &[PersonId],

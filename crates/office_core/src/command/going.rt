@@ -10,13 +10,13 @@ use office_state::{Change, Office};
 use room_types::PersonId;
 use std::alloc::Global;
 
-/// Decides to record that a person leaves the college after the round and gives away the room. A repeat changes
-/// nothing.
+/// Decides to record that a person leaves the college after the round. The round trades their room as a vacant one. A
+/// repeat changes nothing.
 ///
 /// # Errors
 ///
-/// The first that applies of: `BadPhase` unless open; `UnknownPerson`; `Withdrawn`; `NoHome`, unless this is a repeat.
-/// `OutOfMemory` if an allocation fails; never for a repeat.
+/// The first of these that applies: `BadPhase` unless open; `UnknownPerson`; `Withdrawn`; `NoHome`, unless this is a
+/// repeat. `OutOfMemory` if an allocation fails; never for a repeat.
 pub fn going(alloc: Global, office: &Office, person: &PersonId) -> Result<Decision, Refusal>
     ensures { IsDecided (checks office.now person.now) (reply_to office.now person.now)
         (changes_of office.now person.now) result }

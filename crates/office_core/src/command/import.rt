@@ -34,7 +34,7 @@ use std::alloc::Global;
 ///
 /// # Errors
 ///
-/// `ListDiffers` if a different list is stored under the label. Under a new label, the first that applies of:
+/// `ListDiffers` if a different list is stored under the label. Under a new label, the first of these that applies:
 /// `BadPhase` unless idle or open, and for choices unless open; `LimitReached` at `LABEL_LIMIT` stored lists, and for
 /// more than `BYTE_LIMIT` bytes; `BadRecord` for the first record that cannot be parsed; if every record can be parsed,
 /// `BadRecord` for the first whose own command the office refuses. `OutOfMemory` if an allocation fails; never if a
@@ -128,7 +128,7 @@ fn may_import(kind: ListKind, phase: Phase) -> bool
 }
 
 // Returns a change for each record of the list.
-#[tactic(auto, using(crate::proofs::imports::ListChecks::imports_as_many))]
+#[tactic(auto, using(crate::proofs::imports::ListChecks::as_many_changes))]
 fn record_changes(
     alloc: Global,
     office: &Office,

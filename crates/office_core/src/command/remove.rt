@@ -14,7 +14,8 @@ use std::alloc::Global;
 ///
 /// # Errors
 ///
-/// The first that applies of: `BadPhase` unless idle; `UnknownPerson`; `HasHome`. `OutOfMemory` if an allocation fails.
+/// The first of these that applies: `BadPhase` unless idle; `UnknownPerson`; `HasHome`. `OutOfMemory` if an allocation
+/// fails.
 pub fn remove(alloc: Global, office: &Office, person: &PersonId) -> Result<Decision, Refusal>
     ensures { IsDecided (checks office.now person.now) (reply_to office.now person.now)
         (changes_of office.now person.now) result }

@@ -22,7 +22,7 @@ use std::alloc::Global;
 /// # Errors
 ///
 /// `BadPhase` unless drawn; `OutOfMemory` if an allocation fails.
-#[tactic(auto, using(crate::proofs::commands::Changes::commands_has_last))]
+#[tactic(auto, using(crate::proofs::commands::Changes::has_last))]
 pub fn run(alloc: Global, office: &Office) -> Result<Decision, Refusal>
     requires { IsLawful office.now }
     ensures { IsDecided (checks office.now) (reply_to office.now) (changes_of office.now) result }

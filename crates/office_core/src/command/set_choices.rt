@@ -18,8 +18,8 @@ use std::alloc::Global;
 ///
 /// # Errors
 ///
-/// The first that applies of: `BadPhase` unless open; `UnknownPerson`; `Withdrawn`; `Going`; `UnknownRoom` or `RoomShut` for the
-/// first room that is not known or is shut. `OutOfMemory` if an allocation fails.
+/// The first of these that applies: `BadPhase` unless open; `UnknownPerson`; `Withdrawn`; `Going`; `UnknownRoom` or
+/// `RoomShut` for the first room that is not known or is shut. `OutOfMemory` if an allocation fails.
 pub fn set_choices(
     alloc: Global,
     office: &Office,

@@ -15,7 +15,8 @@ use std::alloc::Global;
 ///
 /// # Errors
 ///
-/// The first that applies of: `BadPhase` unless idle or open; `UnknownPerson`. `OutOfMemory` if an allocation fails.
+/// The first of these that applies: `BadPhase` unless idle or open; `UnknownPerson`. `OutOfMemory` if an allocation
+/// fails.
 pub fn set_grade(
     alloc: Global,
     office: &Office,

@@ -15,8 +15,8 @@ use std::alloc::Global;
 ///
 /// # Errors
 ///
-/// The first that applies of: `BadPhase` unless idle; `UnknownPerson`; `HasHome`; `UnknownRoom`; `RoomShut`; `RoomTaken`.
-/// `OutOfMemory` if an allocation fails.
+/// The first of these that applies: `BadPhase` unless idle; `UnknownPerson`; `HasHome`; `UnknownRoom`; `RoomShut`;
+/// `RoomTaken`. `OutOfMemory` if an allocation fails.
 pub fn set_home(
     alloc: Global,
     office: &Office,

@@ -26,7 +26,7 @@ use std::alloc::Global;
 /// # Errors
 ///
 /// `BadPhase` unless published; `OutOfMemory` if an allocation fails.
-#[tactic(auto, using(crate::proofs::commands::Changes::commands_has_last))]
+#[tactic(auto, using(crate::proofs::commands::Changes::has_last))]
 pub fn settle(alloc: Global, office: &Office) -> Result<Decision, Refusal>
     requires { IsLawful office.now }
     ensures { IsDecided (checks office.now) (reply_to office.now) (changes_of office.now) result }
@@ -69,7 +69,7 @@ fn settled_moves(alloc: Global, office: &Office) -> Result<Vec<Move>, OutOfMemor
 }
 
 // Returns the moves of these relocations, with these waves.
-#[tactic(auto, using(crate::proofs::settlements::Recorded::settlements_moves_with_more))]
+#[tactic(auto, using(crate::proofs::settlements::Recorded::moves_with_more))]
 fn moves_with(
     alloc: Global,
     round: u16,
@@ -102,7 +102,7 @@ fn push_first_out(changes: &mut Vec<Change>, moves: &[Move]) -> Result<(), OutOf
 }
 
 // Appends, for each person who moves into no room, a change by which that person leaves the old room.
-#[tactic(auto, using(crate::proofs::settlements::Recorded::settlements_departures_more))]
+#[tactic(auto, using(crate::proofs::settlements::Recorded::departures_more))]
 fn push_departures(changes: &mut Vec<Change>, moves: &[Move]) -> Result<(), OutOfMemory>
     ensures { OnOk result (changes.new.items ≡ changes.old.items
         ++ map_list leaving (departures moves.now)) }
@@ -117,7 +117,7 @@ fn push_departures(changes: &mut Vec<Change>, moves: &[Move]) -> Result<(), OutO
 }
 
 // Appends, for each person who swaps, a change by which that person leaves the old room.
-#[tactic(auto, using(crate::proofs::settlements::Recorded::settlements_swaps_more))]
+#[tactic(auto, using(crate::proofs::settlements::Recorded::swaps_more))]
 fn push_swaps(changes: &mut Vec<Change>, moves: &[Move]) -> Result<(), OutOfMemory>
     ensures { OnOk result (changes.new.items ≡ changes.old.items
         ++ map_list leaving (swaps moves.now)) }

@@ -15,8 +15,9 @@ use std::alloc::Global;
 ///
 /// # Errors
 ///
-/// The first that applies of: `BadPhase` unless idle or open; `UnknownRoom`; `RoomShut`. `OutOfMemory` if an allocation fails.
-#[tactic(auto, using(crate::proofs::commands::Changes::commands_has_last))]
+/// The first of these that applies: `BadPhase` unless idle or open; `UnknownRoom`; `RoomShut`. `OutOfMemory` if an
+/// allocation fails.
+#[tactic(auto, using(crate::proofs::commands::Changes::has_last))]
 pub fn shut(alloc: Global, office: &Office, room: &RoomCode) -> Result<Decision, Refusal>
     ensures { IsDecided (checks office.now room.now) (reply_to office.now room.now)
         (changes_of office.now room.now) result }

@@ -14,8 +14,8 @@ use std::alloc::Global;
 ///
 /// # Errors
 ///
-/// The first that applies of: `BadPhase` unless open; `UnknownPerson`; `Going`. `OutOfMemory` if an allocation fails; never for a
-/// repeat.
+/// The first of these that applies: `BadPhase` unless open; `UnknownPerson`; `Going`. `OutOfMemory` if an allocation
+/// fails; never for a repeat.
 pub fn withdraw(alloc: Global, office: &Office, person: &PersonId) -> Result<Decision, Refusal>
     ensures { IsDecided (checks office.now person.now) (reply_to office.now person.now)
         (changes_of office.now person.now) result }

@@ -28,9 +28,9 @@ use std::alloc::Global;
 /// `BadPhase` for `Order` before the draw, and for `Results` and `WhatIf` before the run; `NoSuchRound` for the moves
 /// of a round that is not over; `UnknownPerson` for a key or an identifier that nobody has; `NotInRound` for `WhatIf`
 /// of somebody who has withdrawn or leaves the college; for `WhatIf`, `UnknownRoom` or `RoomShut` for the first room on
-/// its list that is unknown or shut. `OutOfMemory` only for the code in a refusal, and for a reply that needs memory.
-/// Every reply needs memory except that of `Round`, and those of `Rooms`, `People`, `Order`, `Results` and `Moves` that
-/// have no rows.
+/// its list that is unknown or shut. `OutOfMemory` only where memory is needed: to copy the room's code into
+/// `UnknownRoom` or `RoomShut`, or for the reply. Every reply needs memory except that of `Round`, and those of
+/// `Rooms`, `People`, `Order`, `Results` and `Moves` that have no rows.
 pub fn answer(alloc: Global, office: &Office, query: &Query) -> Result<Reply, Refusal>
     requires { IsLawful office.now }
     ensures returned { IsAnswered (returned office.now query.now) result }

@@ -15,7 +15,7 @@ use std::alloc::Global;
 ///
 /// # Errors
 ///
-/// `NoSuchRound` unless the round is over; `OutOfMemory` only if it is over and has moves.
+/// `NoSuchRound` unless the round is over. Otherwise, `OutOfMemory` if an allocation fails; never without moves.
 pub fn moves(alloc: Global, office: &Office, round: u16) -> Result<Reply, Refusal>
     ensures { IsAnswered (returned office.now round) result }
 {

@@ -17,7 +17,7 @@ use std::alloc::Global;
 ///
 /// `BadPhase` unless lottery numbers are drawn. Otherwise, `OutOfMemory` if an allocation fails; never without
 /// participants.
-#[tactic(auto, using(crate::proofs::reply_rows::Listings::reply_rows_some_ordered))]
+#[tactic(auto, using(crate::proofs::reply_rows::Listings::some_ordered))]
 pub fn order(alloc: Global, office: &Office) -> Result<Reply, Refusal>
     ensures { IsAnswered (returned office.now) result }
 {

@@ -13,7 +13,7 @@ use std::alloc::Global;
 ///
 /// # Errors
 ///
-/// `OutOfMemory`, only if there are people.
+/// `OutOfMemory` if an allocation fails; never without people.
 pub fn people(alloc: Global, office: &Office) -> Result<Reply, Refusal>
     ensures { IsAnswered (returned office.now) result }
 {

@@ -14,8 +14,8 @@ use std::alloc::Global;
 ///
 /// # Errors
 ///
-/// `OutOfMemory`, only if there are rooms.
-#[tactic(auto, using(crate::proofs::reply_rows::Listings::reply_rows_no_rows, crate::proofs::reply_rows::Listings::reply_rows_some_rows))]
+/// `OutOfMemory` if an allocation fails; never without rooms.
+#[tactic(auto, using(crate::proofs::reply_rows::Listings::no_rows, crate::proofs::reply_rows::Listings::some_rows))]
 pub fn rooms(alloc: Global, office: &Office) -> Result<Reply, Refusal>
     ensures { IsAnswered (returned office.now) result }
 {

@@ -6,8 +6,8 @@ use crate::refusal::Refusal;
 use crate::reply::Reply;
 use office_state::Office;
 
-/// Returns the number of the last round, the phase, and three counts: all people, those who have withdrawn, and those
-/// who leave the college. Never fails; does not allocate.
+/// Returns the number of the latest round (0 before the first), the phase, and three counts: all people, those who have
+/// withdrawn, and those who leave the college. Never fails; does not allocate.
 pub fn round(office: &Office) -> Result<Reply, Refusal>
     ensures { result ≡ returned office.now }
 {

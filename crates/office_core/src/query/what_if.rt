@@ -19,9 +19,9 @@ use std::alloc::Global;
 ///
 /// # Errors
 ///
-/// The first that applies of: `BadPhase` unless the round has run; `UnknownPerson`; `NotInRound`; `UnknownRoom` or
-/// `RoomShut` for the first room on the list that is unknown or shut. `OutOfMemory` if an allocation fails; it never
-/// takes the place of `BadPhase`, `UnknownPerson` or `NotInRound`.
+/// The first of these that applies: `BadPhase` unless the round has run; `UnknownPerson`; `NotInRound`; `UnknownRoom`
+/// or `RoomShut` for the first room on the list that is unknown or shut. `OutOfMemory` if an allocation fails; it
+/// never takes the place of `BadPhase`, `UnknownPerson` or `NotInRound`.
 pub fn what_if(
     alloc: Global,
     office: &Office,

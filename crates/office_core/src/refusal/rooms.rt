@@ -1,5 +1,5 @@
-//! Checks that a room may be on a list or be a home. Each returns the first refusal that applies. If the code cannot be
-//! copied, `OutOfMemory` takes the place of `UnknownRoom` or `RoomShut`.
+//! Checks that a room may be on a list or be a home. Each function returns the first refusal that applies. If the
+//! room's code cannot be copied, `OutOfMemory` takes the place of `UnknownRoom` or `RoomShut`.
 ghost use Rattle.std.specs.List.{flat_map};
 ghost use Rattle.office_core.specs.Inner.Passes.{Passes};
 ghost use Rattle.office_core.specs.Refusal.Checks.{room_checks, home_checks, home_checks_if_any};

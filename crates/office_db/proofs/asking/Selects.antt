@@ -24,26 +24,26 @@ abbrev pub SelectsOnly : Checked Parsed → Type 0
 SelectsOnly (Ok p) = IsSelectOnly p.statement
 SelectsOnly (Err e) = Unit {0}
 
-asking-none : (schema : Schema) (base : ℕ) (statement : Statement) → IsSelectOnly statement → returning schema base statement ≡ Ok None
+select_without_returning : (schema : Schema) (base : ℕ) (statement : Statement) → IsSelectOnly statement → returning schema base statement ≡ Ok None
 unfolding returning
-asking-none schema base (written.Select s) only = refl
-asking-none schema base written.Empty only = absurd only
-asking-none schema base (written.Insert how name columns rows clauses shown) only = absurd only
-asking-none schema base (written.Update name sets test shown) only = absurd only
-asking-none schema base (written.Delete name test shown) only = absurd only
-asking-none schema base (written.Pragma name value) only = absurd only
-asking-none schema base (written.CreateTable def) only = absurd only
-asking-none schema base (written.CreateIndex def) only = absurd only
-asking-none schema base (written.CreateView if_missing name columns s) only = absurd only
-asking-none schema base (written.DropTable if_exists name) only = absurd only
-asking-none schema base (written.DropIndex if_exists name) only = absurd only
-asking-none schema base (written.DropView if_exists name) only = absurd only
-asking-none schema base written.Begin only = absurd only
-asking-none schema base written.Commit only = absurd only
-asking-none schema base written.Rollback only = absurd only
-asking-none schema base (written.Savepoint name) only = absurd only
-asking-none schema base (written.Release name) only = absurd only
-asking-none schema base (written.RollbackTo name) only = absurd only
+select_without_returning schema base (written.Select s) only = refl
+select_without_returning schema base written.Empty only = absurd only
+select_without_returning schema base (written.Insert how name columns rows clauses shown) only = absurd only
+select_without_returning schema base (written.Update name sets test shown) only = absurd only
+select_without_returning schema base (written.Delete name test shown) only = absurd only
+select_without_returning schema base (written.Pragma name value) only = absurd only
+select_without_returning schema base (written.CreateTable def) only = absurd only
+select_without_returning schema base (written.CreateIndex def) only = absurd only
+select_without_returning schema base (written.CreateView if_missing name columns s) only = absurd only
+select_without_returning schema base (written.DropTable if_exists name) only = absurd only
+select_without_returning schema base (written.DropIndex if_exists name) only = absurd only
+select_without_returning schema base (written.DropView if_exists name) only = absurd only
+select_without_returning schema base written.Begin only = absurd only
+select_without_returning schema base written.Commit only = absurd only
+select_without_returning schema base written.Rollback only = absurd only
+select_without_returning schema base (written.Savepoint name) only = absurd only
+select_without_returning schema base (written.Release name) only = absurd only
+select_without_returning schema base (written.RollbackTo name) only = absurd only
 
 -- the compiled statement of a parsed one, from what it shows and its command
 abbrev compiled_from : List (List ℕ) → Parsed → Checked (Option Returning) → Checked Command → Checked Compiled
@@ -60,21 +60,21 @@ parsed schema (Err e) only = tt
 parsed schema (Ok p) only =
     let formats = timed schema p.formats p.statement in
     let base = small p.names + small formats in
-    subst (λ shown. NeverReturns (compiled_from formats p shown (command schema p.formats base p.statement))) (sym (asking-none schema base p.statement only))
+    subst (λ shown. NeverReturns (compiled_from formats p shown (command schema p.formats base p.statement))) (sym (select_without_returning schema base p.statement only))
     (from formats p (command schema p.formats base p.statement))
 
-asking-compiled : (schema : Schema) (text : List ℕ) → SelectsOnly (first text) → NeverReturns (compiled schema text)
+select_never_returns : (schema : Schema) (text : List ℕ) → SelectsOnly (first text) → NeverReturns (compiled schema text)
 unfolding compiled
-asking-compiled schema text only = parsed schema (first text) only
+select_never_returns schema text only = parsed schema (first text) only
 
 selected : (r : Result Compiled CompileError) → NeverReturns r → NeverReturns (if_select r)
 selected (Ok c) never = elim (is_select c.command) as (λ b. NeverReturns (if b then Ok c else Err NoSuchTable)) [ true ↦ never | false ↦ tt ]
 selected (Err e) never = tt
 
-pub asking-only : (text : List ℕ) → SelectsOnly (first text) → OnlyAsks text
+pub selects_only_ask : (text : List ℕ) → SelectsOnly (first text) → OnlyAsks text
 unfolding understood
-asking-only text only schema =
+selects_only_ask text only schema =
     elim (reads_listing schema text) as (λ b. NeverReturns (if b then if_select (compiled listing_schema text) else compiled schema text)) [
-      | true ↦ selected _ (asking-compiled listing_schema text only)
-      | false ↦ asking-compiled schema text only
+      | true ↦ selected _ (select_never_returns listing_schema text only)
+      | false ↦ select_never_returns schema text only
     ]

@@ -16,7 +16,7 @@ use Rattle.room_types.specs.Texts.{Text, TextMap, text_cmp, text_eq}
 use Rattle.room_types.specs.declared.kinds.ListKind.{ListKind}
 use Rattle.room_types.specs.declared.moves.Move.{Move}
 use Rattle.room_types.specs.declared.phase.Phase.{Phase}
-use Rattle.room_types.proofs.maps.Trees.{maps-entries-empty}
+use Rattle.room_types.proofs.maps.Trees.{entries-empty}
 use Rattle.room_types.proofs.options.Options.{none_if_not_some, some_of}
 use Rattle.office_state.specs.Change as changes
 use Rattle.office_state.specs.Change.{applied}
@@ -326,11 +326,11 @@ round_cleared office = let still = alike-refl (rows_of office) in record {
   rooms = still.rooms;
   people = IsPermutation-same _ _ (unmarked office.people office.withdrawn);
   rounds = still.rounds;
-  choices = IsPermutation-same _ _ (ap (flat_map list_rows) (maps-entries-empty nat_list_cmp_total));
-  words = IsPermutation-same _ _ (maps-entries-empty nat_list_cmp_total);
-  results = IsPermutation-same _ _ (maps-entries-empty nat_list_cmp_total);
+  choices = IsPermutation-same _ _ (ap (flat_map list_rows) (entries-empty nat_list_cmp_total));
+  words = IsPermutation-same _ _ (entries-empty nat_list_cmp_total);
+  results = IsPermutation-same _ _ (entries-empty nat_list_cmp_total);
   moves = still.moves;
   lists = still.lists;
   grades = still.grades;
-  going = IsPermutation-same _ _ (ap (map (λ (e : Text × Unit {0}). e.0)) (maps-entries-empty nat_list_cmp_total));
+  going = IsPermutation-same _ _ (ap (map (λ (e : Text × Unit {0}). e.0)) (entries-empty nat_list_cmp_total));
 }

@@ -18,7 +18,7 @@ use Rattle.sqlite_keyed.specs.Lists.{update_where, delete_where}
 use Rattle.sqlite_keyed.proofs.ListLemmas.{filter_all, filter_none}
 use Rattle.room_types.specs.Texts.{Text, TextMap, text_cmp}
 use Rattle.room_types.proofs.maps.TextMaps.{exact_texts, first_holds, second_holds, less_from_test}
-use Rattle.room_types.proofs.maps.Entries.{key_after, maps-none_below, maps-below_less}
+use Rattle.room_types.proofs.maps.Entries.{key_after, none_below, below_less}
 
 earlier : (k x : Text) → text_cmp k x ≡ Greater → eq_by_cmp text_cmp x k ≡ false
 earlier k x e = ap is_eq (nat_list_cmp_total.antisymm x k ∙ ap ordering_reverse e)
@@ -106,7 +106,7 @@ module _ {X Row : Type 0} (rows : Text × X → List Row) (key : Row → Text)
             let kept : delete_where mine (rows e ++ flat_map rows es) ≡ rows e ++ flat_map rows es =
             stays e es (key_after nat_list_cmp_total k e.0 c)
             ∙ ap (λ l. rows e ++ l)
-            (kept_later es (maps-below_less nat_list_cmp_total k e.0 es c (first_holds _ _ s))) in
+            (kept_later es (below_less nat_list_cmp_total k e.0 es c (first_holds _ _ s))) in
             subst (λ l. IsPermutation (rows (k, v) ++ (rows e ++ flat_map rows es)) (rows (k, v) ++ l)) (sym kept)
             (IsPermutation-refl _)
         | Equal ↦ λ c.
@@ -209,8 +209,8 @@ module _ {X Row : Type 0} (row : Text × X → Row) (key : Row → Text) (keyed 
       subst (λ l. IsPermutation (map row (maps.entries (maps.insert m k v))) (row (k, v) ∷ l)) kept (row_put m v)
 
   module _ (f : Row → Row) where
-    changed_rows-other : (e : Text × X) → eq_by_cmp text_cmp e.0 k ≡ false → cond (mine (row e)) (f (row e)) (row e) ≡ row e
-    changed_rows-other e differs =
+    other_key_unchanged : (e : Text × X) → eq_by_cmp text_cmp e.0 k ≡ false → cond (mine (row e)) (f (row e)) (row e) ≡ row e
+    other_key_unchanged e differs =
         ap (λ b. cond b (f (row e)) (row e)) (tells (row e) ∙ ap (λ q. eq_by_cmp text_cmp q k) (keyed e) ∙ differs)
 
     same_later : (es : List (Text × X)) → T (below_all text_cmp k es)
@@ -218,7 +218,7 @@ module _ {X Row : Type 0} (row : Text × X → Row) (key : Row → Text) (keyed 
     same_later [] b = refl
     same_later (e ∷ es) b =
         ap₂ (λ r rs. r ∷ rs)
-        (changed_rows-other e (key_after nat_list_cmp_total k e.0 (less_from_test _ (first_holds _ _ b))))
+        (other_key_unchanged e (key_after nat_list_cmp_total k e.0 (less_from_test _ (first_holds _ _ b))))
         (same_later es (second_holds _ _ b))
 
     unchanged : (es : List (Text × X)) → find text_cmp k es ≡ None → update_where mine f (map row es) ≡ map row es
@@ -226,22 +226,22 @@ module _ {X Row : Type 0} (row : Text × X → Row) (key : Row → Text) (keyed 
     unchanged (e ∷ es) h =
         elim (text_cmp k e.0) as (λ o. text_cmp k e.0 ≡ o → cond (is_eq o) (Some e.1) (find text_cmp k es) ≡ None
         → cond (mine (row e)) (f (row e)) (row e) ∷ update_where mine f (map row es) ≡ row e ∷ map row es) [
-          | Less ↦ λ c m. ap₂ (λ r rs. r ∷ rs) (changed_rows-other e (key_after nat_list_cmp_total k e.0 c))
+          | Less ↦ λ c m. ap₂ (λ r rs. r ∷ rs) (other_key_unchanged e (key_after nat_list_cmp_total k e.0 c))
               (unchanged es m)
           | Equal ↦ λ c m. absurd (cc)
-          | Greater ↦ λ c m. ap₂ (λ r rs. r ∷ rs) (changed_rows-other e (earlier k e.0 c))
+          | Greater ↦ λ c m. ap₂ (λ r rs. r ∷ rs) (other_key_unchanged e (earlier k e.0 c))
               (unchanged es m)
         ] refl h
 
-    changed_rows-changed : (v kept : X) (es : List (Text × X)) → T (is_sorted text_cmp es) → find text_cmp k es ≡ Some kept
+    update_puts : (v kept : X) (es : List (Text × X)) → T (is_sorted text_cmp es) → find text_cmp k es ≡ Some kept
         → f (row (k, kept)) ≡ row (k, v) → update_where mine f (map row es) ≡ map row (put text_cmp k v es)
-    changed_rows-changed v kept [] s h to = absurd (cc)
-    changed_rows-changed v kept (e ∷ es) s h to =
+    update_puts v kept [] s h to = absurd (cc)
+    update_puts v kept (e ∷ es) s h to =
         elim (text_cmp k e.0) as (λ o. text_cmp k e.0 ≡ o → cond (is_eq o) (Some e.1) (find text_cmp k es) ≡ Some kept
         → cond (mine (row e)) (f (row e)) (row e) ∷ update_where mine f (map row es)
         ≡ map row (by_order o ((k, v) ∷ e ∷ es) ((e.0, v) ∷ es) (e ∷ put text_cmp k v es))) [
-          | Less ↦ λ c m. let none = maps-none_below text_cmp k es
-              (maps-below_less nat_list_cmp_total k e.0 es c (first_holds _ _ s)) in absurd (cc)
+          | Less ↦ λ c m. let none = none_below text_cmp k es
+              (below_less nat_list_cmp_total k e.0 es c (first_holds _ _ s)) in absurd (cc)
           | Equal ↦ λ c m.
               let same : k ≡ e.0 = exact_texts k e.0 c in
               let value : e.1 ≡ kept = cc in
@@ -253,8 +253,8 @@ module _ {X Row : Type 0} (row : Text × X → Row) (key : Row → Text) (keyed 
               (first_holds _ _ s) in
               ap₂ (λ r rs. r ∷ rs) (ap (λ b. cond b (f (row e)) (row e)) hit ∙ from ∙ to ∙ ap (λ q. row (q, v)) same)
               (same_later es below)
-          | Greater ↦ λ c m. ap₂ (λ r rs. r ∷ rs) (changed_rows-other e (earlier k e.0 c))
-              (changed_rows-changed v kept es (second_holds _ _ s) m to)
+          | Greater ↦ λ c m. ap₂ (λ r rs. r ∷ rs) (other_key_unchanged e (earlier k e.0 c))
+              (update_puts v kept es (second_holds _ _ s) m to)
         ] refl h
 
     -- An unknown key has no row, and nothing changes.
@@ -267,4 +267,4 @@ module _ {X Row : Type 0} (row : Text × X → Row) (key : Row → Text) (keyed 
         → map row (maps.entries (maps.insert m k v)) ≡ update_where mine f (map row (maps.entries m))
     row_changed m v kept known to =
         ap (map row) (entries-insert nat_list_cmp_total m k v)
-        ∙ sym (changed_rows-changed v kept (maps.entries m) (entries_sorted m) (sym (get-entries m k) ∙ known) to)
+        ∙ sym (update_puts v kept (maps.entries m) (entries_sorted m) (sym (get-entries m k) ∙ known) to)

@@ -1,5 +1,5 @@
 -- A schema that passes the tests of a layout is declared as the tables of an office are.
-use Rattle.std.proofs.Common.{◌≡◌, ℕ, Bool, true, false, ◌&&◌, ◌==◌, List, [], ◌∷◌, ◌++◌, drop, length, map, take, zero, suc, Option, Some, None, if◌then◌else◌, refl, sym, ap, ap₂, ◌∙◌, subst, true≢false, arith}
+use Rattle.std.proofs.Common.{◌≡◌, ℕ, Bool, true, false, ◌&&◌, ◌==◌, List, [], ◌∷◌, ◌++◌, drop, length, map, slice_get, take, zero, suc, Option, Some, None, if◌then◌else◌, refl, sym, ap, ap₂, ◌∙◌, subst, true≢false, arith}
 use Rattle.std.specs.List.{AllByRecursion}
 use Rattle.std.specs.Prelude.{bytes_eq, nat_le}
 use Rattle.std.proofs.lemmas.List.{take-append-drop}
@@ -14,9 +14,10 @@ use Rattle.office_db.specs.loading.Finding.{AreDeclared, IsDeclaredAs, names_rou
 use Rattle.office_db.specs.loading.FirstTables.{Begins, BeginsOffice, are_first, begins_with, begins_office, index_count}
 use Rattle.office_db.specs.loading.Layout.{has_indexes, has_tables, is_this_index, is_this_table, is_laid_out, layout_in, name_and_tree, pass_all}
 use Rattle.office_schema.specs.tables.Layouts.{schema_of, table_count}
-use Rattle.office_schema.specs.tables.Schema.{room, person, round}
+use Rattle.office_schema.specs.tables.Schema.{office_schema, room, person, round, move, list, grade, word, result, choice, going}
 use Rattle.office_schema.specs.declared.tables.layouts.Layout.{Layout}
 use Rattle.office_schema.specs.declared.tables.layouts.Layout.TheVariants.{Own, Documented, DocumentedSecond, DocumentedFirst, EarlierFirst}
+use Rattle.sqlite_trees.proofs.ListLemmas.{all-slice_get}
 
 abbrev AreAsDeclared : List Table → List Table → Type 0
 AreAsDeclared owns tables = AllByRecursion (λ own. AllByRecursion (IsDeclaredAs own) tables) owns
@@ -70,17 +71,25 @@ none_if : {A : Type 0} (xs : List A) → (length xs == 0) ≡ true → xs ≡ []
 none_if [] e = refl
 none_if (x ∷ xs) e = absurd (omega (arith, eqb-true (length (x ∷ xs)) 0 e))
 
+declared_at : (schema : Schema) → AreDeclared schema → (i : ℕ) (own : Table) → slice_get office_schema.tables i ≡ Some own
+    → AllByRecursion (IsDeclaredAs own) schema.tables
+declared_at schema d i own is = all-slice_get (λ (x : Table). AllByRecursion (IsDeclaredAs x) schema.tables) office_schema.tables i own is d
+
 -- in any tree and in any order
 all_declared : (layout : Layout) (schema : Schema) → AreDeclared schema → AreAsDeclared (schema_of layout).tables schema.tables
 all_declared Own schema d = d
 all_declared Documented schema d =
-    (d.0, (d.1.0, (d.1.1.0, (d.1.1.1.1.1.1.1.1.0, (d.1.1.1.1.1.1.0, (d.1.1.1.1.1.1.1.0, (d.1.1.1.0, (d.1.1.1.1.0, (d.1.1.1.1.1.0, (d.1.1.1.1.1.1.1.1.1.0, tt))))))))))
+    let at = declared_at schema d in
+    (at 0 (room 0) refl, (at 1 (person 2) refl, (at 2 (round 6) refl, (at 8 (choice 18) refl, (at 6 (word 13) refl, (at 7 (result 15) refl, (at 3 (move 7) refl, (at 4 (list 9) refl, (at 5 (grade 11) refl, (at 9 (going 21) refl, tt))))))))))
 all_declared DocumentedSecond schema d =
-    (d.0, (d.1.0, (d.1.1.0, (d.1.1.1.1.1.1.1.1.0, (d.1.1.1.1.1.1.0, (d.1.1.1.1.1.1.1.0, (d.1.1.1.0, (d.1.1.1.1.0, (d.1.1.1.1.1.0, tt)))))))))
+    let at = declared_at schema d in
+    (at 0 (room 0) refl, (at 1 (person 2) refl, (at 2 (round 6) refl, (at 8 (choice 18) refl, (at 6 (word 13) refl, (at 7 (result 15) refl, (at 3 (move 7) refl, (at 4 (list 9) refl, (at 5 (grade 11) refl, tt)))))))))
 all_declared DocumentedFirst schema d =
-    (d.0, (d.1.0, (d.1.1.0, (d.1.1.1.1.1.1.1.1.0, (d.1.1.1.1.1.1.0, (d.1.1.1.1.1.1.1.0, (d.1.1.1.0, (d.1.1.1.1.0, tt))))))))
+    let at = declared_at schema d in
+    (at 0 (room 0) refl, (at 1 (person 2) refl, (at 2 (round 6) refl, (at 8 (choice 18) refl, (at 6 (word 13) refl, (at 7 (result 15) refl, (at 3 (move 7) refl, (at 4 (list 9) refl, tt))))))))
 all_declared EarlierFirst schema d =
-    (d.0, (d.1.0, (d.1.1.0, (d.1.1.1.0, (d.1.1.1.1.0, (d.1.1.1.1.1.1.0, (d.1.1.1.1.1.1.1.0, (d.1.1.1.1.1.1.1.1.0, tt))))))))
+    let at = declared_at schema d in
+    (at 0 (room 0) refl, (at 1 (person 2) refl, (at 2 (round 6) refl, (at 3 (move 7) refl, (at 4 (list 9) refl, (at 6 (word 13) refl, (at 7 (result 15) refl, (at 8 (choice 18) refl, tt))))))))
 
 no_views : (layout : Layout) → (schema_of layout).views ≡ []
 no_views Own = refl
@@ -174,9 +183,9 @@ known_begins_office schema found =
     (laid_or (is_laid_out EarlierFirst schema) EarlierFirst found schema None (laid_begins_office EarlierFirst schema) (λ none. absurd (cc))))))
 
 -- Something has the name of table `round`.
-pub found_offices-names_round : (schema : Schema) → BeginsOffice schema → names_round schema ≡ true
+pub office_names_round : (schema : Schema) → BeginsOffice schema → names_round schema ≡ true
 unfolding same_name
-found_offices-names_round schema front =
+office_names_round schema front =
     let tables : room 0 ∷ person 2 ∷ round 6 ∷ drop 3 schema.tables ≡ schema.tables = ap (λ (ts : List Table). ts ++ drop 3 schema.tables) (sym front.tables) ∙ take-append-drop 3 schema.tables in
     subst (λ (ts : List Table). names_round (record schema { tables = ts }) ≡ true) tables refl
 

@@ -5,12 +5,12 @@ use Rattle.office_db.specs.loading.Layout.{pass_all}
 
 module _ {X Y : Type 0} (test : Y → X → Bool) where
   -- Lists of different lengths do not pass.
-  found_offices-uneven : (owns : List Y) (xs : List X) → length xs ≢ length owns → pass_all test owns xs ≡ false
-  found_offices-uneven [] [] uneven = absurd (uneven refl)
-  found_offices-uneven [] (x ∷ xs) uneven = refl
-  found_offices-uneven (own ∷ owns) [] uneven = refl
-  found_offices-uneven (own ∷ owns) (x ∷ xs) uneven =
-      ap (λ b. test own x && b) (found_offices-uneven owns xs (λ e. uneven (ap suc e))) ∙ never (test own x)
+  uneven_fail : (owns : List Y) (xs : List X) → length xs ≢ length owns → pass_all test owns xs ≡ false
+  uneven_fail [] [] uneven = absurd (uneven refl)
+  uneven_fail [] (x ∷ xs) uneven = refl
+  uneven_fail (own ∷ owns) [] uneven = refl
+  uneven_fail (own ∷ owns) (x ∷ xs) uneven =
+      ap (λ b. test own x && b) (uneven_fail owns xs (λ e. uneven (ap suc e))) ∙ never (test own x)
     where
       never : (b : Bool) → (b && false) ≡ false
       never true = refl
@@ -29,7 +29,7 @@ module _ {X Y : Type 0} (test : Y → X → Bool) where
 module _ {X Y O : Type 0} (f : O → Y) (test : Y → X → Bool) (owns : List O) (xs : List X) where
   -- The lengths are compared first.
   pub too_few : length xs ≢ length owns → pass_all test (map f owns) xs ≡ false
-  too_few uneven = found_offices-uneven test (map f owns) xs (λ e. uneven (e ∙ length-map owns f))
+  too_few uneven = uneven_fail test (map f owns) xs (λ e. uneven (e ∙ length-map owns f))
 
   module _ (i : ℕ) (d : O) (x : X) (even : length xs ≡ length owns) (low : i < length owns) (here : x ≡ get_or xs i x) where
     from_place : pass_all test (drop i (map f owns)) (drop i xs)

@@ -57,8 +57,8 @@ module _ (sql : List ℕ) (params : Row) (old new : State) where
       let none = subst NeverReturns h.1.is never in
       let it = subst (ShowsRows old new sql h.0 (timed params h.0.formats h.1.now) rows) none h.2 in it.3
 
-  found_offices-follows : (Commits : Trees → Type 0) → Survives old new Commits → (HasCleanDisk new → IsTrue new.is_open → IsTrue old.is_open) → Follows old new
-  found_offices-follows Commits survives was_open = record {
+  survivor_follows : (Commits : Trees → Type 0) → Survives old new Commits → (HasCleanDisk new → IsTrue new.is_open → IsTrue old.is_open) → Follows old new
+  survivor_follows Commits survives was_open = record {
     clean = λ h. omega (arith, h, survives.clean);
     was_open = was_open;
     counts = survives.counts;
@@ -70,7 +70,7 @@ module _ (sql : List ℕ) (params : Row) (old new : State) where
   pub reads_shown : (Commits : Trees → Type 0) → Survives old new Commits → (rows : List Row) → OnlyAsks sql
       → (HasCleanDisk new → Shown sql params old new rows) → OnlyReads old new
   reads_shown Commits survives rows asks h = record {
-    follows = found_offices-follows Commits survives (λ clean o. shown_was_open rows (h clean));
+    follows = survivor_follows Commits survives (λ clean o. shown_was_open rows (h clean));
     same = λ intact. (shown_unchanged rows (asks old.now.schema) (h intact.0)).0.now_is;
   }
 
@@ -78,6 +78,6 @@ module _ (sql : List ℕ) (params : Row) (old new : State) where
   pub reads_failed : (Commits : Trees → Type 0) → Survives old new Commits → (e : Error) → (IsTrue old.is_open → old.now ≡ old.committed)
       → (HasCleanDisk new → FailsToQuery sql params old new e) → OnlyReads old new
   reads_failed Commits survives e settled h = record {
-    follows = found_offices-follows Commits survives (λ clean o. (failed_stays e (h clean) o).0);
+    follows = survivor_follows Commits survives (λ clean o. (failed_stays e (h clean) o).0);
     same = λ intact. let stays = failed_stays e (h intact.0) intact.1 in stays.1 stays.0 (settled stays.0);
   }

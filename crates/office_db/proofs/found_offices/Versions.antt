@@ -26,9 +26,9 @@ module _ (db : Database) where
   one_round r (e ∷ f ∷ entries) same rows = absurd (omega (arith, length_permutation (r ∷ []) (map (λ (x : ℤ × RoundRecord). x.1) (e ∷ f ∷ entries)) same))
 
 -- The row of table `round` holds the version of the layout.
-pub found_offices-own_version : (layout : Layout) (db : Database) (office : Office) → HoldsOfficeIn layout db office → HoldsVersion db (pos (version_of layout))
+pub layout_states_version : (layout : Layout) (db : Database) (office : Office) → HoldsOfficeIn layout db office → HoldsVersion db (pos (version_of layout))
 unfolding rows_at
-found_offices-own_version layout db office h =
+layout_states_version layout db office h =
     one_round db (record { version = version_of layout; number = office.number; phase = office.phase }) h.rows.rounds.entries h.rows.rounds.same h.rows.rounds.rows_are
 
 -- The row of table `round` holds one version.

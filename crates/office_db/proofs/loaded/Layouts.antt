@@ -81,8 +81,8 @@ module _ {X : Type 0} (kept shown : X → Row) (IsForm : Row → Type 0) (projec
       let first : r ≡ stored kept (id_in (rowid r), x) = keeps r x whole.0 head ∙ ap (λ v. v ∷ kept x) (int_is _ keyed.0) in
       ((id_in (rowid r), x) ∷ more.0, ap₂ (λ (a : Row) l. a ∷ l) first more.1, ap (λ l. x ∷ l) more.2)
 
-  loaded-held : (rows : List Row) (records : List X) → AllByRecursion Whole rows → HaveRowids rows → ShowRecords shown IsForm project rows records → Holds kept rows records
-  loaded-held rows records whole numbered h =
+  shown_are_held : (rows : List Row) (records : List X) → AllByRecursion Whole rows → HaveRowids rows → ShowRecords shown IsForm project rows records → Holds kept rows records
+  shown_are_held rows records whole numbered h =
       let back = pull_back shown _ (map (listed project) rows) (IsPermutation-sym _ _ h.same) records refl in
       let found = entries_of rows back.0 whole numbered.keyed back.2 in
       record {
@@ -96,7 +96,7 @@ module _ {X : Type 0} (kept shown : X → Row) (IsForm : Row → Type 0) (projec
 held_if : {X : Type 0} (is_there : Bool) (columns : X → Row) (IsForm : Row → Type 0) (project : List Term) (Whole : Row → Type 0)
     → ((row : Row) (x : X) → Whole row → listed project row ≡ columns x → row ≡ rowid row ∷ columns x)
     → (rows : List Row) (records : List X) → AllIf is_there Whole rows → (is_there ≡ true → HaveRowids rows) → ShowIf is_there columns IsForm project rows records → HoldsIf is_there columns rows records
-held_if true columns IsForm project Whole keeps rows records whole numbered h = loaded-held columns columns IsForm project Whole keeps rows records whole (numbered refl) h
+held_if true columns IsForm project Whole keeps rows records whole numbered h = shown_are_held columns columns IsForm project Whole keeps rows records whole (numbered refl) h
 held_if false columns IsForm project Whole keeps rows records whole numbered h = h
 
 -- Where a layout has grades, or leavers, its number of tables includes theirs.
@@ -127,14 +127,14 @@ rows_held : (layout : Layout) (trees : Trees) (tables : Tables) → HasWholeRows
 rows_held layout trees tables laid numbers h =
     let eight = eight_tables layout in
     record {
-      rooms = loaded-held columns.room_columns columns.room_columns _ _ (IsWhole 2) (λ row x w e. three_cells row w ∙ ap (λ l. column row 0 ∷ l) e) _ _ laid.rooms (numbers 0 (omega (arith, eight))) h.rooms;
-      people = loaded-held columns.person_columns columns.person_columns _ _ (IsWhole 5) (λ row x w e. six_cells row w ∙ ap (λ l. column row 0 ∷ l) e) _ _ laid.people (numbers 1 (omega (arith, eight))) h.people;
-      rounds = loaded-held columns.round_columns columns.round_shown _ _ (λ row. IsWhole 4 row × (column row 1 ≡ Null)) (λ row x w e. five_cells row w.0 ∙ ap₂ (λ v l. column row 0 ∷ v ∷ l) w.1 e) _ _ laid.rounds (numbers 2 (omega (arith, eight))) h.rounds;
-      choices = loaded-held columns.choice_columns columns.choice_columns _ _ (IsWhole 3) (λ row x w e. four_cells row w ∙ ap (λ l. column row 0 ∷ l) e) _ _ laid.choices (numbers 3 (omega (arith, eight))) h.choices;
-      words = loaded-held columns.word_columns columns.word_columns _ _ (IsWhole 2) (λ row x w e. three_cells row w ∙ ap (λ l. column row 0 ∷ l) e) _ _ laid.words (numbers 4 (omega (arith, eight))) h.words;
-      results = loaded-held columns.result_columns columns.result_columns _ _ (IsWhole 2) (λ row x w e. three_cells row w ∙ ap (λ l. column row 0 ∷ l) e) _ _ laid.results (numbers 5 (omega (arith, eight))) h.results;
-      moves = loaded-held columns.move_columns columns.move_columns _ _ (IsWhole 5) (λ row x w e. six_cells row w ∙ ap (λ l. column row 0 ∷ l) e) _ _ laid.moves (numbers 6 (omega (arith, eight))) h.moves;
-      lists = loaded-held columns.list_columns columns.list_columns _ _ (IsWhole 4) (λ row x w e. five_cells row w ∙ ap (λ l. column row 0 ∷ l) e) _ _ laid.lists (numbers 7 (omega (arith, eight))) h.lists;
+      rooms = shown_are_held columns.room_columns columns.room_columns _ _ (IsWhole 2) (λ row x w e. three_cells row w ∙ ap (λ l. column row 0 ∷ l) e) _ _ laid.rooms (numbers 0 (omega (arith, eight))) h.rooms;
+      people = shown_are_held columns.person_columns columns.person_columns _ _ (IsWhole 5) (λ row x w e. six_cells row w ∙ ap (λ l. column row 0 ∷ l) e) _ _ laid.people (numbers 1 (omega (arith, eight))) h.people;
+      rounds = shown_are_held columns.round_columns columns.round_shown _ _ (λ row. IsWhole 4 row × (column row 1 ≡ Null)) (λ row x w e. five_cells row w.0 ∙ ap₂ (λ v l. column row 0 ∷ v ∷ l) w.1 e) _ _ laid.rounds (numbers 2 (omega (arith, eight))) h.rounds;
+      choices = shown_are_held columns.choice_columns columns.choice_columns _ _ (IsWhole 3) (λ row x w e. four_cells row w ∙ ap (λ l. column row 0 ∷ l) e) _ _ laid.choices (numbers 3 (omega (arith, eight))) h.choices;
+      words = shown_are_held columns.word_columns columns.word_columns _ _ (IsWhole 2) (λ row x w e. three_cells row w ∙ ap (λ l. column row 0 ∷ l) e) _ _ laid.words (numbers 4 (omega (arith, eight))) h.words;
+      results = shown_are_held columns.result_columns columns.result_columns _ _ (IsWhole 2) (λ row x w e. three_cells row w ∙ ap (λ l. column row 0 ∷ l) e) _ _ laid.results (numbers 5 (omega (arith, eight))) h.results;
+      moves = shown_are_held columns.move_columns columns.move_columns _ _ (IsWhole 5) (λ row x w e. six_cells row w ∙ ap (λ l. column row 0 ∷ l) e) _ _ laid.moves (numbers 6 (omega (arith, eight))) h.moves;
+      lists = shown_are_held columns.list_columns columns.list_columns _ _ (IsWhole 4) (λ row x w e. five_cells row w ∙ ap (λ l. column row 0 ∷ l) e) _ _ laid.lists (numbers 7 (omega (arith, eight))) h.lists;
       grades = held_if (has_grades layout) columns.grade_columns _ _ (IsWhole 2) (λ row x w e. three_cells row w ∙ ap (λ l. column row 0 ∷ l) e) _ _ laid.grades (λ there. numbers 8 (reach_grades layout there)) h.grades;
       going = held_if (has_leavers layout) columns.going_columns _ _ (IsWhole 1) (λ row x w e. two_cells row w ∙ ap (λ l. column row 0 ∷ l) e) _ _ laid.going (λ there. numbers 9 (reach_leavers layout there)) h.going;
     }

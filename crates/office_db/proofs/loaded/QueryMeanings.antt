@@ -11,7 +11,7 @@ use Rattle.sqlite_tied.specs.Compute.{everything}
 use Rattle.office_schema.specs.tables.Layouts.{has_grades, has_leavers, table_count, trees_of}
 use Rattle.office_schema.specs.declared.tables.layouts.Layout.{Layout}
 use Rattle.office_schema.specs.declared.tables.layouts.Layout.TheVariants.{Own, Documented, DocumentedSecond, DocumentedFirst, EarlierFirst}
-use Rattle.office_db.proofs.asking.Selects.{asking-only}
+use Rattle.office_db.proofs.asking.Selects.{selects_only_ask}
 use Rattle.office_db.specs.loading.Asking.{OnlyAsks}
 use Rattle.office_db.specs.loading.FirstTables.{Begins, followed_by}
 use Rattle.office_db.specs.loading.Listing.{ListsTable}
@@ -40,7 +40,7 @@ rooms_listed layout = listed_first _ _ _ _ layout (rooms_followed layout)
 
 pub rooms_asked : OnlyAsks text.rooms_text
 unfolding everything
-rooms_asked = asking-only text.rooms_text tt
+rooms_asked = selects_only_ask text.rooms_text tt
 
 people_followed : (layout : Layout) → (tables : List Table) (indexes : List Index) → ListsTable (followed_by layout tables indexes) text.people_text (2) (col 1 1 ∷ col 1 2 ∷ col 1 3 ∷ col 1 4 ∷ col 1 5 ∷ [])
     (codes "id" ∷ codes "name" ∷ codes "passkey" ∷ codes "home" ∷ codes "withdrawn" ∷ [])
@@ -57,7 +57,7 @@ people_listed layout = listed_first _ _ _ _ layout (people_followed layout)
 
 pub people_asked : OnlyAsks text.people_text
 unfolding everything
-people_asked = asking-only text.people_text tt
+people_asked = selects_only_ask text.people_text tt
 
 rounds_followed : (layout : Layout) → (tables : List Table) (indexes : List Index) → ListsTable (followed_by layout tables indexes) text.rounds_text (6) (col 1 2 ∷ col 1 3 ∷ col 1 4 ∷ [])
     (codes "version" ∷ codes "number" ∷ codes "phase" ∷ [])
@@ -74,7 +74,7 @@ rounds_listed layout = listed_first _ _ _ _ layout (rounds_followed layout)
 
 pub rounds_asked : OnlyAsks text.rounds_text
 unfolding everything
-rounds_asked = asking-only text.rounds_text tt
+rounds_asked = selects_only_ask text.rounds_text tt
 
 choices_followed : (layout : Layout) → (tables : List Table) (indexes : List Index) → ListsTable (followed_by layout tables indexes) text.choices_text ((trees_of layout).choices) (col 1 1 ∷ col 1 2 ∷ col 1 3 ∷ [])
     (codes "person" ∷ codes "place" ∷ codes "room" ∷ [])
@@ -91,7 +91,7 @@ choices_listed layout = listed_first _ _ _ _ layout (choices_followed layout)
 
 pub choices_asked : OnlyAsks text.choices_text
 unfolding everything
-choices_asked = asking-only text.choices_text tt
+choices_asked = selects_only_ask text.choices_text tt
 
 words_followed : (layout : Layout) → (tables : List Table) (indexes : List Index) → ListsTable (followed_by layout tables indexes) text.words_text ((trees_of layout).words) (col 1 1 ∷ col 1 2 ∷ [])
     (codes "person" ∷ codes "hex" ∷ [])
@@ -108,7 +108,7 @@ words_listed layout = listed_first _ _ _ _ layout (words_followed layout)
 
 pub words_asked : OnlyAsks text.words_text
 unfolding everything
-words_asked = asking-only text.words_text tt
+words_asked = selects_only_ask text.words_text tt
 
 results_followed : (layout : Layout) → (tables : List Table) (indexes : List Index) → ListsTable (followed_by layout tables indexes) text.results_text ((trees_of layout).results) (col 1 1 ∷ col 1 2 ∷ [])
     (codes "person" ∷ codes "room" ∷ [])
@@ -125,7 +125,7 @@ results_listed layout = listed_first _ _ _ _ layout (results_followed layout)
 
 pub results_asked : OnlyAsks text.results_text
 unfolding everything
-results_asked = asking-only text.results_text tt
+results_asked = selects_only_ask text.results_text tt
 
 moves_followed : (layout : Layout) → (tables : List Table) (indexes : List Index) → ListsTable (followed_by layout tables indexes) text.moves_text ((trees_of layout).moves) (col 1 1 ∷ col 1 2 ∷ col 1 3 ∷ col 1 4 ∷ col 1 5 ∷ [])
     (codes "round" ∷ codes "person" ∷ codes "from_room" ∷ codes "to_room" ∷ codes "wave" ∷ [])
@@ -142,7 +142,7 @@ moves_listed layout = listed_first _ _ _ _ layout (moves_followed layout)
 
 pub moves_asked : OnlyAsks text.moves_text
 unfolding everything
-moves_asked = asking-only text.moves_text tt
+moves_asked = selects_only_ask text.moves_text tt
 
 lists_followed : (layout : Layout) → (tables : List Table) (indexes : List Index) → ListsTable (followed_by layout tables indexes) text.lists_text ((trees_of layout).lists) (col 1 1 ∷ col 1 2 ∷ col 1 3 ∷ col 1 4 ∷ [])
     (codes "label" ∷ codes "kind" ∷ codes "body" ∷ codes "added" ∷ [])
@@ -159,7 +159,7 @@ lists_listed layout = listed_first _ _ _ _ layout (lists_followed layout)
 
 pub lists_asked : OnlyAsks text.lists_text
 unfolding everything
-lists_asked = asking-only text.lists_text tt
+lists_asked = selects_only_ask text.lists_text tt
 
 grades_followed : (layout : Layout) → has_grades layout ≡ true → (tables : List Table) (indexes : List Index) → ListsTable (followed_by layout tables indexes) text.grades_text ((trees_of layout).grades) (col 1 1 ∷ col 1 2 ∷ [])
     (codes "person" ∷ codes "value" ∷ [])
@@ -176,7 +176,7 @@ grades_listed layout there = listed_first _ _ _ _ layout (grades_followed layout
 
 pub grades_asked : OnlyAsks text.grades_text
 unfolding everything
-grades_asked = asking-only text.grades_text tt
+grades_asked = selects_only_ask text.grades_text tt
 
 going_followed : (layout : Layout) → has_leavers layout ≡ true → (tables : List Table) (indexes : List Index) → ListsTable (followed_by layout tables indexes) text.going_text ((trees_of layout).going) (col 1 1 ∷ [])
     (codes "person" ∷ [])
@@ -193,7 +193,7 @@ going_listed layout there = listed_first _ _ _ _ layout (going_followed layout t
 
 pub going_asked : OnlyAsks text.going_text
 unfolding everything
-going_asked = asking-only text.going_text tt
+going_asked = selects_only_ask text.going_text tt
 
 -- The key of table `round` has a name of its own.
 abbrev pub rowid_names : ℕ → List (List ℕ)
@@ -272,16 +272,16 @@ rowids_listed layout place low = listed_first _ _ _ _ layout (rowids_followed la
 
 pub rowids_asked : (place : ℕ) → place < 10 → OnlyAsks (rowid_text place)
 unfolding everything
-rowids_asked zero low = asking-only (rowid_text 0) tt
-rowids_asked (suc zero) low = asking-only (rowid_text 1) tt
-rowids_asked (suc (suc zero)) low = asking-only (rowid_text 2) tt
-rowids_asked (suc (suc (suc zero))) low = asking-only (rowid_text 3) tt
-rowids_asked (suc (suc (suc (suc zero)))) low = asking-only (rowid_text 4) tt
-rowids_asked (suc (suc (suc (suc (suc zero))))) low = asking-only (rowid_text 5) tt
-rowids_asked (suc (suc (suc (suc (suc (suc zero)))))) low = asking-only (rowid_text 6) tt
-rowids_asked (suc (suc (suc (suc (suc (suc (suc zero))))))) low = asking-only (rowid_text 7) tt
-rowids_asked (suc (suc (suc (suc (suc (suc (suc (suc zero)))))))) low = asking-only (rowid_text 8) tt
-rowids_asked (suc (suc (suc (suc (suc (suc (suc (suc (suc zero))))))))) low = asking-only (rowid_text 9) tt
+rowids_asked zero low = selects_only_ask (rowid_text 0) tt
+rowids_asked (suc zero) low = selects_only_ask (rowid_text 1) tt
+rowids_asked (suc (suc zero)) low = selects_only_ask (rowid_text 2) tt
+rowids_asked (suc (suc (suc zero))) low = selects_only_ask (rowid_text 3) tt
+rowids_asked (suc (suc (suc (suc zero)))) low = selects_only_ask (rowid_text 4) tt
+rowids_asked (suc (suc (suc (suc (suc zero))))) low = selects_only_ask (rowid_text 5) tt
+rowids_asked (suc (suc (suc (suc (suc (suc zero)))))) low = selects_only_ask (rowid_text 6) tt
+rowids_asked (suc (suc (suc (suc (suc (suc (suc zero))))))) low = selects_only_ask (rowid_text 7) tt
+rowids_asked (suc (suc (suc (suc (suc (suc (suc (suc zero)))))))) low = selects_only_ask (rowid_text 8) tt
+rowids_asked (suc (suc (suc (suc (suc (suc (suc (suc (suc zero))))))))) low = selects_only_ask (rowid_text 9) tt
 rowids_asked (suc (suc (suc (suc (suc (suc (suc (suc (suc (suc place)))))))))) low = absurd (omega (arith, low))
 
 pub few_tables : (layout : Layout) → table_count layout ≤ 10

@@ -11,7 +11,7 @@ use Rattle.office_schema.specs.tables.Layouts.{schema_of}
 use Rattle.office_schema.specs.tables.Schema.{room, person, round}
 use Rattle.office_schema.specs.declared.tables.layouts.Layout.{Layout}
 use Rattle.office_schema.specs.declared.tables.layouts.Layout.TheVariants.{Own, Documented, DocumentedSecond, DocumentedFirst, EarlierFirst}
-use Rattle.office_db.proofs.asking.Selects.{asking-only}
+use Rattle.office_db.proofs.asking.Selects.{selects_only_ask}
 use Rattle.office_db.specs.loading.Asking.{OnlyAsks}
 use Rattle.office_db.specs.loading.FirstTables.{BeginsOffice}
 use Rattle.office_db.specs.loading.Listing.{ListsTable}
@@ -50,4 +50,4 @@ same_begins_office layout schema has = subst BeginsOffice (sym has) (layout_begi
 
 pub versions_asked : OnlyAsks (codes "SELECT version FROM round")
 unfolding everything
-versions_asked = asking-only (codes "SELECT version FROM round") tt
+versions_asked = selects_only_ask (codes "SELECT version FROM round") tt

@@ -1,5 +1,5 @@
 -- Rows that obey the schema of an office lack no column, if their last column is never NULL.
-use Rattle.std.proofs.Common.{◌≡◌, ℕ, ◌<◌, ◌≤◌, ◌+◌, ◌-◌, Bool, true, not, ◌&&◌, List, [], ◌∷◌, drop, length, length-drop, Option, Some, refl, sym, ap, ◌∙◌, subst, true≢false, inl, inr, arith}
+use Rattle.std.proofs.Common.{◌≡◌, ℕ, ◌<◌, ◌≤◌, ◌+◌, ◌-◌, Bool, true, not, ◌&&◌, List, [], ◌∷◌, ◌++◌, drop, length, length-drop, slice_get, Option, Some, refl, sym, ap, ◌∙◌, subst, true≢false, inl, inr, arith}
 use Rattle.std.specs.List.{AllByRecursion}
 use Rattle.std.proofs.lemmas.Bool.{and_parts, cases_lt}
 use Rattle.std.proofs.lemmas.List.{get_or_past}
@@ -23,6 +23,7 @@ use Rattle.office_schema.specs.tables.Layouts.{schema_of}
 use Rattle.office_schema.specs.tables.Schema.{room, person, round, choice, word, list, grade, going}
 use Rattle.office_schema.specs.declared.tables.layouts.Layout.{Layout}
 use Rattle.office_schema.specs.declared.tables.layouts.Layout.TheVariants.{Own, Documented, DocumentedSecond, DocumentedFirst, EarlierFirst}
+use Rattle.sqlite_trees.proofs.ListLemmas.{all-slice_get}
 
 -- A row has at most one cell for each column of its table and one for its rowid.
 short : (key : Option ℕ) (cs : List Column) (row : Row) → are_typed key 0 cs (drop 1 row) ≡ true → length row ≤ length cs + 1
@@ -122,85 +123,92 @@ module _ (db : Database) where
   whole_going : (tree : ℕ) → Typed (going tree) → Present (going tree) → AllByRecursion (IsWhole 1) (db.trees tree)
   whole_going tree typed present = all_whole (going tree) (db.trees tree) (λ row p. (and_parts (there row 1) true p).0) typed present
 
+-- The rows of each table of the layout have cells of the declared types.
+typed_at : (layout : Layout) (db : Database) → IsDatabase db → (begins : Begins layout db.schema) (i : ℕ) (it : Table)
+    → slice_get ((schema_of layout).tables ++ begins.tables) i ≡ Some it → Typed db it
+typed_at layout db sound begins i it is =
+    all-slice_get (Typed db) ((schema_of layout).tables ++ begins.tables) i it is (subst (λ (s : Schema). Keeps Datatype s db.trees) begins.is (sound.obeys.rules Datatype))
+
+-- The rows of each table of the layout have a cell for each column that is not NULL.
+present_at : (layout : Layout) (db : Database) → IsDatabase db → (begins : Begins layout db.schema) (i : ℕ) (it : Table)
+    → slice_get ((schema_of layout).tables ++ begins.tables) i ≡ Some it → Present db it
+present_at layout db sound begins i it is =
+    all-slice_get (Present db) ((schema_of layout).tables ++ begins.tables) i it is (subst (λ (s : Schema). Keeps NotNull s db.trees) begins.is (sound.obeys.rules NotNull))
+
 -- So it is for the rows of a database whose first tables are those of an office.
 whole_if_sound : (layout : Layout) (db : Database) → IsDatabase db → Begins layout db.schema → AreWhole layout db.trees → HasWholeRows layout db.trees
 whole_if_sound Own db sound begins wide =
-    let rules = subst (λ (s : Schema). (rule : Constraint) → Keeps rule s db.trees) begins.is sound.obeys.rules in
-    let typed = rules Datatype in
-    let present = rules NotNull in
+    let typed = typed_at Own db sound begins in
+    let present = present_at Own db sound begins in
     record {
-      rooms = whole_rooms db 0 typed.0 present.0;
-      people = whole_people db 2 typed.1.0 present.1.0;
-      rounds = whole_rounds db typed.1.1.0 present.1.1.0;
-      choices = whole_choices db 18 typed.1.1.1.1.1.1.1.1.0 present.1.1.1.1.1.1.1.1.0;
-      words = whole_words db 13 typed.1.1.1.1.1.1.0 present.1.1.1.1.1.1.0;
+      rooms = whole_rooms db 0 (typed 0 (room 0) refl) (present 0 (room 0) refl);
+      people = whole_people db 2 (typed 1 (person 2) refl) (present 1 (person 2) refl);
+      rounds = whole_rounds db (typed 2 (round 6) refl) (present 2 (round 6) refl);
+      choices = whole_choices db 18 (typed 8 (choice 18) refl) (present 8 (choice 18) refl);
+      words = whole_words db 13 (typed 6 (word 13) refl) (present 6 (word 13) refl);
       results = wide.results;
       moves = wide.moves;
-      lists = whole_lists db 9 typed.1.1.1.1.0 present.1.1.1.1.0;
-      grades = whole_grades db 11 typed.1.1.1.1.1.0 present.1.1.1.1.1.0;
-      going = whole_going db 21 typed.1.1.1.1.1.1.1.1.1.0 present.1.1.1.1.1.1.1.1.1.0;
+      lists = whole_lists db 9 (typed 4 (list 9) refl) (present 4 (list 9) refl);
+      grades = whole_grades db 11 (typed 5 (grade 11) refl) (present 5 (grade 11) refl);
+      going = whole_going db 21 (typed 9 (going 21) refl) (present 9 (going 21) refl);
     }
 whole_if_sound Documented db sound begins wide =
-    let rules = subst (λ (s : Schema). (rule : Constraint) → Keeps rule s db.trees) begins.is sound.obeys.rules in
-    let typed = rules Datatype in
-    let present = rules NotNull in
+    let typed = typed_at Documented db sound begins in
+    let present = present_at Documented db sound begins in
     record {
-      rooms = whole_rooms db 0 typed.0 present.0;
-      people = whole_people db 2 typed.1.0 present.1.0;
-      rounds = whole_rounds db typed.1.1.0 present.1.1.0;
-      choices = whole_choices db 7 typed.1.1.1.0 present.1.1.1.0;
-      words = whole_words db 10 typed.1.1.1.1.0 present.1.1.1.1.0;
+      rooms = whole_rooms db 0 (typed 0 (room 0) refl) (present 0 (room 0) refl);
+      people = whole_people db 2 (typed 1 (person 2) refl) (present 1 (person 2) refl);
+      rounds = whole_rounds db (typed 2 (round 6) refl) (present 2 (round 6) refl);
+      choices = whole_choices db 7 (typed 3 (choice 7) refl) (present 3 (choice 7) refl);
+      words = whole_words db 10 (typed 4 (word 10) refl) (present 4 (word 10) refl);
       results = wide.results;
       moves = wide.moves;
-      lists = whole_lists db 17 typed.1.1.1.1.1.1.1.0 present.1.1.1.1.1.1.1.0;
-      grades = whole_grades db 19 typed.1.1.1.1.1.1.1.1.0 present.1.1.1.1.1.1.1.1.0;
-      going = whole_going db 21 typed.1.1.1.1.1.1.1.1.1.0 present.1.1.1.1.1.1.1.1.1.0;
+      lists = whole_lists db 17 (typed 7 (list 17) refl) (present 7 (list 17) refl);
+      grades = whole_grades db 19 (typed 8 (grade 19) refl) (present 8 (grade 19) refl);
+      going = whole_going db 21 (typed 9 (going 21) refl) (present 9 (going 21) refl);
     }
 whole_if_sound DocumentedSecond db sound begins wide =
-    let rules = subst (λ (s : Schema). (rule : Constraint) → Keeps rule s db.trees) begins.is sound.obeys.rules in
-    let typed = rules Datatype in
-    let present = rules NotNull in
+    let typed = typed_at DocumentedSecond db sound begins in
+    let present = present_at DocumentedSecond db sound begins in
     record {
-      rooms = whole_rooms db 0 typed.0 present.0;
-      people = whole_people db 2 typed.1.0 present.1.0;
-      rounds = whole_rounds db typed.1.1.0 present.1.1.0;
-      choices = whole_choices db 7 typed.1.1.1.0 present.1.1.1.0;
-      words = whole_words db 10 typed.1.1.1.1.0 present.1.1.1.1.0;
+      rooms = whole_rooms db 0 (typed 0 (room 0) refl) (present 0 (room 0) refl);
+      people = whole_people db 2 (typed 1 (person 2) refl) (present 1 (person 2) refl);
+      rounds = whole_rounds db (typed 2 (round 6) refl) (present 2 (round 6) refl);
+      choices = whole_choices db 7 (typed 3 (choice 7) refl) (present 3 (choice 7) refl);
+      words = whole_words db 10 (typed 4 (word 10) refl) (present 4 (word 10) refl);
       results = wide.results;
       moves = wide.moves;
-      lists = whole_lists db 17 typed.1.1.1.1.1.1.1.0 present.1.1.1.1.1.1.1.0;
-      grades = whole_grades db 19 typed.1.1.1.1.1.1.1.1.0 present.1.1.1.1.1.1.1.1.0;
+      lists = whole_lists db 17 (typed 7 (list 17) refl) (present 7 (list 17) refl);
+      grades = whole_grades db 19 (typed 8 (grade 19) refl) (present 8 (grade 19) refl);
       going = tt;
     }
 whole_if_sound DocumentedFirst db sound begins wide =
-    let rules = subst (λ (s : Schema). (rule : Constraint) → Keeps rule s db.trees) begins.is sound.obeys.rules in
-    let typed = rules Datatype in
-    let present = rules NotNull in
+    let typed = typed_at DocumentedFirst db sound begins in
+    let present = present_at DocumentedFirst db sound begins in
     record {
-      rooms = whole_rooms db 0 typed.0 present.0;
-      people = whole_people db 2 typed.1.0 present.1.0;
-      rounds = whole_rounds db typed.1.1.0 present.1.1.0;
-      choices = whole_choices db 7 typed.1.1.1.0 present.1.1.1.0;
-      words = whole_words db 10 typed.1.1.1.1.0 present.1.1.1.1.0;
+      rooms = whole_rooms db 0 (typed 0 (room 0) refl) (present 0 (room 0) refl);
+      people = whole_people db 2 (typed 1 (person 2) refl) (present 1 (person 2) refl);
+      rounds = whole_rounds db (typed 2 (round 6) refl) (present 2 (round 6) refl);
+      choices = whole_choices db 7 (typed 3 (choice 7) refl) (present 3 (choice 7) refl);
+      words = whole_words db 10 (typed 4 (word 10) refl) (present 4 (word 10) refl);
       results = wide.results;
       moves = wide.moves;
-      lists = whole_lists db 17 typed.1.1.1.1.1.1.1.0 present.1.1.1.1.1.1.1.0;
+      lists = whole_lists db 17 (typed 7 (list 17) refl) (present 7 (list 17) refl);
       grades = tt;
       going = tt;
     }
 whole_if_sound EarlierFirst db sound begins wide =
-    let rules = subst (λ (s : Schema). (rule : Constraint) → Keeps rule s db.trees) begins.is sound.obeys.rules in
-    let typed = rules Datatype in
-    let present = rules NotNull in
+    let typed = typed_at EarlierFirst db sound begins in
+    let present = present_at EarlierFirst db sound begins in
     record {
-      rooms = whole_rooms db 0 typed.0 present.0;
-      people = whole_people db 2 typed.1.0 present.1.0;
-      rounds = whole_rounds db typed.1.1.0 present.1.1.0;
-      choices = whole_choices db 16 typed.1.1.1.1.1.1.1.0 present.1.1.1.1.1.1.1.0;
-      words = whole_words db 11 typed.1.1.1.1.1.0 present.1.1.1.1.1.0;
+      rooms = whole_rooms db 0 (typed 0 (room 0) refl) (present 0 (room 0) refl);
+      people = whole_people db 2 (typed 1 (person 2) refl) (present 1 (person 2) refl);
+      rounds = whole_rounds db (typed 2 (round 6) refl) (present 2 (round 6) refl);
+      choices = whole_choices db 16 (typed 7 (choice 16) refl) (present 7 (choice 16) refl);
+      words = whole_words db 11 (typed 5 (word 11) refl) (present 5 (word 11) refl);
       results = wide.results;
       moves = wide.moves;
-      lists = whole_lists db 9 typed.1.1.1.1.0 present.1.1.1.1.0;
+      lists = whole_lists db 9 (typed 4 (list 9) refl) (present 4 (list 9) refl);
       grades = tt;
       going = tt;
     }

@@ -2,18 +2,21 @@
 ghost use Rattle.std.specs.Prelude.{◌≡◌, false, OnOk, OnErr, IsTrue};
 ghost use Rattle.sqlite.specs.Held.{state};
 ghost use Rattle.sqlite.specs.State.{HasCleanDisk};
+ghost use Rattle.office_state.specs.declared.change.Change.TheVariants.{PutRoom};
 ghost use Rattle.office_schema.specs.tables.Steps.{IsIntact, Follows, StaysInside};
 ghost use Rattle.office_db.specs.changes.StoresChanges.{StoresChange, StoresChanges};
 
 use crate::changes::choices::put_choices;
 use crate::changes::grades::{put_going, put_grade};
 use crate::changes::imports::keep_list;
+use crate::changes::lemmas::lemma_text;
 use crate::changes::people::{put_home, put_person, put_withdrawn, remove_person};
 use crate::changes::results::{put_result, record_move};
-use crate::changes::rooms::put_room;
 use crate::changes::round::{clear_round, put_round};
 use crate::changes::words::put_word;
+use office_schema::tables::rooms::{add_room, set_shut};
 use office_state::{Change, Office};
+use room_types::RoomCode;
 use sqlite::{Alter, Connection, Error, Transaction};
 use std::alloc::Global;
 
@@ -43,6 +46,7 @@ pub fn store_changes<S: Alter>(
         (IsIntact (state S.Store conn.new)
         → (state S.Store conn.new).now ≡ (state S.Store conn.old).now) }
 {
+    // The proof needs these two lines: outside a transaction, an open connection shows what is committed.
     let outside = conn.is_autocommit();
     prove!(outside);
     let mut tx = conn.transaction();
@@ -51,7 +55,7 @@ pub fn store_changes<S: Alter>(
     Ok(())
 }
 
-// Applies the changes in order.
+// Applies the changes in order. `first` is the office before all of them.
 fn apply_changes<S: Alter>(
     alloc: Global,
     tx: &mut Transaction<'_, S>,
@@ -109,4 +113,25 @@ fn apply_change<S: Alter>(
         Change::PutGrade { person, grade } => put_grade(tx, person, *grade),
         Change::PutGoing { person } => put_going(tx, person),
     }
+}
+
+// Adds a room. If `first`, the office before all changes of the command, has the room already, sets its `shut` flag
+// instead: a room that people list or live in cannot be deleted and added again.
+fn put_room<S: Alter>(
+    tx: &mut Transaction<'_, S>,
+    first: &Office,
+    room: &RoomCode,
+    shut: bool,
+) -> Result<(), Error>
+    ensures same_reference { tx.new.conn.ghost_name ≡ tx.old.conn.ghost_name }
+    ensures made { OnOk result
+        (StoresChange first.now (state S.Store tx.old.conn.now) (state S.Store tx.new.conn.now)
+        (PutRoom room.now shut)) }
+    ensures inside { StaysInside (state S.Store tx.old.conn.now) (state S.Store tx.new.conn.now) }
+{
+    if first.rooms.contains_key(room) {
+        return set_shut(tx, room, shut);
+    }
+    lemma_text(room);
+    add_room(tx, room, shut)
 }

@@ -74,6 +74,7 @@ fn start_office<S: Alter>(conn: &mut Connection<S>) -> Result<(), Error>
     ensures undone { OnErr result (IsIntact (state S.Store conn.new)
         → (state S.Store conn.new).now ≡ (state S.Store conn.old).now) }
 {
+    // The proof needs these two lines: outside a transaction, an open connection shows what is committed.
     let outside = conn.is_autocommit();
     prove!(outside);
     let mut tx = conn.transaction();

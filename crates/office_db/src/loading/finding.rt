@@ -56,12 +56,16 @@ pub struct Found {
 ///
 /// # Errors
 ///
-/// `NotAnOffice` if nothing has the name of table `round`; otherwise, `NotAnOffice` only if the row of that table holds
-/// no other version and the tables do not hold the rows of a lawful office. `OtherVersion` only if the row of table
-/// `round` holds that version; what follows the first three tables does not matter. `Unavailable` if the database fails
-/// or memory runs out, and if something has the name of table `round`, no other version is read from its row, and the
-/// schema is not exactly the tables of a known layout. If the first three tables are not those of an office, no
-/// statement runs.
+/// `NotAnOffice` if nothing has the name of table `round`. Otherwise:
+///
+/// - `OtherVersion` only if the row of table `round` holds the version that the fault names, and it is not the version
+///   of this program. What follows the first three tables does not matter.
+/// - `NotAnOffice` only if the row holds no other version, the schema is in a known layout, and the tables do not hold
+///   the rows of a lawful office.
+/// - `Unavailable` if no other version is read and the schema is in no known layout, or if the database fails or memory
+///   runs out.
+///
+/// If the first three tables are not those of an office, or if there is a view, no statement runs.
 pub fn find<S: Alter>(alloc: Global, conn: &mut Connection<S>) -> Result<Found, FindFault>
     requires { conn.old.in_transaction ≡ false }
     ensures outside { conn.new.in_transaction ≡ false }

@@ -79,6 +79,7 @@ pub fn table_records<R: Listed, S: Alter>(
         → All R.is_form (map R.columns records)
         → MatchOption found ⊥ (λ read. IsPermutation records read.items)) }
 {
+    // The proof needs these two lines: outside a transaction, an open connection shows what is committed.
     let outside = conn.is_autocommit();
     prove!(outside);
     let rows = conn.query_all(R::query(), &[])?;

@@ -51,13 +51,15 @@ fn rowids<S: Alter>(
         (map (listed only_rowid) ((state S.Store conn.old).now.trees (tree_of layout place)))
         rows.items) }
 {
+    // The proof needs these two lines: outside a transaction, an open connection shows what is committed.
     let outside = conn.is_autocommit();
     prove!(outside);
     let rows = conn.query_all(rowid_query(place), &[])?;
     Ok(rows)
 }
 
-// Returns the query over the rowids of the table at this place.
+// Returns the query over the rowids of the table at this place in the documented order, whatever the layout. The tables
+// of each layout are those at the first places of that order.
 fn rowid_query(place: usize) -> &'static str
     requires { place < 10 }
     ensures { result.now ≡ rowid_text place }

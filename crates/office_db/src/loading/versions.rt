@@ -74,6 +74,7 @@ fn versions<S: Alter>(conn: &mut Connection<S>) -> Result<Vec<Row>, Error>
         → IfOk result (λ rows. IsPermutation
         (map (listed only_version) ((state S.Store conn.old).now.trees 6)) rows.items) }
 {
+    // The proof needs these two lines: outside a transaction, an open connection shows what is committed.
     let outside = conn.is_autocommit();
     prove!(outside);
     let rows = conn.query_all("SELECT version FROM round", &[])?;

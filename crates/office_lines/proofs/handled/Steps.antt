@@ -7,8 +7,8 @@ use Rattle.office_lines.specs.parse.Parsing.{begins_request, parsed_line}
 use Rattle.office_lines.specs.SingleLines.{DoesText, DoesWords}
 use Rattle.office_lines.specs.parse.Values.{joined}
 use Rattle.office_lines.specs.declared.render.response.Response.{Response}
-use Rattle.office_lines.specs.declared.parse.line.ParsedLine.{ParsedLine}
-use Rattle.office_lines.specs.declared.parse.line.ParsedLine.TheVariants.{Ignored, Valid, Invalid}
+use Rattle.office_lines.specs.declared.line.ParsedLine.{ParsedLine}
+use Rattle.office_lines.specs.declared.line.ParsedLine.TheVariants.{Ignored, Valid, Invalid}
 use Rattle.room_types.specs.Streams.{Output}
 use Rattle.room_types.specs.Texts.{Text}
 

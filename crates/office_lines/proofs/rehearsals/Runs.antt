@@ -7,8 +7,8 @@ use Rattle.office_lines.specs.declared.render.response.Response.{Response}
 use Rattle.office_lines.specs.render.Texts.{text_of, exit_status}
 use Rattle.office_lines.specs.Lines.{init}
 use Rattle.office_lines.specs.parse.Parsing.{begins_request, is_ignored, parsed_line}
-use Rattle.office_lines.specs.declared.parse.line.ParsedLine.{ParsedLine}
-use Rattle.office_lines.specs.declared.parse.line.ParsedLine.TheVariants.{Ignored, Valid, Invalid}
+use Rattle.office_lines.specs.declared.line.ParsedLine.{ParsedLine}
+use Rattle.office_lines.specs.declared.line.ParsedLine.TheVariants.{Ignored, Valid, Invalid}
 use Rattle.office_lines.specs.declared.render.response.Response.TheVariants.{Answered}
 use Rattle.office_store.specs.declared.requests.Answer.TheVariants.{Unavailable}
 use Rattle.office_lines.specs.Runs.{Answers, Run, Step, texts_of, last_is_made, greatest_status}

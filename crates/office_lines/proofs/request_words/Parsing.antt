@@ -8,8 +8,8 @@ use Rattle.std.proofs.lemmas.Bool.{false_from_ne_true}
 use Rattle.office_lines.specs.parse.Verbs.{verb_of}
 use Rattle.office_lines.specs.parse.Requests.{names_request}
 use Rattle.office_lines.specs.parse.Parsing.{has_bytes, is_space, parsed_words, parsed_text, is_blank, words_of}
-use Rattle.office_lines.specs.declared.parse.verbs.Verb.{Verb}
-use Rattle.office_lines.specs.declared.parse.line.ParsedLine.TheVariants.{Invalid}
+use Rattle.office_lines.specs.declared.parse.requests.Verb.{Verb}
+use Rattle.office_lines.specs.declared.line.ParsedLine.TheVariants.{Invalid}
 
 -- bytes that are not UTF-8 are not understood
 pub parsed_text-not_utf8 : (text : List ℕ) → is_blank text ≡ false → (IsUtf8 text → ⊥) → parsed_text text ≡ Invalid

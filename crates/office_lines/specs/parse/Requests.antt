@@ -7,8 +7,8 @@ use Rattle.room_types.specs.Words.{word_of}
 use Rattle.office_core.specs.declared.command.Command.TheVariants.{AddPerson, AddRoom, Cancel, CloseRound, Draw, Going, Leave, OpenRound, Publish, Remove, Reopen, Run, SetChoices, SetGrade, SetHome, Settle, Shut, Withdraw}
 use Rattle.office_core.specs.declared.query.Query.TheVariants.{Me, Moves, Order, People, Results, Rooms, Round, WhatIf}
 use Rattle.office_lines.specs.parse.Verbs.{verb_of}
-use Rattle.office_lines.specs.declared.parse.verbs.Verb.{Verb}
-use Rattle.office_lines.specs.declared.parse.verbs.Verb.TheVariants as verb
+use Rattle.office_lines.specs.declared.parse.requests.Verb.{Verb}
+use Rattle.office_lines.specs.declared.parse.requests.Verb.TheVariants as verb
 use Rattle.office_lines.specs.parse.Values.{all_of, choices_in, in_grammar, joined, only, round_number}
 use Rattle.office_store.specs.declared.requests.Request.{Request}
 use Rattle.office_store.specs.declared.requests.Request.TheVariants.{Office, Ask}

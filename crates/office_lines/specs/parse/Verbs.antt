@@ -2,8 +2,8 @@
 use Rattle.std.specs.Prelude.{Option, Some, None, codes, if◌then◌else◌}
 use Rattle.std.specs.Str.{bytes_eq}
 use Rattle.room_types.specs.Texts.{Text}
-use Rattle.office_lines.specs.declared.parse.verbs.Verb.{Verb}
-use Rattle.office_lines.specs.declared.parse.verbs.Verb.TheVariants as verb
+use Rattle.office_lines.specs.declared.parse.requests.Verb.{Verb}
+use Rattle.office_lines.specs.declared.parse.requests.Verb.TheVariants as verb
 
 -- the kind of request that a first word names, if it names one
 abbrev pub verb_of : Text → Option Verb

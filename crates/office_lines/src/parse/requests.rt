@@ -1,18 +1,85 @@
-//! Parses the words of a line into a request.
-ghost use Rattle.std.specs.Prelude.{false, map};
+//! Parses the words of a line into a request. The first word, its verb, names the kind of request.
+ghost use Rattle.std.specs.Prelude.{◌≡◌, false, map};
 ghost use Rattle.office_lines.specs.parse.Understanding.{Understands, OutOfMemoryOnlyIf};
 ghost use Rattle.office_lines.specs.parse.Requests.{add_person, add_room, without_arguments, ask_me, ask_moves, ask_what_if, draw, going, leave, remove, reopen, request_after_word, request_of, set_choices, set_grade, set_home, shut, withdraw};
 ghost use Rattle.office_lines.specs.parse.Requests.{copies, allocates};
-ghost use Rattle.office_lines.specs.declared.parse.verbs.Verb.TheVariants as verb;
+ghost use Rattle.office_lines.specs.parse.Verbs.{verb_of};
+ghost use Rattle.office_lines.specs.declared.parse.requests.Verb.TheVariants as verb;
 
 use crate::parse::values::{
     choices_in, drawn_words, grade_of, name_of, only_value, round_number, value_of,
 };
-use crate::parse::verbs::{Verb, verb_of};
 use crate::parse::word_fault::WordFault;
 use office_core::{Command, Query};
 use office_store::Request;
 use std::alloc::Global;
+
+/// The kind of request that the first word of a line names. Each variant is named after its word: `Room` after `room`, `WhatIf`
+/// after `whatif`.
+#[derive(Clone, Copy, Debug, PartialEq, Eq, Drop)]
+pub enum Verb {
+    Room,
+    Person,
+    Home,
+    Leave,
+    Remove,
+    Grade,
+    Shut,
+    Reopen,
+    Open,
+    Close,
+    Run,
+    Publish,
+    Settle,
+    Cancel,
+    Choose,
+    Withdraw,
+    Going,
+    Draw,
+    Rooms,
+    People,
+    Round,
+    Order,
+    Results,
+    Moves,
+    Me,
+    WhatIf,
+}
+
+/// Returns the kind of request that a first word names, or `None` if it names none.
+pub fn verb_of(word: &str) -> Option<Verb>
+    ensures { result ≡ verb_of word.now }
+{
+    match word {
+        "room" => Some(Verb::Room),
+        "person" => Some(Verb::Person),
+        "home" => Some(Verb::Home),
+        "leave" => Some(Verb::Leave),
+        "remove" => Some(Verb::Remove),
+        "grade" => Some(Verb::Grade),
+        "shut" => Some(Verb::Shut),
+        "reopen" => Some(Verb::Reopen),
+        "open" => Some(Verb::Open),
+        "close" => Some(Verb::Close),
+        "run" => Some(Verb::Run),
+        "publish" => Some(Verb::Publish),
+        "settle" => Some(Verb::Settle),
+        "cancel" => Some(Verb::Cancel),
+        "choose" => Some(Verb::Choose),
+        "withdraw" => Some(Verb::Withdraw),
+        "going" => Some(Verb::Going),
+        "draw" => Some(Verb::Draw),
+        "rooms" => Some(Verb::Rooms),
+        "people" => Some(Verb::People),
+        "round" => Some(Verb::Round),
+        "order" => Some(Verb::Order),
+        "results" => Some(Verb::Results),
+        "moves" => Some(Verb::Moves),
+        "me" => Some(Verb::Me),
+        "whatif" => Some(Verb::WhatIf),
+        _ => None,
+    }
+}
 
 /// Parses the words of a line into a request.
 ///
@@ -27,10 +94,8 @@ pub fn words_to_command(alloc: Global, words: &[&str]) -> Result<Request, WordFa
     let [first, rest @ ..] = words else {
         return Err(WordFault::NotUnderstood);
     };
-    match verb_of(first) {
-        Some(verb) => request_after_word(alloc, verb, rest),
-        None => Err(WordFault::NotUnderstood),
-    }
+    let verb = verb_of(first).ok_or(WordFault::NotUnderstood)?;
+    request_after_word(alloc, verb, rest)
 }
 
 // Parses the words after the first one.

@@ -1,15 +1,69 @@
-//! Prints replies.
-ghost use Rattle.std.specs.Prelude.{◌≡◌, ◌<◌, ◌++◌, [], ◌∷◌, IfOk, OnErr, OnOk, length, string_bytes};
+//! The text and the status of a response, and the texts of replies.
+ghost use Rattle.std.specs.Prelude.{◌≡◌, ◌<◌, ◌++◌, [], ◌∷◌, IfOk, OnErr, OnOk, false, length, string_bytes};
+ghost use Rattle.std.specs.Cow.{cow_str_bytes};
 ghost use Rattle.office_core.specs.Replies.{RowsAscend};
 ghost use Rattle.office_lines.specs.render.OutputLines.{line_of};
+ghost use Rattle.office_lines.specs.render.Texts.{text_of as text-of, exit_status as status-of, ResponseAscends, is_constant};
 ghost use Rattle.office_lines.specs.render.Replies.{going_text, reply_text, result_text, spaced, standing_text, yes_or_no};
 
 use crate::render::order_lines::order_text;
-use crate::render::output_lines::owned_line;
+use crate::render::refusals::refusal_text;
+use crate::render::response::Response;
 use office_core::{Reply, Standing};
 use office_lists::{move_day_text, or_none, people_text, results_text, rooms_text};
+use office_store::Answer;
 use room_types::{OutOfMemory, PersonId, Phase, RoomCode};
 use std::alloc::{AllocError, Global};
+use std::borrow::CowStr;
+
+/// The status of a line whose request was accepted, or that has no response.
+pub const ACCEPTED: u8 = 0;
+
+/// The status of a line whose request was refused.
+pub const REFUSED: u8 = 1;
+
+/// The status of a line that is not understood.
+pub const NOT_UNDERSTOOD: u8 = 2;
+
+/// The status of a line that failed because memory ran out or a device failed.
+pub const UNAVAILABLE: u8 = 3;
+
+/// Returns the text to print for a response. The rows of a reply must ascend, as in the answers of a handler.
+///
+/// The texts `unavailable` and `not understood` are constants and are borrowed, so that the program can report that it is out of
+/// memory without an allocation.
+///
+/// # Errors
+///
+/// `OutOfMemory`, only if the text is neither a constant nor empty.
+pub fn text_of(alloc: Global, response: &Response) -> Result<CowStr<'static, Global>, OutOfMemory>
+    requires ascending { ResponseAscends response.now }
+    ensures text { IfOk result (λ text. cow_str_bytes text ≡ text-of response.now) }
+    ensures made { OnErr result (is_constant response.now ≡ false) }
+    ensures memory { OnErr result (0 < length (text-of response.now)) }
+{
+    match response {
+        Response::Nothing => Ok(CowStr::Borrowed("")),
+        Response::Answered(Answer::Reply(reply)) => Ok(CowStr::Owned(reply_text(alloc, reply)?)),
+        Response::Answered(Answer::Refused(refusal)) => {
+            Ok(CowStr::Owned(refusal_text(alloc, refusal)?))
+        }
+        Response::Answered(Answer::Unavailable) => Ok(CowStr::Borrowed("unavailable\n")),
+        Response::NotUnderstood => Ok(CowStr::Borrowed("not understood\n")),
+    }
+}
+
+/// Returns the status of the line that got this response.
+pub fn exit_status(response: &Response) -> u8
+    ensures { result ≡ status-of response.now }
+{
+    match response {
+        Response::Nothing | Response::Answered(Answer::Reply(_)) => ACCEPTED,
+        Response::Answered(Answer::Refused(_)) => REFUSED,
+        Response::Answered(Answer::Unavailable) => UNAVAILABLE,
+        Response::NotUnderstood => NOT_UNDERSTOOD,
+    }
+}
 
 /// Returns the lines of a reply. The rows of the reply must ascend, as in the replies of `answer` and `decide`.
 ///
@@ -47,9 +101,17 @@ pub fn reply_text(alloc: Global, reply: &Reply) -> Result<String, OutOfMemory>
         Reply::Results(rows) => results_text(alloc, rows.as_slice()),
         Reply::Moves(rows) => move_day_text(alloc, rows.as_slice()),
         Reply::Me(standing) => standing_text(alloc, standing),
-        Reply::WouldGet(room) => text_of_room(alloc, room),
+        Reply::WouldGet(room) => text_of_would_get(alloc, room),
         Reply::Going => owned_line(alloc, "going\n"),
     }
+}
+
+// Copies a line into an owned string.
+fn owned_line(alloc: Global, text: &str) -> Result<String, OutOfMemory>
+    ensures { IfOk result (λ line. string_bytes line ≡ text.now) }
+{
+    let line = String::from_str(alloc, text)?;
+    Ok(line)
 }
 
 fn text_of_shut(alloc: Global, displaced: &Option<PersonId>) -> Result<String, OutOfMemory>
@@ -69,7 +131,7 @@ fn text_of_chosen(alloc: Global, rooms: &[RoomCode]) -> Result<String, OutOfMemo
     Ok(text)
 }
 
-fn text_of_room(alloc: Global, room: &Option<RoomCode>) -> Result<String, OutOfMemory>
+fn text_of_would_get(alloc: Global, room: &Option<RoomCode>) -> Result<String, OutOfMemory>
     ensures { IfOk result (λ text. string_bytes text ≡ reply_text (Reply.WouldGet room.now)) }
 {
     let mut text = String::new(alloc);

@@ -13,13 +13,13 @@ and_false : (b : Bool) → (b && false) ≡ false
 and_false true = refl
 and_false false = refl
 
-pub csv-same_length : (xs ys : Record) → ¬ (length xs ≡ length ys) → same_fields xs ys ≡ false
+pub same_length : (xs ys : Record) → ¬ (length xs ≡ length ys) → same_fields xs ys ≡ false
 unfolding same_fields
-csv-same_length [] [] differ = absurd (differ refl)
-csv-same_length [] (y ∷ ys) differ = refl
-csv-same_length (x ∷ xs) [] differ = refl
-csv-same_length (x ∷ xs) (y ∷ ys) differ =
-    ap (λ (b : Bool). bytes_eq y x && b) (csv-same_length xs ys (λ e. differ (ap suc e))) ∙ and_false (bytes_eq y x)
+same_length [] [] differ = absurd (differ refl)
+same_length [] (y ∷ ys) differ = refl
+same_length (x ∷ xs) [] differ = refl
+same_length (x ∷ xs) (y ∷ ys) differ =
+    ap (λ (b : Bool). bytes_eq y x && b) (same_length xs ys (λ e. differ (ap suc e))) ∙ and_false (bytes_eq y x)
 
 field_dropped : (fs : Record) (i : ℕ) (f : Text) → field_at fs i ≡ Some f → drop i fs ≡ f ∷ drop (suc i) fs
 unfolding field_at
@@ -70,7 +70,7 @@ field_missing (x ∷ fs) zero e = cc
 field_missing (x ∷ fs) (suc i) e = let m = field_missing fs i e in omega arith
 
 pub other_length : (names : List (Bor Text)) (fs : Record) → ¬ (length fs ≡ length names) → false ≡ same_fields (texts names) fs
-other_length names fs differ = sym (csv-same_length (texts names) fs (λ e. differ (sym e ∙ map_length names)))
+other_length names fs differ = sym (same_length (texts names) fs (λ e. differ (sym e ∙ map_length names)))
   where
     map_length : (ws : List (Bor Text)) → length (texts ws) ≡ length ws
     map_length [] = refl

@@ -12,12 +12,12 @@ use Rattle.office_lists.specs.declared.exports.ExportKind.TheVariants.{Rooms, Pe
 use Rattle.office_lists.proofs.csv.Reaching.{all_records}
 
 -- a reader reaches the exported records one after the other
-csv-reached : (records : List Record)
+reached : (records : List Record)
     → Reached default_config st.StartRecord (export_bytes records) (map read_back records) st.StartRecord []
 unfolding Reached record_bytes
-csv-reached [] = (refl, refl)
-csv-reached (first ∷ rest) =
-    ((read_back first, st.StartRecord, export_bytes rest), read-write first (export_bytes rest), refl, csv-reached rest)
+reached [] = (refl, refl)
+reached (first ∷ rest) =
+    ((read_back first, st.StartRecord, export_bytes rest), read-write first (export_bytes rest), refl, reached rest)
 
 -- a text that does not begin with 0xEF has no byte order mark
 no_mark : (first : ℕ) (rest : List ℕ) → (first == 0xEF) ≡ false → strip_bom (first ∷ rest) ≡ first ∷ rest
@@ -51,7 +51,7 @@ unfolding records_of next_record
 is_read_back kind fields rows same =
     let records = export kind fields rows in
     rw (no_mark_in_export kind fields rows) (sym (all_records (export_bytes records) (map read_back records)
-    (st.StartRecord, [], csv-reached records, refl)) ∙ rw (same_header kind, same_rows fields rows same) refl)
+    (st.StartRecord, [], reached records, refl)) ∙ rw (same_header kind, same_rows fields rows same) refl)
 
 pub are_read_back : AreReadBack
 are_read_back = record {

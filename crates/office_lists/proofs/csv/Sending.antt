@@ -39,9 +39,9 @@ row_bytes_are header fields rows i d row own bytes low at is same =
     same ∙ is ∙ ap (λ (r : _). record_bytes (fields r)) at ∙ sym (rw add-one (ap record_bytes (at_row header fields rows i d low)))
 
 -- the first records and one more
-csv-next : (records : List Record) (count : ℕ) → count < length records
+one_record_more : (records : List Record) (count : ℕ) → count < length records
     → export_bytes (take (suc count) records) ≡ export_bytes (take count records) ++ record_bytes (record_at records count)
-csv-next records count low =
+one_record_more records count low =
     ap export_bytes (take-suc records count [] low)
     ∙ flat_map-append record_bytes (take count records) (record_at records count ∷ [])
     ∙ ap (λ (bytes : List ℕ). export_bytes (take count records) ++ bytes) (append-nil (record_bytes (record_at records count)))
@@ -73,7 +73,7 @@ pub writing_goes_on : (records : List Record) (count sent : ℕ) (before middle 
     → IsWritten records count sent before middle → IsWritten records (count + 1) (sent + length bytes) before after
 writing_goes_on records count sent before middle after bytes low is small puts so_far =
     let all : export_bytes (take count records) ++ bytes ≡ export_bytes (take (count + 1) records) =
-    ap (λ (b : List ℕ). export_bytes (take count records) ++ b) is ∙ sym (rw add-one (csv-next records count low)) in
+    ap (λ (b : List ℕ). export_bytes (take count records) ++ b) is ∙ sym (rw add-one (one_record_more records count low)) in
     record {
       size = let l = length-append (export_bytes (take count records)) bytes in
           omega (arith, so_far.size, l) ∙ ap length all;

@@ -9,7 +9,7 @@ use Rattle.room_types.specs.declared.moves.Wave.{Wave}
 use Rattle.room_types.specs.declared.moves.Wave.TheVariants.{Swap, Nth}
 use Rattle.office_lists.specs.Waves.{next, end_number_at, followed, HasNumber, IsWave, wave_of}
 use Rattle.office_lists.specs.Inner.Successors.{AreInjective, AreSuccessors, IsNumbered, NumbersChain}
-use Rattle.office_lists.proofs.move_days.Following.{move_days-followed-beyond, move_days-number-end, move_days-number-none, move_days-number-later, move_days-number-back, move_days-one_wave, move_days-some_wave}
+use Rattle.office_lists.proofs.move_days.Following.{followed-beyond, number-end, number-none, number-later, number-back, one_wave, some_wave}
 
 pub next-within : (ls : List (Option ℕ)) (i j : ℕ) → next ls i ≡ Some j → i < length ls
 next-within ls i j e =
@@ -78,7 +78,7 @@ all_numbered fs end first count old new so at = record {
   reached = λ c i e.
       elim (cases_lt c count) [
         | inl less ↦ so.reached c i less e
-        | inr more ↦ cc (sym (move_days-followed-beyond fs count c end at more) ∙ e)
+        | inr more ↦ cc (sym (followed-beyond fs count c end at more) ∙ e)
       ];
   right = so.right;
   kept = so.kept;
@@ -99,49 +99,49 @@ fewer_done ends ls fs few count waves low so = record {
 
 module _ (ends : List ℕ) (ls fs : List (Option ℕ)) (linked : AreSuccessors ls fs) where
   -- an entry that is c steps from the end of its chain has the number of the end plus c
-  pub move_days-number-along : (c end i : ℕ) → next ls end ≡ None → followed fs c end ≡ Some i → HasNumber ends ls (c + end_number_at ends end) i
-  move_days-number-along zero end i none e =
+  pub number-along : (c end i : ℕ) → next ls end ≡ None → followed fs c end ≡ Some i → HasNumber ends ls (c + end_number_at ends end) i
+  number-along zero end i none e =
       let is : end_number_at ends end ≡ 0 + end_number_at ends end = omega arith in
-      subst (HasNumber ends ls (0 + end_number_at ends end)) (same_Some end i e) (move_days-number-end ends ls (0 + end_number_at ends end) end none (sym is))
-  move_days-number-along (suc c) end i none e =
+      subst (HasNumber ends ls (0 + end_number_at ends end)) (same_Some end i e) (number-end ends ls (0 + end_number_at ends end) end none (sym is))
+  number-along (suc c) end i none e =
       let is : suc (c + end_number_at ends end) ≡ suc c + end_number_at ends end = omega arith in
       subst (λ n. HasNumber ends ls n i) is
       (elim (followed fs c end) as (λ o. followed fs c end ≡ o → option_and_then (next fs) o ≡ Some i → HasNumber ends ls (suc (c + end_number_at ends end)) i) [
         | None ↦ λ f g. cc
-        | Some j ↦ λ f g. move_days-number-later ends ls (c + end_number_at ends end) i j (linked.after i j g) (move_days-number-along c end j none f)
+        | Some j ↦ λ f g. number-later ends ls (c + end_number_at ends end) i j (linked.after i j g) (number-along c end j none f)
       ] refl e)
 
-  pub move_days-within-along : (c end i : ℕ) → end < length ls → followed fs c end ≡ Some i → i < length ls
-  move_days-within-along zero end i in' e = subst (λ k. k < length ls) (same_Some end i e) in'
-  move_days-within-along (suc c) end i in' e =
+  pub within-along : (c end i : ℕ) → end < length ls → followed fs c end ≡ Some i → i < length ls
+  within-along zero end i in' e = subst (λ k. k < length ls) (same_Some end i e) in'
+  within-along (suc c) end i in' e =
       elim (followed fs c end) as (λ o. followed fs c end ≡ o → option_and_then (next fs) o ≡ Some i → i < length ls) [
         | None ↦ λ f g. cc
         | Some j ↦ λ f g. next-within ls i j (linked.after i j g)
       ] refl e
 
   -- an entry with a number is on a chain that ends
-  pub move_days-end_of : (n i : ℕ) → i < length ls → AreInjective ls → HasNumber ends ls n i → (end : ℕ) × (c : ℕ) × (end < length ls) × (next ls end ≡ None) × (followed fs c end ≡ Some i)
-  move_days-end_of zero i in' apart h =
+  pub end_of : (n i : ℕ) → i < length ls → AreInjective ls → HasNumber ends ls n i → (end : ℕ) × (c : ℕ) × (end < length ls) × (next ls end ≡ None) × (followed fs c end ≡ Some i)
+  end_of zero i in' apart h =
       elim (next ls i) as (λ o. next ls i ≡ o → (end : ℕ) × (c : ℕ) × (end < length ls) × (next ls end ≡ None) × (followed fs c end ≡ Some i)) [
         | None ↦ λ e. (i, 0, in', e, refl)
-        | Some j ↦ λ e. absurd (move_days-number-none ends ls i j e h)
+        | Some j ↦ λ e. absurd (number-none ends ls i j e h)
       ] refl
-  move_days-end_of (suc n) i in' apart h =
+  end_of (suc n) i in' apart h =
       elim (next ls i) as (λ o. next ls i ≡ o → (end : ℕ) × (c : ℕ) × (end < length ls) × (next ls end ≡ None) × (followed fs c end ≡ Some i)) [
         | None ↦ λ e. (i, 0, in', e, refl)
         | Some j ↦ λ e.
-            let rest = move_days-end_of n j (apart.within i j e) apart (move_days-number-back ends ls n i j e h) in
+            let rest = end_of n j (apart.within i j e) apart (number-back ends ls n i j e h) in
             (rest.0, suc rest.1, rest.2, rest.3, ap (option_and_then (next fs)) rest.4 ∙ linked.before i j e)
       ] refl
 
   -- the next entry ends a chain, which is numbered now
-  pub move_days-end_done : (count : ℕ) (old new : List Wave) → AreNumberedTo ends ls fs count old → next ls count ≡ None → length new ≡ length old → NumbersChain fs count (end_number_at ends count) old new → AreNumberedTo ends ls fs (count + 1) new
-  move_days-end_done count old new so none same chain = record {
+  pub end_done : (count : ℕ) (old new : List Wave) → AreNumberedTo ends ls fs count old → next ls count ≡ None → length new ≡ length old → NumbersChain fs count (end_number_at ends count) old new → AreNumberedTo ends ls fs (count + 1) new
+  end_done count old new so none same chain = record {
     same_length = same ∙ so.same_length;
     right = λ i number e.
         elim (chain.right i number e) [
           | inl was ↦ so.right i number was
-          | inr now ↦ subst (λ n. HasNumber ends ls n i) (sym now.1) (move_days-number-along now.0 count i none now.2)
+          | inr now ↦ subst (λ n. HasNumber ends ls n i) (sym now.1) (number-along now.0 count i none now.2)
         ];
     done = λ end c i low last at.
         elim (cases_lt end count) [
@@ -151,8 +151,8 @@ module _ (ends : List ℕ) (ls fs : List (Option ℕ)) (linked : AreSuccessors l
   }
 
   -- the next entry does not end a chain
-  pub move_days-other_done : (count : ℕ) (waves : List Wave) → AreNumberedTo ends ls fs count waves → (j : ℕ) → next ls count ≡ Some j → AreNumberedTo ends ls fs (count + 1) waves
-  move_days-other_done count waves so j some = record {
+  pub other_done : (count : ℕ) (waves : List Wave) → AreNumberedTo ends ls fs count waves → (j : ℕ) → next ls count ≡ Some j → AreNumberedTo ends ls fs (count + 1) waves
+  other_done count waves so j some = record {
     same_length = so.same_length;
     right = so.right;
     done = λ end c i low last at.
@@ -163,14 +163,14 @@ module _ (ends : List ℕ) (ls fs : List (Option ℕ)) (linked : AreSuccessors l
   }
 
   module _ (apart : AreInjective ls) (low : (i : ℕ) → end_number_at ends i ≤ 1) (waves : List Wave) (so : AreNumberedTo ends ls fs (length ls) waves) where
-    pub move_days-wave_at : (i : ℕ) → i < length ls → get_or waves i Swap ≡ wave_of ends ls i
-    move_days-wave_at i in' =
+    pub wave_at : (i : ℕ) → i < length ls → get_or waves i Swap ≡ wave_of ends ls i
+    wave_at i in' =
         elim (get_or waves i Swap) as (λ w. get_or waves i Swap ≡ w → w ≡ wave_of ends ls i) [
-          | Nth n ↦ λ e. move_days-one_wave ends ls i (Nth n) (wave_of ends ls i) (so.right i n e) (move_days-some_wave ends ls apart low i in')
+          | Nth n ↦ λ e. one_wave ends ls i (Nth n) (wave_of ends ls i) (so.right i n e) (some_wave ends ls apart low i in')
           | Swap ↦ λ e. elim (wave_of ends ls i) as (λ v. wave_of ends ls i ≡ v → Swap ≡ v) [
             | Swap ↦ λ f. refl
             | Nth m ↦ λ f.
-                let last = move_days-end_of m i in' apart (subst (IsWave ends ls i) f (move_days-some_wave ends ls apart low i in')) in
+                let last = end_of m i in' apart (subst (IsWave ends ls i) f (some_wave ends ls apart low i in')) in
                 let there = so.done last.0 last.1 i last.2 last.3 last.4 in
                 cc (sym e ∙ there.1)
           ] refl

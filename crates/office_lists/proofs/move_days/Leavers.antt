@@ -16,8 +16,8 @@ use Rattle.room_types.specs.declared.moves.Wave.TheVariants.{Swap, Nth}
 use Rattle.room_types.proofs.options.Options.{option_or-none}
 use Rattle.std.proofs.lemmas.List.FromFn.{fill_by_all, length-map-range_with_len}
 use Rattle.office_lists.specs.Inner.Successors.{AreInjective, AreSuccessors}
-use Rattle.office_lists.proofs.move_days.Following.{move_days-one_wave, move_days-some_wave}
-use Rattle.office_lists.proofs.move_days.Chains.{next-within, AreNumberedTo, move_days-wave_at}
+use Rattle.office_lists.proofs.move_days.Following.{one_wave, some_wave}
+use Rattle.office_lists.proofs.move_days.Chains.{next-within, AreNumberedTo, wave_at}
 
 position_at : {X : Type 0} (p : X → Bool) (xs : List X) (k n : ℕ) → position_or_len p xs ≡ k → length xs ≡ n → position p xs ≡ cond (ltb k n) (Some k) None
 position_at p xs k n at many = λ i. cond (ltb (at i) (many i)) (Some (at i)) None
@@ -70,8 +70,8 @@ first_missing (Some x) y e = cc
 
 module _ (entries : List Relocation) (i : ℕ) (entry : Relocation) (in' : i < length entries) (is : entry ≡ get_or entries i entry) (room : Text) where
   -- an entry without an old room is nobody's leaver
-  pub move_days-without_old_room : entry.1 ≡ None → leaver (take (i + 1) entries) room ≡ leaver (take i entries) room
-  move_days-without_old_room none =
+  pub without_old_room : entry.1 ≡ None → leaver (take (i + 1) entries) room ≡ leaver (take i entries) room
+  without_old_room none =
       leaver-more entries i entry room in' is
       ∙ ap (λ old. option_or (leaver (take i entries) room) (cond (option_map_or (λ old. text_eq old room) old false) (Some i) None)) none
       ∙ option_or-none (leaver (take i entries) room)
@@ -81,16 +81,16 @@ module _ (entries : List Relocation) (i : ℕ) (entry : Relocation) (in' : i < l
     more = leaver-more entries i entry room in' is ∙ ap (λ o. option_or (leaver (take i entries) room) (cond (option_map_or (λ old. text_eq old room) o false) (Some i) None)) has
 
     -- if the room already has a leaver, a later entry with the same old room changes nothing
-    pub move_days-known_old_room : is_some (leaver (take i entries) old) ≡ true → leaver (take (i + 1) entries) room ≡ leaver (take i entries) room
-    move_days-known_old_room known =
+    pub known_old_room : is_some (leaver (take i entries) old) ≡ true → leaver (take (i + 1) entries) room ≡ leaver (take i entries) room
+    known_old_room known =
         more ∙ elim (text_eq old room) as (λ b. text_eq old room ≡ b → option_or (leaver (take i entries) room) (cond b (Some i) None) ≡ leaver (take i entries) room) [
           | true ↦ λ e. first_there (leaver (take i entries) room) (Some i) (subst (λ r. is_some (leaver (take i entries) r) ≡ true) ((bytes_eq-Decides old room).0 e) known)
           | false ↦ λ e. option_or-none (leaver (take i entries) room)
         ] refl
 
     -- otherwise the entry is the leaver of its old room
-    pub move_days-new_old_room : is_some (leaver (take i entries) old) ≡ false → leaver (take (i + 1) entries) room ≡ cond (text_eq old room) (Some i) (leaver (take i entries) room)
-    move_days-new_old_room new =
+    pub new_old_room : is_some (leaver (take i entries) old) ≡ false → leaver (take (i + 1) entries) room ≡ cond (text_eq old room) (Some i) (leaver (take i entries) room)
+    new_old_room new =
         more ∙ elim (text_eq old room) as (λ b. text_eq old room ≡ b → option_or (leaver (take i entries) room) (cond b (Some i) None) ≡ cond b (Some i) (leaver (take i entries) room)) [
           | true ↦ λ e. first_missing (leaver (take i entries) room) (Some i) (subst (λ r. is_some (leaver (take i entries) r) ≡ false) ((bytes_eq-Decides old room).0 e) new)
           | false ↦ λ e. option_or-none (leaver (take i entries) room)
@@ -147,14 +147,14 @@ first_at_most_one (entry ∷ entries) zero = end_at_most_one entry.2
 first_at_most_one (entry ∷ entries) (suc i) = first_at_most_one entries i
 
 -- the end number of entry i is that of the entry itself
-pub move_days-end_number_at : (entries : List Relocation) (i : ℕ) (d : Relocation) → i < length entries → end_number_at (end_numbers entries) i ≡ option_map_or (λ room. 1) (get_or entries i d).2 0
-move_days-end_number_at [] i d low = absurd (omega (arith, low))
-move_days-end_number_at (entry ∷ entries) zero d low = refl
-move_days-end_number_at (entry ∷ entries) (suc i) d low = move_days-end_number_at entries i d (omega (arith, low))
+pub end_number_of_entry : (entries : List Relocation) (i : ℕ) (d : Relocation) → i < length entries → end_number_at (end_numbers entries) i ≡ option_map_or (λ room. 1) (get_or entries i d).2 0
+end_number_of_entry [] i d low = absurd (omega (arith, low))
+end_number_of_entry (entry ∷ entries) zero d low = refl
+end_number_of_entry (entry ∷ entries) (suc i) d low = end_number_of_entry entries i d (omega (arith, low))
 
 module _ (entries : List Relocation) where
-  move_days-has_leaver : (i k : ℕ) → next (leavers entries) i ≡ Some k → HasLeaver entries i k
-  move_days-has_leaver i k e =
+  has_leaver : (i k : ℕ) → next (leavers entries) i ≡ Some k → HasLeaver entries i k
+  has_leaver i k e =
       let many : length (leavers entries) ≡ length entries = length-map entries (λ entry. option_and_then (leaver entries) entry.2) in
       let in' : i < length entries = omega (arith, next-within (leavers entries) i k e) in
       let at : next (leavers entries) i ≡ option_and_then (leaver entries) (get_or entries i ([], None, None)).2 = get_or-map (λ entry. option_and_then (leaver entries) entry.2) entries i ([], None, None) None in' in
@@ -165,12 +165,12 @@ module _ (entries : List Relocation) where
             record { within = in'; room = room; to = f; below = found.0; left = found.1 }
       ] refl (sym at ∙ e)
 
-  pub move_days-leavers-injective : NewRoomsDiffer entries → AreInjective (leavers entries)
-  move_days-leavers-injective differ = record {
-    within = λ i j e. omega (arith, (move_days-has_leaver i j e).below, length-map entries (λ entry. option_and_then (leaver entries) entry.2));
+  pub leavers-injective : NewRoomsDiffer entries → AreInjective (leavers entries)
+  leavers-injective differ = record {
+    within = λ i j e. omega (arith, (has_leaver i j e).below, length-map entries (λ entry. option_and_then (leaver entries) entry.2));
     one = λ i j k e f.
-        let a = move_days-has_leaver i k e in
-        let b = move_days-has_leaver j k f in
+        let a = has_leaver i k e in
+        let b = has_leaver j k f in
         let same : a.room ≡ b.room = same_room a.room b.room (get_or entries k ([], None, None)) a.left b.left in
         elim (cases_lt i j) [
           | inl less ↦ absurd (differ i j ([], None, None) less b.within a.room a.to (b.to ∙ ap (λ r. Some r) (sym same)))
@@ -181,41 +181,41 @@ module _ (entries : List Relocation) where
         ];
   }
 
-  pub move_days-length-waves_of : length (waves_of entries) ≡ length entries
-  move_days-length-waves_of = length-map-range_with_len (wave_of (end_numbers entries) (leavers entries)) 0 (length entries)
+  pub length-waves_of : length (waves_of entries) ≡ length entries
+  length-waves_of = length-map-range_with_len (wave_of (end_numbers entries) (leavers entries)) 0 (length entries)
 
-  pub move_days-length-leavers : length (leavers entries) ≡ length entries
-  move_days-length-leavers = length-map entries (λ entry. option_and_then (leaver entries) entry.2)
+  pub length-leavers : length (leavers entries) ≡ length entries
+  length-leavers = length-map entries (λ entry. option_and_then (leaver entries) entry.2)
 
   module _ (differ : NewRoomsDiffer entries) where
-    move_days-has_wave : (i : ℕ) → i < length entries → IsWave (end_numbers entries) (leavers entries) i (wave_of (end_numbers entries) (leavers entries) i)
-    move_days-has_wave i in' = move_days-some_wave (end_numbers entries) (leavers entries) (move_days-leavers-injective differ) (first_at_most_one entries) i (omega (arith, move_days-length-leavers))
+    has_wave : (i : ℕ) → i < length entries → IsWave (end_numbers entries) (leavers entries) i (wave_of (end_numbers entries) (leavers entries) i)
+    has_wave i in' = some_wave (end_numbers entries) (leavers entries) (leavers-injective differ) (first_at_most_one entries) i (omega (arith, length-leavers))
 
-    pub move_days-one_wave_each : HaveOneWaveEach entries
-    move_days-one_wave_each = record {
-      some = move_days-has_wave;
-      one = λ i wave in' is. move_days-one_wave (end_numbers entries) (leavers entries) i wave (wave_of (end_numbers entries) (leavers entries) i) is (move_days-has_wave i in');
+    pub waves_agree : HaveOneWaveEach entries
+    waves_agree = record {
+      some = has_wave;
+      one = λ i wave in' is. one_wave (end_numbers entries) (leavers entries) i wave (wave_of (end_numbers entries) (leavers entries) i) is (has_wave i in');
     }
 
     module _ (fs : List (Option ℕ)) (waves : List Wave) (linked : AreSuccessors (leavers entries) fs) (so : AreNumberedTo (end_numbers entries) (leavers entries) fs (length (leavers entries)) waves) where
       -- once the chains of all ends are numbered, each entry has its wave
       each_wave : (i : ℕ) → i < length entries → get_or waves i Swap ≡ wave_of (end_numbers entries) (leavers entries) i
-      each_wave i in' = move_days-wave_at (end_numbers entries) (leavers entries) fs linked (move_days-leavers-injective differ) (first_at_most_one entries) waves so i (omega (arith, move_days-length-leavers))
+      each_wave i in' = wave_at (end_numbers entries) (leavers entries) fs linked (leavers-injective differ) (first_at_most_one entries) waves so i (omega (arith, length-leavers))
 
       pub are_waves : AreWaves entries waves
       are_waves = record {
-        same_length = so.same_length ∙ move_days-length-leavers;
-        each = λ i in'. subst (IsWave (end_numbers entries) (leavers entries) i) (sym (each_wave i in')) (move_days-has_wave i in');
+        same_length = so.same_length ∙ length-leavers;
+        each = λ i in'. subst (IsWave (end_numbers entries) (leavers entries) i) (sym (each_wave i in')) (has_wave i in');
       }
 
       pub are_computed : waves ≡ waves_of entries
-      are_computed = fill_by_all (wave_of (end_numbers entries) (leavers entries)) waves (length entries) Swap (so.same_length ∙ move_days-length-leavers) each_wave
+      are_computed = fill_by_all (wave_of (end_numbers entries) (leavers entries)) waves (length entries) Swap (so.same_length ∙ length-leavers) each_wave
 
 -- ---- entries without a new room
 
-move_days-next : (entries : List Relocation) (i : ℕ) (d : Relocation) → i < length entries
+next_leaver : (entries : List Relocation) (i : ℕ) (d : Relocation) → i < length entries
     → next (leavers entries) i ≡ option_and_then (leaver entries) (get_or entries i d).2
-move_days-next entries i d low = get_or-map (λ (entry : Relocation). option_and_then (leaver entries) entry.2) entries i d None low
+next_leaver entries i d low = get_or-map (λ (entry : Relocation). option_and_then (leaver entries) entry.2) entries i d None low
 
 first_wave : (ends : List ℕ) (ls : List (Option ℕ)) (i limit : ℕ) → 0 < limit → next ls i ≡ None → end_number_at ends i ≡ 0
     → option_map_or (λ number. Nth number) (chain_number ends ls limit i) Swap ≡ Nth 0
@@ -228,7 +228,7 @@ first_wave ends ls i (suc limit) some none first =
 pub departing_wave : (entries : List Relocation) (i : ℕ) (d : Relocation) → i < length entries → (get_or entries i d).2 ≡ None
     → wave_of (end_numbers entries) (leavers entries) i ≡ Nth 0
 departing_wave entries i d low nowhere =
-    let many = move_days-length-leavers entries in
+    let many = length-leavers entries in
     first_wave (end_numbers entries) (leavers entries) i (length (leavers entries)) (omega (arith, low, many))
-    (move_days-next entries i d low ∙ ap (option_and_then (leaver entries)) nowhere)
-    (move_days-end_number_at entries i d low ∙ ap (λ to. option_map_or (λ room. 1) to 0) nowhere)
+    (next_leaver entries i d low ∙ ap (option_and_then (leaver entries)) nowhere)
+    (end_number_of_entry entries i d low ∙ ap (λ to. option_map_or (λ room. 1) to 0) nowhere)

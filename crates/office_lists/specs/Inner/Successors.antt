@@ -9,7 +9,7 @@ pub record AreInjective (leavers : List (Option ℕ)) : Type 0 where
   pub within : (i j : ℕ) → next leavers i ≡ Some j → j < length leavers
   pub one : (i j k : ℕ) → next leavers i ≡ Some k → next leavers j ≡ Some k → i ≡ j
 
--- `successors` is the inverse of `leavers`: for each entry, the one whose leaver it is
+-- `successors` is the inverse of `leavers`: `leavers` gives j for i if and only if `successors` gives i for j
 pub record AreSuccessors (leavers successors : List (Option ℕ)) : Type 0 where
   pub same_length : length successors ≡ length leavers
   pub after : (i j : ℕ) → next successors j ≡ Some i → next leavers i ≡ Some j

@@ -12,9 +12,9 @@ use Rattle.std.proofs.lemmas.List.Sorted.{IsPermutation-refl, IsPermutation-sym,
 use Rattle.std.proofs.lemmas.Map.Keys.{IsDistinct-head, IsDistinct-tail}
 use Rattle.std.proofs.lemmas.Option.{same_Some}
 use Rattle.room_types.specs.Texts.{Text, TextMap, text_cmp}
-use Rattle.room_types.proofs.maps.TextMaps.{exact_texts, maps-get-put_other}
-use Rattle.room_types.proofs.maps.Trees.{maps-entries-empty}
-use Rattle.room_types.proofs.maps.Entries.{each_always, maps-insert-new, maps-permuted_keys, maps-one_map}
+use Rattle.room_types.proofs.maps.TextMaps.{exact_texts, get-put_other}
+use Rattle.room_types.proofs.maps.Trees.{entries-empty}
+use Rattle.room_types.proofs.maps.Entries.{each_always, insert-new, permuted_keys, one_map}
 use Rattle.room_types.proofs.options.Options.{none_if_not_some}
 use Rattle.office_schema.specs.rows.Inner.Filled.{filled}
 use Rattle.office_schema.specs.rows.Reads.{Reads, IsAny}
@@ -28,7 +28,7 @@ module _ {X : Type 0} where
         | true ↦ λ t h. absurd (cc)
         | false ↦ λ t h.
             IsPermutation-trans _ _ _ (IsPermutation-middle (maps.entries m) f es)
-            (IsPermutation-trans _ _ _ (IsPermutation-append_left es _ _ (maps-insert-new nat_list_cmp_total exact_texts m f.0 f.1 (none_if_not_some (maps.get m f.0) t))) (filled-has es (maps.insert m f.0 f.1) final h))
+            (IsPermutation-trans _ _ _ (IsPermutation-append_left es _ _ (insert-new nat_list_cmp_total exact_texts m f.0 f.1 (none_if_not_some (maps.get m f.0) t))) (filled-has es (maps.insert m f.0 f.1) final h))
       ] refl e
 
   abbrev AreNew : TextMap X → List (Text × X) → Type 0
@@ -37,7 +37,7 @@ module _ {X : Type 0} where
   still_new : (m : TextMap X) (k : Text) (v : X) (es : List (Text × X)) → AllByRecursion (λ q. eq_by_cmp text_cmp k q ≡ false) (map (λ e. e.0) es) → AreNew m es → AreNew (maps.insert m k v) es
   still_new m k v [] apart h = tt
   still_new m k v (e ∷ es) apart h =
-      (ap is_some (maps-get-put_other m k v e.0 ((eq_by_cmp_equiv nat_list_cmp_total).symm e.0 k ∙ apart.0)) ∙ h.0, still_new m k v es apart.1 h.1)
+      (ap is_some (get-put_other m k v e.0 ((eq_by_cmp_equiv nat_list_cmp_total).symm e.0 k ∙ apart.0)) ∙ h.0, still_new m k v es apart.1 h.1)
 
   -- If the keys are distinct and new, every entry is inserted.
   pub filled-all : (es : List (Text × X)) (m : TextMap X) → IsDistinct (eq_by_cmp text_cmp) (map (λ e. e.0) es) → AreNew m es → filled m es ≡ None → ⊥
@@ -53,14 +53,14 @@ module _ {X : Type 0} where
   filled-rows : (rows es : List (Text × X)) → IsPermutation rows es → (found : Option (TextMap X)) → filled maps.empty es ≡ found → Reads IsAny maps.entries rows found
   filled-rows rows es moved None e = record {
     returned = tt;
-    only = λ m sound same. absurd (filled-all es maps.empty (maps-permuted_keys nat_list_cmp_total exact_texts m es (IsPermutation-trans _ _ _ same moved)) (all_new es) e);
+    only = λ m sound same. absurd (filled-all es maps.empty (permuted_keys nat_list_cmp_total exact_texts m es (IsPermutation-trans _ _ _ same moved)) (all_new es) e);
   }
   filled-rows rows es moved (Some final) e =
-      let has : IsPermutation es (maps.entries final) = subst (λ l. IsPermutation (l ++ es) (maps.entries final)) (maps-entries-empty nat_list_cmp_total) (filled-has es maps.empty final e) in
+      let has : IsPermutation es (maps.entries final) = subst (λ l. IsPermutation (l ++ es) (maps.entries final)) (entries-empty nat_list_cmp_total) (filled-has es maps.empty final e) in
       let returned : IsPermutation (maps.entries final) rows = IsPermutation-sym _ _ (IsPermutation-trans _ _ _ moved has) in
       record {
         returned = (tt, returned);
-        only = λ m sound same. ap (λ l. Some l) (maps-one_map nat_list_cmp_total exact_texts final m (IsPermutation-trans _ _ _ returned (IsPermutation-sym _ _ same)));
+        only = λ m sound same. ap (λ l. Some l) (one_map nat_list_cmp_total exact_texts final m (IsPermutation-trans _ _ _ returned (IsPermutation-sym _ _ same)));
       }
 
   pub filled-reads : (rows : List (Text × X)) → Reads IsAny maps.entries rows (filled maps.empty (reverse rows))

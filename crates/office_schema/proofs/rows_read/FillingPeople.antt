@@ -14,10 +14,10 @@ use Rattle.std.proofs.lemmas.Option.{same_Some}
 use Rattle.std.proofs.lemmas.Bool.{both_ways, false_from_ne_true}
 use Rattle.sqlite_keyed.proofs.ListLemmas.{map-map, all_map, all_unmap}
 use Rattle.room_types.specs.Texts.{Text, text_cmp}
-use Rattle.room_types.proofs.maps.TextMaps.{exact_texts, text_cases, maps-get-put_other, maps-contains_key-put, maps-contains_key-put_same}
-use Rattle.room_types.proofs.maps.Trees.{maps-entries-empty}
+use Rattle.room_types.proofs.maps.TextMaps.{exact_texts, text_cases, get-put_other, contains_key-put, contains_key-put_same}
+use Rattle.room_types.proofs.maps.Trees.{entries-empty}
 use Rattle.office_state.specs.declared.office.person.Person.{Person}
-use Rattle.room_types.proofs.maps.Entries.{maps-at_keys, maps-at_entries, each_always, maps-insert-new, permuted_all, maps-permuted_keys, maps-one_map}
+use Rattle.room_types.proofs.maps.Entries.{at_keys, at_entries, each_always, insert-new, permuted_all, permuted_keys, one_map}
 use Rattle.room_types.proofs.options.Options.{none_if_not_some}
 use Rattle.office_schema.specs.rows.Inner.FilledPeople.{marked, nobody, with_person, filled_people}
 use Rattle.office_schema.specs.rows.People.{AreValid, people_rows}
@@ -39,18 +39,18 @@ module _ (p : People) (row : PersonRecord) (known : AreValid p) (new : maps.cont
 
   own_flag : maps.contains_key (marked p.withdrawn row) row.id ≡ row.withdrawn
   own_flag = elim row.withdrawn as (λ b. maps.contains_key (cond b (maps.insert p.withdrawn row.id tt) p.withdrawn) row.id ≡ b) [
-    | true ↦ maps-contains_key-put_same p.withdrawn row.id tt
+    | true ↦ contains_key-put_same p.withdrawn row.id tt
     | false ↦ not_withdrawn
   ]
 
   other_flag : (q : Text) → eq_by_cmp text_cmp q row.id ≡ false → maps.contains_key (marked p.withdrawn row) q ≡ maps.contains_key p.withdrawn q
   other_flag q apart = elim row.withdrawn as (λ b. maps.contains_key (cond b (maps.insert p.withdrawn row.id tt) p.withdrawn) q ≡ maps.contains_key p.withdrawn q) [
-    | true ↦ ap is_some (maps-get-put_other p.withdrawn row.id tt q apart)
+    | true ↦ ap is_some (get-put_other p.withdrawn row.id tt q apart)
     | false ↦ refl
   ]
 
   others : AllByRecursion (λ (e : Text × Person). person_row p.withdrawn e ≡ person_row (marked p.withdrawn row) e) (maps.entries p.people)
-  others = maps-at_entries nat_list_cmp_total exact_texts (λ k v. person_row p.withdrawn (k, v) ≡ person_row (marked p.withdrawn row) (k, v)) p.people (λ k v f.
+  others = at_entries nat_list_cmp_total exact_texts (λ k v. person_row p.withdrawn (k, v) ≡ person_row (marked p.withdrawn row) (k, v)) p.people (λ k v f.
       elim (text_cases k row.id) as (λ _. person_row p.withdrawn (k, v) ≡ person_row (marked p.withdrawn row) (k, v)) [
         | inl same ↦ absurd (both_ways (maps.contains_key p.people k) (ap (λ q. maps.contains_key p.people q) same ∙ new) (ap is_some f))
         | inr apart ↦ ap (λ b. record { id = k; person = v; withdrawn = b }) (sym (other_flag k apart))
@@ -59,7 +59,7 @@ module _ (p : People) (row : PersonRecord) (known : AreValid p) (new : maps.cont
   pub rows_more : IsPermutation (row ∷ people_rows p) (people_rows (with_person p row))
   rows_more =
       let one : IsPermutation (map (person_row (marked p.withdrawn row)) ((row.id, row.person) ∷ maps.entries p.people)) (people_rows (with_person p row)) =
-      IsPermutation-map (person_row (marked p.withdrawn row)) _ _ (maps-insert-new nat_list_cmp_total exact_texts p.people row.id row.person (none_if_not_some (maps.get p.people row.id) new)) in
+      IsPermutation-map (person_row (marked p.withdrawn row)) _ _ (insert-new nat_list_cmp_total exact_texts p.people row.id row.person (none_if_not_some (maps.get p.people row.id) new)) in
       let head : person_row (marked p.withdrawn row) (row.id, row.person) ≡ row = ap (λ b. record { id = row.id; person = row.person; withdrawn = b }) own_flag in
       let tail : map (person_row (marked p.withdrawn row)) (maps.entries p.people) ≡ people_rows p = sym (map_each (person_row p.withdrawn) (person_row (marked p.withdrawn row)) (maps.entries p.people) others) in
       subst (λ l. IsPermutation l (people_rows (with_person p row))) (λ i. head i ∷ tail i) one
@@ -67,8 +67,8 @@ module _ (p : People) (row : PersonRecord) (known : AreValid p) (new : maps.cont
   pub known_more : AreValid (with_person p row)
   known_more = record {
     withdrawers = λ q h. elim (text_cases q row.id) as (λ _. maps.contains_key (maps.insert p.people row.id row.person) q ≡ true) [
-      | inl same ↦ ap (λ k. maps.contains_key (maps.insert p.people row.id row.person) k) same ∙ maps-contains_key-put_same p.people row.id row.person
-      | inr apart ↦ maps-contains_key-put p.people row.id row.person q (known.withdrawers q (sym (other_flag q apart) ∙ h))
+      | inl same ↦ ap (λ k. maps.contains_key (maps.insert p.people row.id row.person) k) same ∙ contains_key-put_same p.people row.id row.person
+      | inr apart ↦ contains_key-put p.people row.id row.person q (known.withdrawers q (sym (other_flag q apart) ∙ h))
     ];
   }
 
@@ -97,7 +97,7 @@ AreNew p rows = AllByRecursion (λ r. maps.contains_key p.people r.id ≡ false)
 still_new : (p : People) (row : PersonRecord) (rows : List PersonRecord) → AllByRecursion (λ q. eq_by_cmp text_cmp row.id q ≡ false) (map id_of rows) → AreNew p rows → AreNew (with_person p row) rows
 still_new p row [] apart h = tt
 still_new p row (r ∷ rows) apart h =
-    (ap is_some (maps-get-put_other p.people row.id row.person r.id ((eq_by_cmp_equiv nat_list_cmp_total).symm r.id row.id ∙ apart.0)) ∙ h.0, still_new p row rows apart.1 h.1)
+    (ap is_some (get-put_other p.people row.id row.person r.id ((eq_by_cmp_equiv nat_list_cmp_total).symm r.id row.id ∙ apart.0)) ∙ h.0, still_new p row rows apart.1 h.1)
 
 filled_people-all : (rows : List PersonRecord) (p : People) → IsDistinct (eq_by_cmp text_cmp) (map id_of rows) → AreNew p rows → filled_people p rows ≡ None → ⊥
 filled_people-all [] p d h n = cc
@@ -122,15 +122,15 @@ entries_moved p rows same = subst (λ l. IsPermutation l (map entry_of rows)) (l
 ids_differ : (p : People) (rows : List PersonRecord) → IsPermutation (people_rows p) rows → IsDistinct (eq_by_cmp text_cmp) (map id_of rows)
 ids_differ p rows same =
     subst (λ l. IsDistinct (eq_by_cmp text_cmp) l) (map-map (λ (e : Text × Person). e.0) entry_of rows)
-    (maps-permuted_keys nat_list_cmp_total exact_texts p.people (map entry_of rows) (entries_moved p rows same))
+    (permuted_keys nat_list_cmp_total exact_texts p.people (map entry_of rows) (entries_moved p rows same))
 
 -- Rows determine the people and who has withdrawn.
 pub one_people : (p q : People) → AreValid p → AreValid q → IsPermutation (people_rows p) (people_rows q) → p ≡ q
 one_people p q known_p known_q same =
     let people : p.people ≡ q.people =
-    maps-one_map nat_list_cmp_total exact_texts p.people q.people (subst (λ l. IsPermutation (maps.entries p.people) l) (listed q) (entries_moved p (people_rows q) same)) in
+    one_map nat_list_cmp_total exact_texts p.people q.people (subst (λ l. IsPermutation (maps.entries p.people) l) (listed q) (entries_moved p (people_rows q) same)) in
     let flags : (k : Text) (v : Person) → maps.get q.people k ≡ Some v → maps.contains_key p.withdrawn k ≡ maps.contains_key q.withdrawn k =
-    maps-at_keys nat_list_cmp_total exact_texts (λ k v. maps.contains_key p.withdrawn k ≡ maps.contains_key q.withdrawn k) q.people
+    at_keys nat_list_cmp_total exact_texts (λ k v. maps.contains_key p.withdrawn k ≡ maps.contains_key q.withdrawn k) q.people
     (all_unmap (λ (r : PersonRecord). maps.contains_key p.withdrawn r.id ≡ r.withdrawn) (person_row q.withdrawn) (maps.entries q.people)
     (permuted_all (λ (r : PersonRecord). maps.contains_key p.withdrawn r.id ≡ r.withdrawn) (people_rows p) (people_rows q) same
     (all_map (λ (r : PersonRecord). maps.contains_key p.withdrawn r.id ≡ r.withdrawn) (person_row p.withdrawn) (maps.entries p.people) (each_always (λ (e : Text × Person). maps.contains_key p.withdrawn e.0 ≡ maps.contains_key p.withdrawn e.0) (λ e. refl) (maps.entries p.people))))) in
@@ -155,7 +155,7 @@ nobody_known : AreValid nobody
 nobody_known = record { withdrawers = λ q h. absurd (both_ways _ (ap is_some (get-empty {X = Unit {0}} text_cmp q)) h) }
 
 no_rows : people_rows nobody ≡ []
-no_rows = ap (map (person_row maps.empty)) (maps-entries-empty nat_list_cmp_total)
+no_rows = ap (map (person_row maps.empty)) (entries-empty nat_list_cmp_total)
 
 all_new : (rows : List PersonRecord) → AreNew nobody rows
 all_new = each_always (λ (r : PersonRecord). maps.contains_key nobody.people r.id ≡ false) (λ r. ap is_some (get-empty {X = Person} text_cmp r.id))

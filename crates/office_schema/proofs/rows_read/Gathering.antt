@@ -16,12 +16,12 @@ use Rattle.std.specs.FinMap.Entries.{below_all, by_order, is_sorted}
 use Rattle.std.proofs.lemmas.Option.{same_Some}
 use Rattle.room_types.specs.Choices.{IsChoices}
 use Rattle.room_types.specs.Texts.{Text, TextMap, text_cmp}
-use Rattle.room_types.proofs.maps.TextMaps.{exact_texts, text_cases, maps-get-put_same, maps-get-put_other, maps-get-gone_other, less_from_test}
-use Rattle.room_types.proofs.maps.Trees.{maps-entries-empty}
+use Rattle.room_types.proofs.maps.TextMaps.{exact_texts, text_cases, get-put_same, get-put_other, get-gone_other, less_from_test}
+use Rattle.room_types.proofs.maps.Trees.{entries-empty}
 use Rattle.office_state.specs.Puts.{with_all}
 use Rattle.office_state.specs.Inner.Soundness.{is_choices}
 use Rattle.office_state.proofs.sound_offices.InvariantTests.{choices_at, at_choices}
-use Rattle.room_types.proofs.maps.Entries.{key_after, maps-at_keys, maps-at_entries, maps-below_less, each_always, each_weaker, maps-none_below}
+use Rattle.room_types.proofs.maps.Entries.{key_after, at_keys, at_entries, below_less, each_always, each_weaker, none_below}
 use Rattle.room_types.proofs.maps.TextMaps.{first_holds, second_holds}
 use Rattle.office_state.proofs.round_problems.Puts.{with_all-entries}
 use Rattle.office_schema.specs.rows.Rows.{AreValidLists, choices_from, list_rows, choice_rows}
@@ -34,20 +34,20 @@ abbrev Lists : Type 0
 Lists = TextMap (List Text)
 
 at_put : (m : Lists) (p : Text) (v : List Text) → list_at (map.insert m p v) p ≡ v
-at_put m p v = ap (λ o. unwrap_or o []) (maps-get-put_same m p v)
+at_put m p v = ap (λ o. unwrap_or o []) (get-put_same m p v)
 
 put_twice : (m : Lists) (p : Text) (v w : List Text) → map.insert (map.insert m p v) p w ≡ map.insert m p w
 put_twice m p v w = same_map nat_list_cmp_total exact_texts _ _ (λ q.
     elim (text_cases q p) as (λ _. map.get (map.insert (map.insert m p v) p w) q ≡ map.get (map.insert m p w) q) [
-      | inl same ↦ ap (λ k. map.get (map.insert (map.insert m p v) p w) k) same ∙ maps-get-put_same (map.insert m p v) p w ∙ sym (ap (λ k. map.get (map.insert m p w) k) same ∙ maps-get-put_same m p w)
-      | inr other ↦ maps-get-put_other (map.insert m p v) p w q other ∙ maps-get-put_other m p v q other ∙ sym (maps-get-put_other m p w q other)
+      | inl same ↦ ap (λ k. map.get (map.insert (map.insert m p v) p w) k) same ∙ get-put_same (map.insert m p v) p w ∙ sym (ap (λ k. map.get (map.insert m p w) k) same ∙ get-put_same m p w)
+      | inr other ↦ get-put_other (map.insert m p v) p w q other ∙ get-put_other m p v q other ∙ sym (get-put_other m p w q other)
     ])
 
 taken_put : (m : Lists) (p : Text) (w : List Text) → map.insert (map.remove m p) p w ≡ map.insert m p w
 taken_put m p w = same_map nat_list_cmp_total exact_texts _ _ (λ q.
     elim (text_cases q p) as (λ _. map.get (map.insert (map.remove m p) p w) q ≡ map.get (map.insert m p w) q) [
-      | inl same ↦ ap (λ k. map.get (map.insert (map.remove m p) p w) k) same ∙ maps-get-put_same (map.remove m p) p w ∙ sym (ap (λ k. map.get (map.insert m p w) k) same ∙ maps-get-put_same m p w)
-      | inr other ↦ maps-get-put_other (map.remove m p) p w q other ∙ maps-get-gone_other m p q other ∙ sym (maps-get-put_other m p w q other)
+      | inl same ↦ ap (λ k. map.get (map.insert (map.remove m p) p w) k) same ∙ get-put_same (map.remove m p) p w ∙ sym (ap (λ k. map.get (map.insert m p w) k) same ∙ get-put_same m p w)
+      | inr other ↦ get-put_other (map.remove m p) p w q other ∙ get-gone_other m p q other ∙ sym (get-put_other m p w q other)
     ])
 
 -- one iteration of the loop
@@ -91,7 +91,7 @@ AreNew lists es = AllByRecursion (λ e. map.get lists e.0 ≡ None) es
 still_new : (lists : Lists) (p : Text) (v : List Text) (es : List (Text × List Text)) → T (below_all text_cmp p es) → AreNew lists es → AreNew (map.insert lists p v) es
 still_new lists p v [] b h = tt
 still_new lists p v (e ∷ es) b h =
-    (maps-get-put_other lists p v e.0 (key_after nat_list_cmp_total p e.0 (less_from_test _ (first_holds _ _ b))) ∙ h.0, still_new lists p v es (second_holds _ _ b) h.1)
+    (get-put_other lists p v e.0 (key_after nat_list_cmp_total p e.0 (less_from_test _ (first_holds _ _ b))) ∙ h.0, still_new lists p v es (second_holds _ _ b) h.1)
 
 gathered-all : (es : List (Text × List Text)) (lists : Lists) → T (is_sorted text_cmp es) → AllByRecursion (λ e. e.1 ≡ [] → ⊥) es → AreNew lists es
     → gathered lists (flat_map list_rows es) ≡ Some (with_all lists es)
@@ -110,7 +110,7 @@ all_new = each_always (λ (e : Text × List Text). map.get map.empty e.0 ≡ Non
 pub gathered-rows : (lists : Lists) → AreValidLists lists → gathered map.empty (choice_rows lists) ≡ Some lists
 gathered-rows lists sound =
     gathered-all (map.entries lists) map.empty (entries_sorted lists)
-    (maps-at_entries nat_list_cmp_total exact_texts (λ p codes. codes ≡ [] → ⊥) lists (λ p codes f none. sound.none_empty p (f ∙ ap (λ l. Some l) none)))
+    (at_entries nat_list_cmp_total exact_texts (λ p codes. codes ≡ [] → ⊥) lists (λ p codes f none. sound.none_empty p (f ∙ ap (λ l. Some l) none)))
     (all_new (map.entries lists))
     ∙ ap (λ m. Some m) (with_all-entries lists)
 
@@ -147,7 +147,7 @@ module _ (p room : Text) where
       (e ∷ put text_cmp p (unwrap_or (cond (is_eq o) (Some e.1) (find text_cmp p es)) [] ++ room ∷ []) es)))) [
         | Less ↦ λ c.
             subst (λ o. IsPermutation (row_at (unwrap_or o []) ∷ (list_rows e ++ rows_in es)) (rows_in ((p, unwrap_or o [] ++ room ∷ []) ∷ e ∷ es)))
-            (sym (maps-none_below text_cmp p es (maps-below_less nat_list_cmp_total p e.0 es c (first_holds _ _ s)))) (IsPermutation-refl _)
+            (sym (none_below text_cmp p es (below_less nat_list_cmp_total p e.0 es c (first_holds _ _ s)))) (IsPermutation-refl _)
         | Equal ↦ λ c.
             let same : p ≡ e.0 = exact_texts p e.0 c in
             let row : ChoiceRecord = record { person = e.0; place = length e.1; room = room } in
@@ -201,9 +201,9 @@ more_filled : (lists : Lists) (p room : Text) (codes : List Text) → NoneEmpty 
 more_filled lists p room codes h q e =
     elim (text_cases q p) as (λ _. ⊥) [
       | inl same ↦
-          let now : Some (codes ++ room ∷ []) ≡ Some [] = sym (ap (λ k. map.get (map.insert lists p (codes ++ room ∷ [])) k) same ∙ maps-get-put_same lists p (codes ++ room ∷ [])) ∙ e in
+          let now : Some (codes ++ room ∷ []) ≡ Some [] = sym (ap (λ k. map.get (map.insert lists p (codes ++ room ∷ [])) k) same ∙ get-put_same lists p (codes ++ room ∷ [])) ∙ e in
           filled codes room (ap (λ (o : Option (List Text)). unwrap_or o []) now)
-      | inr other ↦ h q (sym (maps-get-put_other lists p (codes ++ room ∷ []) q other) ∙ e)
+      | inr other ↦ h q (sym (get-put_other lists p (codes ++ room ∷ []) q other) ∙ e)
     ]
 
 pub gathered-filled : (rows : List ChoiceRecord) (lists final : Lists) → gathered lists rows ≡ Some final → NoneEmpty lists → NoneEmpty final
@@ -219,7 +219,7 @@ gathered-filled (row ∷ rows) lists final e h =
 pub gathered-from : (rows : List ChoiceRecord) (lists : Lists) → gathered map.empty rows ≡ Some lists
     → 0 < length (map.entries lists) → 0 < length rows
 gathered-from [] lists e some =
-    let none : map.entries lists ≡ [] = ap (λ m. map.entries m) (sym (same_Some map.empty lists e)) ∙ maps-entries-empty nat_list_cmp_total in
+    let none : map.entries lists ≡ [] = ap (λ m. map.entries m) (sym (same_Some map.empty lists e)) ∙ entries-empty nat_list_cmp_total in
     subst (λ es. 0 < length es) none some
 gathered-from (row ∷ rows) lists e some = omega arith
 
@@ -254,7 +254,7 @@ module _ (rows sorted : List ChoiceRecord) (moved : IsPermutation rows sorted) (
   }
 
   no_rows : choice_rows map.empty ≡ []
-  no_rows = ap (λ es. flat_map list_rows es) (maps-entries-empty nat_list_cmp_total)
+  no_rows = ap (λ es. flat_map list_rows es) (entries-empty nat_list_cmp_total)
 
   pub reads-some : (lists : Lists) → gathered map.empty sorted ≡ Some lists → Reads AreValidLists choice_rows rows (chosen_from map.empty (map.entries lists))
   reads-some lists some = record {
@@ -267,7 +267,7 @@ module _ (rows sorted : List ChoiceRecord) (moved : IsPermutation rows sorted) (
           subst (λ l. AreValidLists l × IsPermutation (choice_rows l) rows) same (
             record {
               none_empty = gathered-filled sorted map.empty lists some (λ p f. let none = get-empty {X = List Text} text_cmp p in cc);
-              chosen = maps-at_keys nat_list_cmp_total exact_texts (λ p codes. IsChoices codes) lists (each_weaker (λ e. is_choices e.1 ≡ true) (λ e. IsChoices e.1) (λ e t. choices_at e.1 t) (map.entries lists) tells.1);
+              chosen = at_keys nat_list_cmp_total exact_texts (λ p codes. IsChoices codes) lists (each_weaker (λ e. is_choices e.1 ≡ true) (λ e. IsChoices e.1) (λ e t. choices_at e.1 t) (map.entries lists) tells.1);
             },
             IsPermutation-sym _ _ (IsPermutation-trans _ _ _ moved has),
           )
@@ -275,6 +275,6 @@ module _ (rows sorted : List ChoiceRecord) (moved : IsPermutation rows sorted) (
     only = λ m sound same.
         let is : lists ≡ m = same_Some lists m (sym some ∙ these m sound same) in
         ap (λ l. chosen_from map.empty (map.entries l)) is
-        ∙ chosen-if_choices (map.entries m) map.empty (maps-at_entries nat_list_cmp_total exact_texts (λ p codes. is_choices codes ≡ true) m (λ p codes f. at_choices codes (sound.chosen p codes f)))
+        ∙ chosen-if_choices (map.entries m) map.empty (at_entries nat_list_cmp_total exact_texts (λ p codes. is_choices codes ≡ true) m (λ p codes f. at_choices codes (sound.chosen p codes f)))
         ∙ ap (λ l. Some l) (with_all-entries m);
   }

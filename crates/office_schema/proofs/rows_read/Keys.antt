@@ -6,7 +6,7 @@ use Rattle.std.specs.FinMap as maps
 use Rattle.std.proofs.lemmas.List.Sorted.{IsPermutation-map}
 use Rattle.room_types.specs.Texts.{Text, TextMap}
 use Rattle.room_types.proofs.maps.TextMaps.{exact_texts}
-use Rattle.room_types.proofs.maps.Entries.{maps-one_map}
+use Rattle.room_types.proofs.maps.Entries.{one_map}
 use Rattle.office_schema.specs.rows.Inner.Filled.{filled, key_entry}
 use Rattle.office_schema.specs.rows.Reads.{Reads, IsAny}
 use Rattle.office_schema.specs.rows.Rows.{key_rows}
@@ -44,4 +44,4 @@ keys_filled rows = keys_if_entries rows _ (filled-reads (map key_entry rows))
 -- Sets with the same keys are equal.
 pub one_set : (m n : TextMap (Unit {0})) → IsPermutation (key_rows m) (key_rows n) → m ≡ n
 one_set m n same =
-    maps-one_map nat_list_cmp_total exact_texts m n (subst (IsPermutation (maps.entries m)) (entries_of_keys (maps.entries n)) (entries_moved m (key_rows n) same))
+    one_map nat_list_cmp_total exact_texts m n (subst (IsPermutation (maps.entries m)) (entries_of_keys (maps.entries n)) (entries_moved m (key_rows n) same))

@@ -18,14 +18,14 @@ use Rattle.sqlite_trees.specs.Tree.{IsAscending}
 use Rattle.sqlite_trees.proofs.ListLemmas.{IsPermutation-flat_map}
 use Rattle.sqlite_keyed.proofs.ListLemmas.{all_weaker, all-append, all-flat_map, ascending-append, all_map, all_unmap}
 use Rattle.room_types.specs.Texts.{Text, TextMap, text_cmp}
-use Rattle.room_types.proofs.maps.TextMaps.{exact_texts, maps-get-put_same, maps-get-put_other, less_from_test}
+use Rattle.room_types.proofs.maps.TextMaps.{exact_texts, get-put_same, get-put_other, less_from_test}
 use Rattle.room_types.specs.declared.moves.Move.{Move}
-use Rattle.room_types.proofs.maps.Trees.{maps-entries-empty}
+use Rattle.room_types.proofs.maps.Trees.{entries-empty}
 use Rattle.office_state.specs.Office.Moves.{RoundMap, moves_of, with_move}
 use Rattle.office_state.specs.declared.office.moves.Moved.{Moved}
 use Rattle.office_state.specs.declared.office.moves.RoundMoves.{RoundMoves}
 use Rattle.office_state.proofs.offices.Moves.{kept_moves}
-use Rattle.room_types.proofs.maps.Entries.{maps-at_keys, maps-at_entries, maps-below_less, maps-insert-new, permuted_all, maps-none_below, maps-same_finds}
+use Rattle.room_types.proofs.maps.Entries.{at_keys, at_entries, below_less, insert-new, permuted_all, none_below, same_finds}
 use Rattle.room_types.proofs.maps.TextMaps.{first_holds, second_holds}
 use Rattle.room_types.proofs.options.Options.{none_if_not_some}
 use Rattle.office_schema.specs.rows.Rows.{move_row, round_rows, move_rows, AreValidMoves}
@@ -48,7 +48,7 @@ put-known k v old row [] s f h = absurd (cc)
 put-known k v old row (e ∷ es) s f h =
     elim (nat_cmp k e.0) as (λ c. nat_cmp k e.0 ≡ c → cond (is_eq c) (Some e.1) (find nat_cmp k es) ≡ Some old
     → IsPermutation (row ∷ (round_rows e ++ flat_map round_rows es)) (flat_map round_rows (by_order c ((k, v) ∷ e ∷ es) ((e.0, v) ∷ es) (e ∷ put nat_cmp k v es)))) [
-      | Less ↦ λ c m. let none = maps-none_below nat_cmp k es (maps-below_less nat_cmp_total k e.0 es c (first_holds _ _ s)) in absurd (cc)
+      | Less ↦ λ c m. let none = none_below nat_cmp k es (below_less nat_cmp_total k e.0 es c (first_holds _ _ s)) in absurd (cc)
       | Equal ↦ λ c m.
           let same : k ≡ e.0 = nat_cmp-IsAntisymmetric k e.0 c in
           let value : old ≡ e.1 = cc in
@@ -62,7 +62,7 @@ put-known k v old row (e ∷ es) s f h =
 
 module _ (moves : Moves) (row : Move) (new : maps.contains_key (moves_of moves row.round) row.person ≡ false) where
   one_more : (recorded : TextMap Moved) → maps.get recorded row.person ≡ None → IsPermutation (row ∷ map (move_row row.round) (maps.entries recorded)) (round_rows (row.round, with_row recorded row))
-  one_more recorded none = IsPermutation-map (move_row row.round) _ _ (maps-insert-new nat_list_cmp_total exact_texts recorded row.person (rest_of row) none)
+  one_more recorded none = IsPermutation-map (move_row row.round) _ _ (insert-new nat_list_cmp_total exact_texts recorded row.person (rest_of row) none)
 
   pub rows_more : IsPermutation (row ∷ move_rows moves) (move_rows (with_move moves row))
   rows_more = elim (maps.get moves row.round) as (λ o. maps.get moves row.round ≡ o → maps.contains_key (kept_moves o) row.person ≡ false
@@ -70,9 +70,9 @@ module _ (moves : Moves) (row : Move) (new : maps.contains_key (moves_of moves r
         | None ↦ λ none fresh.
             let v : RoundMoves = with_row maps.empty row in
             let head : IsPermutation (row ∷ []) (round_rows (row.round, v)) =
-            subst (λ es. IsPermutation (row ∷ map (move_row row.round) es) (round_rows (row.round, v))) (maps-entries-empty {X = Moved} nat_list_cmp_total) (one_more maps.empty (none_if_not_some (maps.get (maps.empty {R = text_cmp}) row.person) fresh)) in
+            subst (λ es. IsPermutation (row ∷ map (move_row row.round) es) (round_rows (row.round, v))) (entries-empty {X = Moved} nat_list_cmp_total) (one_more maps.empty (none_if_not_some (maps.get (maps.empty {R = text_cmp}) row.person) fresh)) in
             IsPermutation-trans _ _ _ (IsPermutation-append_left (move_rows moves) _ _ head)
-            (IsPermutation-flat_map round_rows _ _ (maps-insert-new nat_cmp_total nat_cmp-IsAntisymmetric moves row.round v none))
+            (IsPermutation-flat_map round_rows _ _ (insert-new nat_cmp_total nat_cmp-IsAntisymmetric moves row.round v none))
         | Some recorded ↦ λ some fresh.
             let v : RoundMoves = with_row recorded.by_person row in
             subst (λ es. IsPermutation (row ∷ move_rows moves) (flat_map round_rows es)) (sym (entries-insert nat_cmp_total moves row.round v))
@@ -86,7 +86,7 @@ module _ (moves : Moves) (row : Move) (new : maps.contains_key (moves_of moves r
         elim (eq_by_cmp nat_cmp round row.round) as (λ b. cond b (Some v) (maps.get moves round) ≡ Some recorded → ⊥) [
           | true ↦ λ g.
               let is : v ≡ recorded = ap (λ (o : Option RoundMoves). unwrap_or o v) g in
-              let there = maps-get-put_same (moves_of moves row.round) row.person (rest_of row) in
+              let there = get-put_same (moves_of moves row.round) row.person (rest_of row) in
               let nothing : maps.get (maps.insert (moves_of moves row.round) row.person (rest_of row)) row.person ≡ None =
               ap (λ (k : RoundMoves). maps.get k.by_person row.person) is ∙ ap (λ m. maps.get m row.person) none ∙ get-empty text_cmp row.person in
               cc
@@ -169,7 +169,7 @@ new_after m row r apart h =
           let round : r.round ≡ row.round = nat_cmp-IsAntisymmetric r.round row.round c in
           let tied : eq_by_cmp nat_cmp row.round r.round ≡ true = ap (λ k. eq_by_cmp nat_cmp row.round k) round ∙ ap is_eq (tied_itself nat_cmp_total row.round) in
           let other : eq_by_cmp text_cmp row.person r.person ≡ false = ap (λ b. b && eq_by_cmp text_cmp row.person r.person) (sym tied) ∙ apart in
-          ap is_some (maps-get-put_other (moves_of m row.round) row.person (rest_of row) r.person ((eq_by_cmp_equiv nat_list_cmp_total).symm r.person row.person ∙ other))
+          ap is_some (get-put_other (moves_of m row.round) row.person (rest_of row) r.person ((eq_by_cmp_equiv nat_list_cmp_total).symm r.person row.person ∙ other))
           ∙ ap (λ k. maps.contains_key (moves_of m k) r.person) (sym round) ∙ h
       | Greater ↦ λ c. h
     ] refl
@@ -197,9 +197,9 @@ IsIn m r = maps.get (moves_of m r.round) r.person ≡ Some (rest_of r)
 all_in : (m : Moves) → AllByRecursion (IsIn m) (move_rows m)
 all_in m =
     all-flat_map (IsIn m) round_rows (maps.entries m)
-    (maps-at_entries nat_cmp_total nat_cmp-IsAntisymmetric (λ round recorded. AllByRecursion (IsIn m) (round_rows (round, recorded))) m (λ round recorded f.
+    (at_entries nat_cmp_total nat_cmp-IsAntisymmetric (λ round recorded. AllByRecursion (IsIn m) (round_rows (round, recorded))) m (λ round recorded f.
     all_map (IsIn m) (move_row round) (maps.entries recorded.by_person)
-    (maps-at_entries nat_list_cmp_total exact_texts (λ p moved. IsIn m (move_row round (p, moved))) recorded.by_person (λ p moved g. ap (λ o. maps.get (kept_moves o) p) f ∙ g))))
+    (at_entries nat_list_cmp_total exact_texts (λ p moved. IsIn m (move_row round (p, moved))) recorded.by_person (λ p moved g. ap (λ o. maps.get (kept_moves o) p) f ∙ g))))
 
 split_all : {A : Type 0} (P : A → Type 0) (xs ys : List A) → AllByRecursion P (xs ++ ys) → AllByRecursion P xs × AllByRecursion P ys
 split_all P [] ys h = (tt, h)
@@ -215,15 +215,15 @@ at_moves P m h round p moved f =
     elim (maps.get m round) as (λ o. maps.get m round ≡ o → maps.get (kept_moves o) p ≡ Some moved → P (move_row round (p, moved))) [
       | None ↦ λ none g. let nothing = get-empty {X = Moved} text_cmp p in absurd (cc)
       | Some recorded ↦ λ some g.
-          maps-at_keys nat_list_cmp_total exact_texts (λ q v. P (move_row round (q, v))) recorded.by_person
+          at_keys nat_list_cmp_total exact_texts (λ q v. P (move_row round (q, v))) recorded.by_person
           (all_unmap P (move_row round) (maps.entries recorded.by_person)
-          (maps-at_keys nat_cmp_total nat_cmp-IsAntisymmetric (λ r k. AllByRecursion P (round_rows (r, k))) m (all_apart P round_rows (maps.entries m) h) round recorded some)) p moved g
+          (at_keys nat_cmp_total nat_cmp-IsAntisymmetric (λ r k. AllByRecursion P (round_rows (r, k))) m (all_apart P round_rows (maps.entries m) h) round recorded some)) p moved g
     ] refl f
 
 pub one_moves : (m n : Moves) → AreValidMoves m → AreValidMoves n → IsPermutation (move_rows m) (move_rows n) → m ≡ n
 one_moves m n sound_m sound_n same =
     let alike : (round : ℕ) → moves_of m round ≡ moves_of n round = λ round.
-    maps-same_finds nat_list_cmp_total exact_texts (moves_of m round) (moves_of n round)
+    same_finds nat_list_cmp_total exact_texts (moves_of m round) (moves_of n round)
     (at_moves (IsIn m) n (permuted_all (IsIn m) (move_rows m) (move_rows n) same (all_in m)) round)
     (at_moves (IsIn n) m (permuted_all (IsIn n) (move_rows n) (move_rows m) (IsPermutation-sym _ _ same) (all_in n)) round) in
     same_map nat_cmp_total nat_cmp-IsAntisymmetric m n (λ round.
@@ -239,7 +239,7 @@ nothing_recorded : AreValidMoves maps.empty
 nothing_recorded = record { none_empty = λ round recorded f. let none = get-empty {X = RoundMoves} nat_cmp round in absurd (cc) }
 
 no_rows : move_rows maps.empty ≡ []
-no_rows = ap (flat_map round_rows) (maps-entries-empty nat_cmp_total)
+no_rows = ap (flat_map round_rows) (entries-empty nat_cmp_total)
 
 recorded_moves-rows : (rows moved : List Move) → IsPermutation rows moved → (found : Option Moves) → recorded_moves maps.empty moved ≡ found → Reads AreValidMoves move_rows rows found
 recorded_moves-rows rows moved same None e = record {

@@ -21,6 +21,7 @@ use Rattle.office_schema.specs.tables.Makes.{Makes}
 use Rattle.office_schema.specs.tables.Schema.{office_schema, documented_schema, earlier_schema, documented_tables, first_tables}
 use Rattle.office_schema.specs.tables.Schema as schema
 use Rattle.office_schema.specs.tables.Steps.{HasRun, StaysInside, RollsBack, IsIntact, IsUndone}
+use Rattle.sqlite_trees.proofs.ListLemmas.{all-slice_get}
 use Rattle.office_schema.proofs.statements.Held.{none_held}
 use Rattle.office_schema.proofs.statements.OneTable.{stays}
 use Rattle.office_schema.proofs.statements.Declared.{IsDeclaredBy, IsDroppedBy, gains, loses, room_declared, person_declared, round_declared, move_declared, list_declared, grade_declared, word_declared, result_declared, choice_declared, going_declared, own_move_dropped, own_list_dropped, own_grade_dropped, own_word_dropped, own_result_dropped, own_choice_dropped, own_going_dropped, documented_choice_dropped, documented_word_dropped, documented_result_dropped, documented_move_dropped, documented_list_dropped, documented_grade_dropped, documented_going_dropped, earlier_move_dropped, earlier_list_dropped, earlier_word_dropped, earlier_result_dropped, earlier_choice_dropped}
@@ -277,21 +278,23 @@ unfolding edit.without_round_tables
 clears old new change = record {
   shown = λ tables clean was.
       let all = change.shown clean was.schema in
-      let kept = all.1 in
-      let none = all.2 in
+      let kept : (i : ℕ) (it : Table) → slice_get (take 6 office_schema.tables) i ≡ Some it → new.now.trees it.tree ≡ old.now.trees it.tree =
+      λ i it is. all-slice_get (λ (x : Table). new.now.trees x.tree ≡ old.now.trees x.tree) (take 6 office_schema.tables) i it is all.1 in
+      let none : (i : ℕ) (it : Table) → slice_get (drop 6 (take 10 office_schema.tables)) i ≡ Some it → new.now.trees it.tree ≡ [] =
+      λ i it is. all-slice_get (λ (x : Table). new.now.trees x.tree ≡ []) (drop 6 (take 10 office_schema.tables)) i it is all.2 in
       record {
         schema = all.0;
         rows = record {
-          rooms = stays columns.room_columns tables.rooms (old.now.trees 0) (new.now.trees 0) kept.0 was.rows.rooms;
-          people = stays columns.person_columns tables.people (old.now.trees 2) (new.now.trees 2) kept.1.0 was.rows.people;
-          rounds = stays columns.round_columns tables.rounds (old.now.trees 6) (new.now.trees 6) kept.1.1.0 was.rows.rounds;
-          moves = stays columns.move_columns tables.moves (old.now.trees 7) (new.now.trees 7) kept.1.1.1.0 was.rows.moves;
-          lists = stays columns.list_columns tables.lists (old.now.trees 9) (new.now.trees 9) kept.1.1.1.1.0 was.rows.lists;
-          grades = stays columns.grade_columns tables.grades (old.now.trees 11) (new.now.trees 11) kept.1.1.1.1.1.0 was.rows.grades;
-          words = empty_is new.now.trees columns.word_columns 13 none.0;
-          results = empty_is new.now.trees columns.result_columns 15 none.1.0;
-          choices = empty_is new.now.trees columns.choice_columns 18 none.1.1.0;
-          going = empty_is new.now.trees columns.going_columns 21 none.1.1.1.0;
+          rooms = stays columns.room_columns tables.rooms (old.now.trees 0) (new.now.trees 0) (kept 0 (schema.room 0) refl) was.rows.rooms;
+          people = stays columns.person_columns tables.people (old.now.trees 2) (new.now.trees 2) (kept 1 (schema.person 2) refl) was.rows.people;
+          rounds = stays columns.round_columns tables.rounds (old.now.trees 6) (new.now.trees 6) (kept 2 (schema.round 6) refl) was.rows.rounds;
+          moves = stays columns.move_columns tables.moves (old.now.trees 7) (new.now.trees 7) (kept 3 (schema.move 7) refl) was.rows.moves;
+          lists = stays columns.list_columns tables.lists (old.now.trees 9) (new.now.trees 9) (kept 4 (schema.list 9) refl) was.rows.lists;
+          grades = stays columns.grade_columns tables.grades (old.now.trees 11) (new.now.trees 11) (kept 5 (schema.grade 11) refl) was.rows.grades;
+          words = empty_is new.now.trees columns.word_columns 13 (none 0 (schema.word 13) refl);
+          results = empty_is new.now.trees columns.result_columns 15 (none 1 (schema.result 15) refl);
+          choices = empty_is new.now.trees columns.choice_columns 18 (none 2 (schema.choice 18) refl);
+          going = empty_is new.now.trees columns.going_columns 21 (none 3 (schema.going 21) refl);
         };
       };
   mode = change.mode;
@@ -310,21 +313,23 @@ pub rebuilds : (layout : Layout) (old new : State) → ChangesSchema (schema_of 
 rebuilds layout old new change = record {
   shown = λ tables clean was.
       let all = change.shown clean was.schema in
-      let kept = all.1 in
-      let none = all.2 in
+      let kept : (i : ℕ) (it : Table) → slice_get (take 3 office_schema.tables) i ≡ Some it → new.now.trees it.tree ≡ old.now.trees it.tree =
+      λ i it is. all-slice_get (λ (x : Table). new.now.trees x.tree ≡ old.now.trees x.tree) (take 3 office_schema.tables) i it is all.1 in
+      let none : (i : ℕ) (it : Table) → slice_get (drop 3 office_schema.tables) i ≡ Some it → new.now.trees it.tree ≡ [] =
+      λ i it is. all-slice_get (λ (x : Table). new.now.trees x.tree ≡ []) (drop 3 office_schema.tables) i it is all.2 in
       record {
         schema = all.0;
         rows = record {
-          rooms = stays columns.room_columns tables.rooms (old.now.trees 0) (new.now.trees 0) kept.0 was.rows.rooms;
-          people = stays columns.person_columns tables.people (old.now.trees 2) (new.now.trees 2) kept.1.0 was.rows.people;
-          rounds = stays columns.round_columns tables.rounds (old.now.trees 6) (new.now.trees 6) kept.1.1.0 was.rows.rounds;
-          moves = empty_is new.now.trees columns.move_columns 7 none.0;
-          lists = empty_is new.now.trees columns.list_columns 9 none.1.0;
-          grades = empty_is new.now.trees columns.grade_columns 11 none.1.1.0;
-          words = empty_is new.now.trees columns.word_columns 13 none.1.1.1.0;
-          results = empty_is new.now.trees columns.result_columns 15 none.1.1.1.1.0;
-          choices = empty_is new.now.trees columns.choice_columns 18 none.1.1.1.1.1.0;
-          going = empty_is new.now.trees columns.going_columns 21 none.1.1.1.1.1.1.0;
+          rooms = stays columns.room_columns tables.rooms (old.now.trees 0) (new.now.trees 0) (kept 0 (schema.room 0) refl) was.rows.rooms;
+          people = stays columns.person_columns tables.people (old.now.trees 2) (new.now.trees 2) (kept 1 (schema.person 2) refl) was.rows.people;
+          rounds = stays columns.round_columns tables.rounds (old.now.trees 6) (new.now.trees 6) (kept 2 (schema.round 6) refl) was.rows.rounds;
+          moves = empty_is new.now.trees columns.move_columns 7 (none 0 (schema.move 7) refl);
+          lists = empty_is new.now.trees columns.list_columns 9 (none 1 (schema.list 9) refl);
+          grades = empty_is new.now.trees columns.grade_columns 11 (none 2 (schema.grade 11) refl);
+          words = empty_is new.now.trees columns.word_columns 13 (none 3 (schema.word 13) refl);
+          results = empty_is new.now.trees columns.result_columns 15 (none 4 (schema.result 15) refl);
+          choices = empty_is new.now.trees columns.choice_columns 18 (none 5 (schema.choice 18) refl);
+          going = empty_is new.now.trees columns.going_columns 21 (none 6 (schema.going 21) refl);
         };
       };
   mode = change.mode;

@@ -79,16 +79,16 @@ module _ (text : List ℕ) (before after : Schema) (place : ℕ) (table : Table)
   abbrev task : Schema → Table → Task
   task schema t = record { limit = old.step_limit; keys = Enforced; schema = schema; table = t; params = [] }
 
-  statements-drops : (tally : Tally) → old.now.schema ≡ before → Does old.step_limit (mode_of old) [] old.now (statement_of text (understood before text)) None (DropTable place) (Ok (tally, new.now))
+  drop_runs : (tally : Tally) → old.now.schema ≡ before → Does old.step_limit (mode_of old) [] old.now (statement_of text (understood before text)) None (DropTable place) (Ok (tally, new.now))
       → Drops (task before table) (mode_of old) old.now.trees (Ok (tally, new.now))
-  statements-drops tally has does =
+  drop_runs tally has does =
       subst (λ (o : Option Table). AtPlace (λ t. Drops (task before t) (mode_of old) old.now.trees) o (Ok (tally, new.now))) it.found
       (subst (λ (s : Schema). AtPlace (λ t. Drops (task s t) (mode_of old) old.now.trees) (slice_get s.tables place) (Ok (tally, new.now))) has does)
 
   lost : (count : ℕ) → old.now.schema ≡ before → Executes text [] old new (Ok count) → (new.now.schema ≡ after) × KeepsRows after.tables old.now.trees new.now.trees
   lost count has h =
       let w = runs_as text [] old new before has (DropTable place) it.is it.plain count h in
-      let emptied = continued (statements-drops w.tally has w.changed) in
+      let emptied = continued (drop_runs w.tally has w.changed) in
       let uncounted = continued emptied.2 in
       let tested = continued uncounted.2 in
       let left = continued tested.2 in

@@ -38,13 +38,13 @@ module _ {X : Type 0} (columns : X → Row) (table : Table) (old new : Database)
     abbrev p : Row → Bool
     p = passes params tests
 
-    statements-same : IsPermutation (map (shows params project) (filter p rows)) found
-    statements-same = answer_over table.tree tests project [] old params found answer
+    same_rows_found : IsPermutation (map (shows params project) (filter p rows)) found
+    same_rows_found = answer_over table.tree tests project [] old params found answer
 
     ids_same : IsPermutation (ids_where p rows) (ids_of found)
     ids_same =
         subst (λ (l : List ℤ). IsPermutation l (ids_of found)) (map-map (λ r. id_in (rowid r)) (shows params project) (filter p rows) ∙ map_same _ _ (λ r. ap id_in (keyed r)) (filter p rows))
-        (IsPermutation-map (λ r. id_in (rowid r)) _ _ statements-same)
+        (IsPermutation-map (λ r. id_in (rowid r)) _ _ same_rows_found)
 
     pub delete_held : Turned table old new (edit_of old.trees table (ids_of found) Given 0 []) → Holds columns (new.trees table.tree) (delete_where q xs)
     delete_held t = subst (λ (l : List Row). Holds columns l (delete_where q xs)) (sym t.rows) (held_deleted columns p q tells rows xs held (ids_of found) ids_same)
@@ -62,5 +62,5 @@ module _ {X : Type 0} (columns : X → Row) (table : Table) (old new : Database)
         ∙ ap (map (λ r. cast_row table (drop 1 (shows params project r)))) (found_by columns p q tells held.entries)
         ∙ map-map _ (stored columns) (filter (λ e. q e.1) held.entries) ∙ map_same _ _ changed (filter (λ e. q e.1) held.entries) in
         let put_in : IsPermutation (map (λ e. stored columns (e.0, f e.1)) (filter (λ e. q e.1) held.entries)) news =
-        subst (λ (l : List Row). IsPermutation l news) news_are (IsPermutation-map (λ s. cast_row table (drop 1 s)) _ _ statements-same) in
+        subst (λ (l : List Row). IsPermutation l news) news_are (IsPermutation-map (λ s. cast_row table (drop 1 s)) _ _ same_rows_found) in
         subst (λ (l : List Row). Holds columns l (update_where q f xs)) (sym put) (held_updated columns p q tells f rows xs held (ids_of found) news ids_same put_in fresh)

@@ -25,7 +25,7 @@ use Rattle.office_schema.specs.tables.Queries.{over, alone}
 use Rattle.office_schema.proofs.statements.Meanings.{Means}
 use Rattle.office_schema.proofs.statements.Effects.{insert_held, delete_held, update_held}
 use Rattle.office_schema.proofs.statements.OneTable.{OneTable}
-use Rattle.office_schema.proofs.statements.Rows.{statements-ran, at_schema, row_inserted, rows_updated, rows_deleted, passes, shows}
+use Rattle.office_schema.proofs.statements.Rows.{statement_ran, at_schema, row_inserted, rows_updated, rows_deleted, passes, shows}
 
 module _ {X : Type 0} (one : OneTable X) (old new : State) (text : List ℕ) (params : Row) where
   -- Only the records of this table change.
@@ -46,7 +46,7 @@ module _ {X : Type 0} (one : OneTable X) (old new : State) (text : List ℕ) (pa
     shown = λ tables clean was.
         let r = runs clean in
         let w = runs_as text params old new office_schema was.schema _ means.is means.plain r.count r.ran in
-        let does = on_rows (Insert one.at (Values terms width)) _ (statements-ran text params old new was.schema _ means.is means.plain r.count r.ran w) in
+        let does = on_rows (Insert one.at (Values terms width)) _ (statement_ran text params old new was.schema _ means.is means.plain r.count r.ran w) in
         let t = row_inserted old.step_limit (mode_of old) params one.table one.timeless old.now.trees one.at terms width source w.tally new.now values does in
         let put = insert_held one.columns one.table (at_schema old) new.now (one.of tables) (one.held _ tables was.rows) source (id (old.now.trees one.table.tree)) x (is _) t in
         record { schema = t.schema; rows = one.turned (at_schema old) new.now _ tables was.rows t _ put };
@@ -65,7 +65,7 @@ module _ {X : Type 0} (one : OneTable X) (old new : State) (text : List ℕ) (pa
       shown = λ tables clean was.
           let r = runs clean in
           let w = runs_as text params old new office_schema was.schema _ means.is means.plain r.count r.ran in
-          let does = on_rows (Delete one.at (alone (over one.table.tree tests project []))) _ (statements-ran text params old new was.schema _ means.is means.plain r.count r.ran w) in
+          let does = on_rows (Delete one.at (alone (over one.table.tree tests project []))) _ (statement_ran text params old new was.schema _ means.is means.plain r.count r.ran w) in
           let found = rows_deleted old.step_limit (mode_of old) params one.table one.timeless old.now.trees one.at (alone (over one.table.tree tests project [])) w.tally new.now does in
           let put = delete_held one.columns one.table (at_schema old) new.now (one.of tables) (one.held _ tables was.rows) params tests project keyed which tells found.0 found.1 found.2 in
           record { schema = found.2.schema; rows = one.turned (at_schema old) new.now _ tables was.rows found.2 _ put };
@@ -78,7 +78,7 @@ module _ {X : Type 0} (one : OneTable X) (old new : State) (text : List ℕ) (pa
       shown = λ tables clean was.
           let r = runs clean in
           let w = runs_as text params old new office_schema was.schema _ means.is means.plain r.count r.ran in
-          let does = on_rows (Update one.at (alone (over one.table.tree tests project []))) _ (statements-ran text params old new was.schema _ means.is means.plain r.count r.ran w) in
+          let does = on_rows (Update one.at (alone (over one.table.tree tests project []))) _ (statement_ran text params old new was.schema _ means.is means.plain r.count r.ran w) in
           let found = rows_updated old.step_limit (mode_of old) params one.table one.timeless old.now.trees one.at (alone (over one.table.tree tests project [])) w.tally new.now does in
           let put = update_held one.columns one.table (at_schema old) new.now (one.of tables) (one.held _ tables was.rows) params tests project keyed which tells found.0 found.1 f changed found.2 in
           record { schema = found.2.schema; rows = one.turned (at_schema old) new.now _ tables was.rows found.2 _ put };

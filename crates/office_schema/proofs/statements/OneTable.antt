@@ -1,5 +1,7 @@
 -- The other tables are unchanged if one of them is edited.
-use Rattle.std.proofs.Common.{◌≡◌, ℕ, Bool, List, Some, refl, sym, subst, arith, slice_get}
+use Rattle.std.proofs.Common.{◌≡◌, ◌≢◌, ℕ, Bool, false, List, Some, refl, sym, subst, slice_get}
+use Rattle.std.proofs.Math.Dec.{eqb}
+use Rattle.std.proofs.lemmas.Bool.{eqb-false}
 use Rattle.sqlite_value.specs.Order.{Row}
 use Rattle.sqlite_rules.specs.Edit.{Edit}
 use Rattle.sqlite_trees.specs.Tree.{Trees}
@@ -18,6 +20,7 @@ use Rattle.office_schema.specs.tables.Holds.{Holds}
 use Rattle.office_schema.specs.tables.Schema.{office_schema, room, person, round, move, list, grade, word, result, choice}
 use Rattle.office_schema.specs.tables.Schema as schema
 use Rattle.office_schema.specs.tables.Tables.{AreHeld}
+use Rattle.sqlite_trees.proofs.ListLemmas.{all-slice_get}
 use Rattle.office_schema.proofs.statements.Rows.{Turned, IsTimeless}
 
 -- One table of an office: its records, and that editing it leaves the other tables unchanged.
@@ -36,6 +39,38 @@ pub record OneTable (X : Type 0) : Type 0 where
 pub stays : {X : Type 0} (columns : X → Row) (xs : List X) (old new : List Row) → new ≡ old → Holds columns old xs → Holds columns new xs
 stays columns xs old new same h = subst (λ l. Holds columns l xs) (sym same) h
 
+-- The tables whose trees are not the changed one, each with the records that it had.
+pub record Beside (changed : ℕ) (trees : Trees) (tables : Tables) : Type 0 where
+  pub rooms : eqb 0 changed ≡ false → Holds columns.room_columns (trees 0) tables.rooms
+  pub people : eqb 2 changed ≡ false → Holds columns.person_columns (trees 2) tables.people
+  pub rounds : eqb 6 changed ≡ false → Holds columns.round_columns (trees 6) tables.rounds
+  pub moves : eqb 7 changed ≡ false → Holds columns.move_columns (trees 7) tables.moves
+  pub lists : eqb 9 changed ≡ false → Holds columns.list_columns (trees 9) tables.lists
+  pub grades : eqb 11 changed ≡ false → Holds columns.grade_columns (trees 11) tables.grades
+  pub words : eqb 13 changed ≡ false → Holds columns.word_columns (trees 13) tables.words
+  pub results : eqb 15 changed ≡ false → Holds columns.result_columns (trees 15) tables.results
+  pub choices : eqb 18 changed ≡ false → Holds columns.choice_columns (trees 18) tables.choices
+  pub going : eqb 21 changed ≡ false → Holds columns.going_columns (trees 21) tables.going
+
+-- A change of one table's tree keeps the records of the other tables.
+pub beside : (table : Table) (old new : Database) (edit : Edit) (tables : Tables) → AreHeld old.trees tables → Turned table old new edit
+    → Beside table.tree new.trees tables
+beside table old new edit tables h t =
+    let others : (i : ℕ) (it : Table) → slice_get office_schema.tables i ≡ Some it → it.tree ≢ table.tree → new.trees it.tree ≡ old.trees it.tree =
+    λ i it is. all-slice_get (λ (x : Table). x.tree ≢ table.tree → new.trees x.tree ≡ old.trees x.tree) office_schema.tables i it is t.others in
+    record {
+      rooms = λ apart. stays columns.room_columns tables.rooms (old.trees 0) (new.trees 0) (others 0 (room 0) refl (eqb-false 0 table.tree apart)) h.rooms;
+      people = λ apart. stays columns.person_columns tables.people (old.trees 2) (new.trees 2) (others 1 (person 2) refl (eqb-false 2 table.tree apart)) h.people;
+      rounds = λ apart. stays columns.round_columns tables.rounds (old.trees 6) (new.trees 6) (others 2 (round 6) refl (eqb-false 6 table.tree apart)) h.rounds;
+      moves = λ apart. stays columns.move_columns tables.moves (old.trees 7) (new.trees 7) (others 3 (move 7) refl (eqb-false 7 table.tree apart)) h.moves;
+      lists = λ apart. stays columns.list_columns tables.lists (old.trees 9) (new.trees 9) (others 4 (list 9) refl (eqb-false 9 table.tree apart)) h.lists;
+      grades = λ apart. stays columns.grade_columns tables.grades (old.trees 11) (new.trees 11) (others 5 (grade 11) refl (eqb-false 11 table.tree apart)) h.grades;
+      words = λ apart. stays columns.word_columns tables.words (old.trees 13) (new.trees 13) (others 6 (word 13) refl (eqb-false 13 table.tree apart)) h.words;
+      results = λ apart. stays columns.result_columns tables.results (old.trees 15) (new.trees 15) (others 7 (result 15) refl (eqb-false 15 table.tree apart)) h.results;
+      choices = λ apart. stays columns.choice_columns tables.choices (old.trees 18) (new.trees 18) (others 8 (choice 18) refl (eqb-false 18 table.tree apart)) h.choices;
+      going = λ apart. stays columns.going_columns tables.going (old.trees 21) (new.trees 21) (others 9 (schema.going 21) refl (eqb-false 21 table.tree apart)) h.going;
+    }
+
 abbrev pub rooms : OneTable (Text × Bool)
 rooms = record {
   at = 0;
@@ -46,17 +81,17 @@ rooms = record {
   with_records = λ xs tables. record tables { rooms = xs };
   timeless = (refl, refl);
   held = λ trees tables h. h.rooms;
-  turned = λ old new edit tables h t xs put. record {
+  turned = λ old new edit tables h t xs put. let b = beside (room 0) old new edit tables h t in record {
     rooms = put;
-    people = stays columns.person_columns tables.people (old.trees 2) (new.trees 2) (t.others.1.0 (λ e. omega arith)) h.people;
-    rounds = stays columns.round_columns tables.rounds (old.trees 6) (new.trees 6) (t.others.1.1.0 (λ e. omega arith)) h.rounds;
-    moves = stays columns.move_columns tables.moves (old.trees 7) (new.trees 7) (t.others.1.1.1.0 (λ e. omega arith)) h.moves;
-    lists = stays columns.list_columns tables.lists (old.trees 9) (new.trees 9) (t.others.1.1.1.1.0 (λ e. omega arith)) h.lists;
-    grades = stays columns.grade_columns tables.grades (old.trees 11) (new.trees 11) (t.others.1.1.1.1.1.0 (λ e. omega arith)) h.grades;
-    words = stays columns.word_columns tables.words (old.trees 13) (new.trees 13) (t.others.1.1.1.1.1.1.0 (λ e. omega arith)) h.words;
-    results = stays columns.result_columns tables.results (old.trees 15) (new.trees 15) (t.others.1.1.1.1.1.1.1.0 (λ e. omega arith)) h.results;
-    choices = stays columns.choice_columns tables.choices (old.trees 18) (new.trees 18) (t.others.1.1.1.1.1.1.1.1.0 (λ e. omega arith)) h.choices;
-    going = stays columns.going_columns tables.going (old.trees 21) (new.trees 21) (t.others.1.1.1.1.1.1.1.1.1.0 (λ e. omega arith)) h.going;
+    people = b.people refl;
+    rounds = b.rounds refl;
+    moves = b.moves refl;
+    lists = b.lists refl;
+    grades = b.grades refl;
+    words = b.words refl;
+    results = b.results refl;
+    choices = b.choices refl;
+    going = b.going refl;
   };
 }
 
@@ -70,17 +105,17 @@ people = record {
   with_records = λ xs tables. record tables { people = xs };
   timeless = (refl, refl);
   held = λ trees tables h. h.people;
-  turned = λ old new edit tables h t xs put. record {
-    rooms = stays columns.room_columns tables.rooms (old.trees 0) (new.trees 0) (t.others.0 (λ e. omega arith)) h.rooms;
+  turned = λ old new edit tables h t xs put. let b = beside (person 2) old new edit tables h t in record {
+    rooms = b.rooms refl;
     people = put;
-    rounds = stays columns.round_columns tables.rounds (old.trees 6) (new.trees 6) (t.others.1.1.0 (λ e. omega arith)) h.rounds;
-    moves = stays columns.move_columns tables.moves (old.trees 7) (new.trees 7) (t.others.1.1.1.0 (λ e. omega arith)) h.moves;
-    lists = stays columns.list_columns tables.lists (old.trees 9) (new.trees 9) (t.others.1.1.1.1.0 (λ e. omega arith)) h.lists;
-    grades = stays columns.grade_columns tables.grades (old.trees 11) (new.trees 11) (t.others.1.1.1.1.1.0 (λ e. omega arith)) h.grades;
-    words = stays columns.word_columns tables.words (old.trees 13) (new.trees 13) (t.others.1.1.1.1.1.1.0 (λ e. omega arith)) h.words;
-    results = stays columns.result_columns tables.results (old.trees 15) (new.trees 15) (t.others.1.1.1.1.1.1.1.0 (λ e. omega arith)) h.results;
-    choices = stays columns.choice_columns tables.choices (old.trees 18) (new.trees 18) (t.others.1.1.1.1.1.1.1.1.0 (λ e. omega arith)) h.choices;
-    going = stays columns.going_columns tables.going (old.trees 21) (new.trees 21) (t.others.1.1.1.1.1.1.1.1.1.0 (λ e. omega arith)) h.going;
+    rounds = b.rounds refl;
+    moves = b.moves refl;
+    lists = b.lists refl;
+    grades = b.grades refl;
+    words = b.words refl;
+    results = b.results refl;
+    choices = b.choices refl;
+    going = b.going refl;
   };
 }
 
@@ -94,17 +129,17 @@ rounds = record {
   with_records = λ xs tables. record tables { rounds = xs };
   timeless = (refl, refl);
   held = λ trees tables h. h.rounds;
-  turned = λ old new edit tables h t xs put. record {
-    rooms = stays columns.room_columns tables.rooms (old.trees 0) (new.trees 0) (t.others.0 (λ e. omega arith)) h.rooms;
-    people = stays columns.person_columns tables.people (old.trees 2) (new.trees 2) (t.others.1.0 (λ e. omega arith)) h.people;
+  turned = λ old new edit tables h t xs put. let b = beside (round 6) old new edit tables h t in record {
+    rooms = b.rooms refl;
+    people = b.people refl;
     rounds = put;
-    moves = stays columns.move_columns tables.moves (old.trees 7) (new.trees 7) (t.others.1.1.1.0 (λ e. omega arith)) h.moves;
-    lists = stays columns.list_columns tables.lists (old.trees 9) (new.trees 9) (t.others.1.1.1.1.0 (λ e. omega arith)) h.lists;
-    grades = stays columns.grade_columns tables.grades (old.trees 11) (new.trees 11) (t.others.1.1.1.1.1.0 (λ e. omega arith)) h.grades;
-    words = stays columns.word_columns tables.words (old.trees 13) (new.trees 13) (t.others.1.1.1.1.1.1.0 (λ e. omega arith)) h.words;
-    results = stays columns.result_columns tables.results (old.trees 15) (new.trees 15) (t.others.1.1.1.1.1.1.1.0 (λ e. omega arith)) h.results;
-    choices = stays columns.choice_columns tables.choices (old.trees 18) (new.trees 18) (t.others.1.1.1.1.1.1.1.1.0 (λ e. omega arith)) h.choices;
-    going = stays columns.going_columns tables.going (old.trees 21) (new.trees 21) (t.others.1.1.1.1.1.1.1.1.1.0 (λ e. omega arith)) h.going;
+    moves = b.moves refl;
+    lists = b.lists refl;
+    grades = b.grades refl;
+    words = b.words refl;
+    results = b.results refl;
+    choices = b.choices refl;
+    going = b.going refl;
   };
 }
 
@@ -118,17 +153,17 @@ moves = record {
   with_records = λ xs tables. record tables { moves = xs };
   timeless = (refl, refl);
   held = λ trees tables h. h.moves;
-  turned = λ old new edit tables h t xs put. record {
-    rooms = stays columns.room_columns tables.rooms (old.trees 0) (new.trees 0) (t.others.0 (λ e. omega arith)) h.rooms;
-    people = stays columns.person_columns tables.people (old.trees 2) (new.trees 2) (t.others.1.0 (λ e. omega arith)) h.people;
-    rounds = stays columns.round_columns tables.rounds (old.trees 6) (new.trees 6) (t.others.1.1.0 (λ e. omega arith)) h.rounds;
+  turned = λ old new edit tables h t xs put. let b = beside (move 7) old new edit tables h t in record {
+    rooms = b.rooms refl;
+    people = b.people refl;
+    rounds = b.rounds refl;
     moves = put;
-    lists = stays columns.list_columns tables.lists (old.trees 9) (new.trees 9) (t.others.1.1.1.1.0 (λ e. omega arith)) h.lists;
-    grades = stays columns.grade_columns tables.grades (old.trees 11) (new.trees 11) (t.others.1.1.1.1.1.0 (λ e. omega arith)) h.grades;
-    words = stays columns.word_columns tables.words (old.trees 13) (new.trees 13) (t.others.1.1.1.1.1.1.0 (λ e. omega arith)) h.words;
-    results = stays columns.result_columns tables.results (old.trees 15) (new.trees 15) (t.others.1.1.1.1.1.1.1.0 (λ e. omega arith)) h.results;
-    choices = stays columns.choice_columns tables.choices (old.trees 18) (new.trees 18) (t.others.1.1.1.1.1.1.1.1.0 (λ e. omega arith)) h.choices;
-    going = stays columns.going_columns tables.going (old.trees 21) (new.trees 21) (t.others.1.1.1.1.1.1.1.1.1.0 (λ e. omega arith)) h.going;
+    lists = b.lists refl;
+    grades = b.grades refl;
+    words = b.words refl;
+    results = b.results refl;
+    choices = b.choices refl;
+    going = b.going refl;
   };
 }
 
@@ -142,17 +177,17 @@ lists = record {
   with_records = λ xs tables. record tables { lists = xs };
   timeless = (refl, refl);
   held = λ trees tables h. h.lists;
-  turned = λ old new edit tables h t xs put. record {
-    rooms = stays columns.room_columns tables.rooms (old.trees 0) (new.trees 0) (t.others.0 (λ e. omega arith)) h.rooms;
-    people = stays columns.person_columns tables.people (old.trees 2) (new.trees 2) (t.others.1.0 (λ e. omega arith)) h.people;
-    rounds = stays columns.round_columns tables.rounds (old.trees 6) (new.trees 6) (t.others.1.1.0 (λ e. omega arith)) h.rounds;
-    moves = stays columns.move_columns tables.moves (old.trees 7) (new.trees 7) (t.others.1.1.1.0 (λ e. omega arith)) h.moves;
+  turned = λ old new edit tables h t xs put. let b = beside (list 9) old new edit tables h t in record {
+    rooms = b.rooms refl;
+    people = b.people refl;
+    rounds = b.rounds refl;
+    moves = b.moves refl;
     lists = put;
-    grades = stays columns.grade_columns tables.grades (old.trees 11) (new.trees 11) (t.others.1.1.1.1.1.0 (λ e. omega arith)) h.grades;
-    words = stays columns.word_columns tables.words (old.trees 13) (new.trees 13) (t.others.1.1.1.1.1.1.0 (λ e. omega arith)) h.words;
-    results = stays columns.result_columns tables.results (old.trees 15) (new.trees 15) (t.others.1.1.1.1.1.1.1.0 (λ e. omega arith)) h.results;
-    choices = stays columns.choice_columns tables.choices (old.trees 18) (new.trees 18) (t.others.1.1.1.1.1.1.1.1.0 (λ e. omega arith)) h.choices;
-    going = stays columns.going_columns tables.going (old.trees 21) (new.trees 21) (t.others.1.1.1.1.1.1.1.1.1.0 (λ e. omega arith)) h.going;
+    grades = b.grades refl;
+    words = b.words refl;
+    results = b.results refl;
+    choices = b.choices refl;
+    going = b.going refl;
   };
 }
 
@@ -166,17 +201,17 @@ grades = record {
   with_records = λ xs tables. record tables { grades = xs };
   timeless = (refl, refl);
   held = λ trees tables h. h.grades;
-  turned = λ old new edit tables h t xs put. record {
-    rooms = stays columns.room_columns tables.rooms (old.trees 0) (new.trees 0) (t.others.0 (λ e. omega arith)) h.rooms;
-    people = stays columns.person_columns tables.people (old.trees 2) (new.trees 2) (t.others.1.0 (λ e. omega arith)) h.people;
-    rounds = stays columns.round_columns tables.rounds (old.trees 6) (new.trees 6) (t.others.1.1.0 (λ e. omega arith)) h.rounds;
-    moves = stays columns.move_columns tables.moves (old.trees 7) (new.trees 7) (t.others.1.1.1.0 (λ e. omega arith)) h.moves;
-    lists = stays columns.list_columns tables.lists (old.trees 9) (new.trees 9) (t.others.1.1.1.1.0 (λ e. omega arith)) h.lists;
+  turned = λ old new edit tables h t xs put. let b = beside (grade 11) old new edit tables h t in record {
+    rooms = b.rooms refl;
+    people = b.people refl;
+    rounds = b.rounds refl;
+    moves = b.moves refl;
+    lists = b.lists refl;
     grades = put;
-    words = stays columns.word_columns tables.words (old.trees 13) (new.trees 13) (t.others.1.1.1.1.1.1.0 (λ e. omega arith)) h.words;
-    results = stays columns.result_columns tables.results (old.trees 15) (new.trees 15) (t.others.1.1.1.1.1.1.1.0 (λ e. omega arith)) h.results;
-    choices = stays columns.choice_columns tables.choices (old.trees 18) (new.trees 18) (t.others.1.1.1.1.1.1.1.1.0 (λ e. omega arith)) h.choices;
-    going = stays columns.going_columns tables.going (old.trees 21) (new.trees 21) (t.others.1.1.1.1.1.1.1.1.1.0 (λ e. omega arith)) h.going;
+    words = b.words refl;
+    results = b.results refl;
+    choices = b.choices refl;
+    going = b.going refl;
   };
 }
 
@@ -190,17 +225,17 @@ words = record {
   with_records = λ xs tables. record tables { words = xs };
   timeless = (refl, refl);
   held = λ trees tables h. h.words;
-  turned = λ old new edit tables h t xs put. record {
-    rooms = stays columns.room_columns tables.rooms (old.trees 0) (new.trees 0) (t.others.0 (λ e. omega arith)) h.rooms;
-    people = stays columns.person_columns tables.people (old.trees 2) (new.trees 2) (t.others.1.0 (λ e. omega arith)) h.people;
-    rounds = stays columns.round_columns tables.rounds (old.trees 6) (new.trees 6) (t.others.1.1.0 (λ e. omega arith)) h.rounds;
-    moves = stays columns.move_columns tables.moves (old.trees 7) (new.trees 7) (t.others.1.1.1.0 (λ e. omega arith)) h.moves;
-    lists = stays columns.list_columns tables.lists (old.trees 9) (new.trees 9) (t.others.1.1.1.1.0 (λ e. omega arith)) h.lists;
-    grades = stays columns.grade_columns tables.grades (old.trees 11) (new.trees 11) (t.others.1.1.1.1.1.0 (λ e. omega arith)) h.grades;
+  turned = λ old new edit tables h t xs put. let b = beside (word 13) old new edit tables h t in record {
+    rooms = b.rooms refl;
+    people = b.people refl;
+    rounds = b.rounds refl;
+    moves = b.moves refl;
+    lists = b.lists refl;
+    grades = b.grades refl;
     words = put;
-    results = stays columns.result_columns tables.results (old.trees 15) (new.trees 15) (t.others.1.1.1.1.1.1.1.0 (λ e. omega arith)) h.results;
-    choices = stays columns.choice_columns tables.choices (old.trees 18) (new.trees 18) (t.others.1.1.1.1.1.1.1.1.0 (λ e. omega arith)) h.choices;
-    going = stays columns.going_columns tables.going (old.trees 21) (new.trees 21) (t.others.1.1.1.1.1.1.1.1.1.0 (λ e. omega arith)) h.going;
+    results = b.results refl;
+    choices = b.choices refl;
+    going = b.going refl;
   };
 }
 
@@ -214,17 +249,17 @@ results = record {
   with_records = λ xs tables. record tables { results = xs };
   timeless = (refl, refl);
   held = λ trees tables h. h.results;
-  turned = λ old new edit tables h t xs put. record {
-    rooms = stays columns.room_columns tables.rooms (old.trees 0) (new.trees 0) (t.others.0 (λ e. omega arith)) h.rooms;
-    people = stays columns.person_columns tables.people (old.trees 2) (new.trees 2) (t.others.1.0 (λ e. omega arith)) h.people;
-    rounds = stays columns.round_columns tables.rounds (old.trees 6) (new.trees 6) (t.others.1.1.0 (λ e. omega arith)) h.rounds;
-    moves = stays columns.move_columns tables.moves (old.trees 7) (new.trees 7) (t.others.1.1.1.0 (λ e. omega arith)) h.moves;
-    lists = stays columns.list_columns tables.lists (old.trees 9) (new.trees 9) (t.others.1.1.1.1.0 (λ e. omega arith)) h.lists;
-    grades = stays columns.grade_columns tables.grades (old.trees 11) (new.trees 11) (t.others.1.1.1.1.1.0 (λ e. omega arith)) h.grades;
-    words = stays columns.word_columns tables.words (old.trees 13) (new.trees 13) (t.others.1.1.1.1.1.1.0 (λ e. omega arith)) h.words;
+  turned = λ old new edit tables h t xs put. let b = beside (result 15) old new edit tables h t in record {
+    rooms = b.rooms refl;
+    people = b.people refl;
+    rounds = b.rounds refl;
+    moves = b.moves refl;
+    lists = b.lists refl;
+    grades = b.grades refl;
+    words = b.words refl;
     results = put;
-    choices = stays columns.choice_columns tables.choices (old.trees 18) (new.trees 18) (t.others.1.1.1.1.1.1.1.1.0 (λ e. omega arith)) h.choices;
-    going = stays columns.going_columns tables.going (old.trees 21) (new.trees 21) (t.others.1.1.1.1.1.1.1.1.1.0 (λ e. omega arith)) h.going;
+    choices = b.choices refl;
+    going = b.going refl;
   };
 }
 
@@ -238,17 +273,17 @@ choices = record {
   with_records = λ xs tables. record tables { choices = xs };
   timeless = (refl, refl);
   held = λ trees tables h. h.choices;
-  turned = λ old new edit tables h t xs put. record {
-    rooms = stays columns.room_columns tables.rooms (old.trees 0) (new.trees 0) (t.others.0 (λ e. omega arith)) h.rooms;
-    people = stays columns.person_columns tables.people (old.trees 2) (new.trees 2) (t.others.1.0 (λ e. omega arith)) h.people;
-    rounds = stays columns.round_columns tables.rounds (old.trees 6) (new.trees 6) (t.others.1.1.0 (λ e. omega arith)) h.rounds;
-    moves = stays columns.move_columns tables.moves (old.trees 7) (new.trees 7) (t.others.1.1.1.0 (λ e. omega arith)) h.moves;
-    lists = stays columns.list_columns tables.lists (old.trees 9) (new.trees 9) (t.others.1.1.1.1.0 (λ e. omega arith)) h.lists;
-    grades = stays columns.grade_columns tables.grades (old.trees 11) (new.trees 11) (t.others.1.1.1.1.1.0 (λ e. omega arith)) h.grades;
-    words = stays columns.word_columns tables.words (old.trees 13) (new.trees 13) (t.others.1.1.1.1.1.1.0 (λ e. omega arith)) h.words;
-    results = stays columns.result_columns tables.results (old.trees 15) (new.trees 15) (t.others.1.1.1.1.1.1.1.0 (λ e. omega arith)) h.results;
+  turned = λ old new edit tables h t xs put. let b = beside (choice 18) old new edit tables h t in record {
+    rooms = b.rooms refl;
+    people = b.people refl;
+    rounds = b.rounds refl;
+    moves = b.moves refl;
+    lists = b.lists refl;
+    grades = b.grades refl;
+    words = b.words refl;
+    results = b.results refl;
     choices = put;
-    going = stays columns.going_columns tables.going (old.trees 21) (new.trees 21) (t.others.1.1.1.1.1.1.1.1.1.0 (λ e. omega arith)) h.going;
+    going = b.going refl;
   };
 }
 
@@ -262,16 +297,16 @@ going = record {
   with_records = λ xs tables. record tables { going = xs };
   timeless = (refl, refl);
   held = λ trees tables h. h.going;
-  turned = λ old new edit tables h t xs put. record {
-    rooms = stays columns.room_columns tables.rooms (old.trees 0) (new.trees 0) (t.others.0 (λ e. omega arith)) h.rooms;
-    people = stays columns.person_columns tables.people (old.trees 2) (new.trees 2) (t.others.1.0 (λ e. omega arith)) h.people;
-    rounds = stays columns.round_columns tables.rounds (old.trees 6) (new.trees 6) (t.others.1.1.0 (λ e. omega arith)) h.rounds;
-    moves = stays columns.move_columns tables.moves (old.trees 7) (new.trees 7) (t.others.1.1.1.0 (λ e. omega arith)) h.moves;
-    lists = stays columns.list_columns tables.lists (old.trees 9) (new.trees 9) (t.others.1.1.1.1.0 (λ e. omega arith)) h.lists;
-    grades = stays columns.grade_columns tables.grades (old.trees 11) (new.trees 11) (t.others.1.1.1.1.1.0 (λ e. omega arith)) h.grades;
-    words = stays columns.word_columns tables.words (old.trees 13) (new.trees 13) (t.others.1.1.1.1.1.1.0 (λ e. omega arith)) h.words;
-    results = stays columns.result_columns tables.results (old.trees 15) (new.trees 15) (t.others.1.1.1.1.1.1.1.0 (λ e. omega arith)) h.results;
-    choices = stays columns.choice_columns tables.choices (old.trees 18) (new.trees 18) (t.others.1.1.1.1.1.1.1.1.0 (λ e. omega arith)) h.choices;
+  turned = λ old new edit tables h t xs put. let b = beside (schema.going 21) old new edit tables h t in record {
+    rooms = b.rooms refl;
+    people = b.people refl;
+    rounds = b.rounds refl;
+    moves = b.moves refl;
+    lists = b.lists refl;
+    grades = b.grades refl;
+    words = b.words refl;
+    results = b.results refl;
+    choices = b.choices refl;
     going = put;
   };
 }

@@ -15,7 +15,7 @@ use Rattle.sqlite_schema.specs.declared.schema.Keys.TheVariants.{Enforced}
 use Rattle.sqlite_schema.specs.declared.command.Source.TheVariants.{Values}
 use Rattle.sqlite_schema.specs.declared.command.Command.{Command}
 use Rattle.sqlite_schema.specs.declared.command.Command.TheVariants.{Insert, Update, Delete}
-use Rattle.sqlite_rules.specs.Edit.{Edit, edit_of, edited, put_all, without_all, are_fresh, left_by, taken_by, numbered, Applies}
+use Rattle.sqlite_rules.specs.Edit.{Edit, edit_of, edited, are_fresh, left_by, taken_by}
 use Rattle.sqlite_rules.specs.declared.error.Rowids.TheVariants.{Chosen, Above, Given}
 use Rattle.sqlite_rules.specs.Action.{works, work_by, pairs, deed_for}
 use Rattle.sqlite_schema.specs.Rules.{parent_key}
@@ -161,6 +161,6 @@ at_schema s = record { schema = office_schema; trees = s.now.trees }
 
 module _ (text : List ℕ) (params : Row) (old new : State) (has : old.now.schema ≡ office_schema) (command : Command) (is : command_of (understood office_schema text) ≡ command)
     (plain : IsPlain (understood office_schema text)) (count : ℕ) (h : Executes text params old new (Ok count)) where
-  pub statements-ran : (w : Writes old new None command (statement_of text (understood office_schema text)) params count)
+  pub statement_ran : (w : Writes old new None command (statement_of text (understood office_schema text)) params count)
       → Does old.step_limit (mode_of old) params (at_schema old) (statement_of text (understood office_schema text)) None command (Ok (w.tally, new.now))
-  statements-ran w = subst (λ s. Does old.step_limit (mode_of old) params (record old.now { schema = s }) (statement_of text (understood office_schema text)) None command (Ok (w.tally, new.now))) has w.changed
+  statement_ran w = subst (λ s. Does old.step_limit (mode_of old) params (record old.now { schema = s }) (statement_of text (understood office_schema text)) None command (Ok (w.tally, new.now))) has w.changed

@@ -19,8 +19,8 @@ pub trait Record: Drop {
     /// The rows for which reading may allocate.
     ghost may_allocate: { Values → Type 0 };
 
-    /// Reads a row into a record. Returns `None` if the row has another form. Allocates only for the rows in `may_allocate`.
-    /// Fails only if an allocation does.
+    /// Reads a row into a record. Returns `None` if the row has another form. Allocates only for rows that satisfy
+    /// `may_allocate`. Fails only if an allocation does.
     fn from_row(alloc: Global, row: &Row) -> Result<Option<Self>, OutOfMemory>
         ensures returned { IfOk result (λ found. MatchOption found (¬ is_form row.now)
             (λ record_. front row.now ≡ columns record_)) }
@@ -30,8 +30,8 @@ pub trait Record: Drop {
 
 /// Reads all rows into records, in order. Returns `None` if a row has another form.
 ///
-/// Fails only if an allocation does. The allocation is for a row whose predecessors all have the form, and which has
-/// the form itself or is one for which reading may allocate.
+/// Fails only if an allocation does. The allocation is to read a row that satisfies `may_allocate`, or to store the
+/// record of a row. All rows before that row have the form of a record.
 pub fn records_in<R: Record>(alloc: Global, rows: &[Row]) -> Result<Option<Vec<R>>, OutOfMemory>
     ensures returned { IfOk result (λ found. MatchOption found (¬ All R.is_form rows.now)
         (λ records. map R.columns records.items ≡ map R.front rows.now)) }

@@ -120,10 +120,7 @@ fn optional_u64_in(row: &Row, at: usize) -> Option<Option<u64>>
         (λ n. column row.now at ≡ count_or_null n) }
 {
     match row.get_ref(at) {
-        Ok(ValueRef::Int(number)) => match u64::try_from(number) {
-            Ok(number) => Some(Some(number)),
-            Err(_) => None,
-        },
+        Ok(ValueRef::Int(number)) => Some(Some(u64::try_from(number).ok()?)),
         Ok(ValueRef::Null) | Err(_) => Some(None),
         Ok(_) => None,
     }
@@ -162,8 +159,6 @@ pub fn wave_in(row: &Row, at: usize) -> Option<Wave>
     let Some(number) = optional_u64_in(row, at)? else {
         return Some(Wave::Swap);
     };
-    match u16::try_from(number) {
-        Ok(number) => Some(Wave::Nth(number)),
-        Err(_) => None,
-    }
+    let number = u16::try_from(number).ok()?;
+    Some(Wave::Nth(number))
 }

@@ -145,7 +145,7 @@ impl Refilled for ChoiceRecord {
         _alloc: Global,
         tx: &mut Transaction<'_, S>,
     ) -> Result<(), Error> {
-        // A list has at most forty places.
+        // A lawful list has at most `CHOICE_LIMIT` places, so the number fits.
         let Some(place) = narrow_place(self.place) else {
             return Err(Error::SqliteFailure(ErrorCode::DatabaseCorrupt));
         };

@@ -16,15 +16,15 @@ use Rattle.office_state.specs.Round.{is_participant, result_of}
 use Rattle.office_state.specs.Round.Settlement.{is_settled, changes_home, OnlyLeaversMoveOut}
 use Rattle.office_state.specs.declared.office.Assigned.{Assigned}
 use Rattle.office_state.specs.declared.office.Office.{Office}
-use Rattle.office_state.proofs.round_problems.Problem.{round_problems-lawful-IsMarket}
+use Rattle.office_state.proofs.round_problems.Problem.{lawful-IsMarket}
 use Rattle.office_state.proofs.round_problems.Rooms.{tenant_gets}
 use Rattle.office_state.proofs.round_outcomes.Results.{get-round_results}
-use Rattle.office_state.proofs.moving_people.Settled.{moving_people-moving, moving_people-recorded_is}
+use Rattle.office_state.proofs.moving_people.Settled.{moving, recorded_is}
 
-moving_people-out : (known left goes : Bool) → goes ≡ true → (known && not (left || goes)) ≡ false
-moving_people-out true true goes e = refl
-moving_people-out true false goes e = ap not e
-moving_people-out false left goes e = refl
+goer_is_out : (known left goes : Bool) → goes ≡ true → (known && not (left || goes)) ≡ false
+goer_is_out true true goes e = refl
+goer_is_out true false goes e = ap not e
+goer_is_out false left goes e = refl
 
 -- a person who leaves has no result
 pub leaver_unplaced : (office : Office) (p : Text) → IsLawful office
@@ -36,7 +36,7 @@ leaver_unplaced office p l goes =
           ap (option_and_then (λ (given : Assigned). given.room))
           (ap (λ kept. map.get kept p) (l.results.given there) ∙ get-round_results office p
           ∙ ap (λ b. cond b (Some (record { room = result_of office p })) None)
-          (moving_people-out (knows_person office p) (has_withdrawn office p) (is_going office p) goes))
+          (goer_is_out (knows_person office p) (has_withdrawn office p) (is_going office p) goes))
       | false ↦ λ before.
           ap (option_and_then (λ (given : Assigned). given.room))
           (ap (λ kept. map.get kept p) (l.results.none before) ∙ get-empty text_cmp p)
@@ -44,37 +44,37 @@ leaver_unplaced office p l goes =
 
 module _ (office : Office) (l : IsLawful office) (there : has_results office.phase ≡ true) where
   -- a participant who moves gets a room
-  moving_people-goes : (p : Text) → is_participant office p ≡ true → changes_home office p ≡ true
+  relocated_if_given : (p : Text) → is_participant office p ≡ true → changes_home office p ≡ true
       → recorded_result office p ≡ None → ⊥
-  moving_people-goes p part out nothing =
+  relocated_if_given p part out nothing =
       elim (home_of office p) as
       (λ o. home_of office p ≡ o → not (is_same_text o None) ≡ true → ⊥) [
         | None ↦ λ _ stays. cc
         | Some room ↦ λ lives _.
-            tenant_gets office (round_problems-lawful-IsMarket office l) p room l.register
+            tenant_gets office (lawful-IsMarket office l) p room l.register
             part lives
-            (sym (moving_people-recorded_is office l.register (round_problems-lawful-IsMarket office l)
+            (sym (recorded_is office l.register (lawful-IsMarket office l)
             (l.results.given there) p part) ∙ nothing)
       ] refl (ap (λ o. not (is_same_text (home_of office p) o)) (sym nothing) ∙ out)
 
-  moving_people-leaves : (p : Text) → is_settled office p ≡ true → changes_home office p ≡ true
+  unplaced_goes : (p : Text) → is_settled office p ≡ true → changes_home office p ≡ true
       → recorded_result office p ≡ None → is_going office p ≡ true
-  moving_people-leaves p settled out nothing =
+  unplaced_goes p settled out nothing =
       elim (is_going office p) as (λ b. is_going office p ≡ b → b ≡ true) [
         | true ↦ λ _. refl
         | false ↦ λ stays.
             let parts = and_parts (knows_person office p) (not (has_withdrawn office p)) settled in
             let in_round : has_withdrawn office p ≡ false = not-true (has_withdrawn office p) parts.1 in
             let part : is_participant office p ≡ true = (λ i. parts.0 i && not (in_round i || stays i)) in
-            absurd (moving_people-goes p part out nothing)
+            absurd (relocated_if_given p part out nothing)
       ] refl
 
   -- a person who moves and gets no room leaves the college
-  pub moving_people-only_leavers : OnlyLeaversMoveOut office
-  moving_people-only_leavers =
+  pub only_leavers : OnlyLeaversMoveOut office
+  only_leavers =
       All-map (λ (m : Relocation). m.2 ≡ None → is_going office m.0 ≡ true)
       (λ p. (p, home_of office p, recorded_result office p))
       (filter (changes_home office) (people_not_withdrawn office))
-      (λ k d b nothing. moving_people-leaves _
-      (moving_people-moving office l.register (round_problems-lawful-IsMarket office l) (l.results.given there) k d b)
+      (λ k d b nothing. unplaced_goes _
+      (moving office l.register (lawful-IsMarket office l) (l.results.given there) k d b)
       (filter_passes (changes_home office) (people_not_withdrawn office) k d b) nothing)

@@ -12,7 +12,7 @@ use Rattle.std.proofs.lemmas.Bool.{not-false}
 use Rattle.std.proofs.lemmas.List.Elements.{All-map, recursion_from_All}
 use Rattle.std.proofs.lemmas.Map.Views.{any-filter_same}
 use Rattle.room_types.specs.Texts.{Text, TextMap, text_cmp}
-use Rattle.room_types.proofs.maps.TextMaps.{text_cases, tied_text, exact_texts, maps-len-put_known}
+use Rattle.room_types.proofs.maps.TextMaps.{text_cases, tied_text, exact_texts, len-put_known}
 use Rattle.room_types.proofs.options.Options.{none_if_not_some, option_or-none}
 use Rattle.office_lists.specs.Waves.{Relocation}
 use Rattle.office_state.specs.Office.{home_of, people_not_withdrawn, recorded_result, is_same_text}
@@ -339,7 +339,7 @@ len-rehomed people person home =
     elim (map.get people person) as
     (λ o. map.get people person ≡ o → map.len (rehomed_by people person home o) ≡ map.len people) [
       | None ↦ λ _. refl
-      | Some kept ↦ λ known. maps-len-put_known people person (at_home home kept) (ap is_some known)
+      | Some kept ↦ λ known. len-put_known people person (at_home home kept) (ap is_some known)
     ] refl
 
 len-arrived : (people : TextMap Person) (ms : List Relocation)

@@ -16,8 +16,8 @@ use Rattle.std.proofs.lemmas.List.{length-map}
 use Rattle.std.proofs.lemmas.List.Kept.{AllPairs-filter, AllPairs-cons}
 use Rattle.std.proofs.lemmas.Bool.{and_parts}
 use Rattle.room_types.specs.Texts.{Text, TextMap, text_cmp}
-use Rattle.room_types.proofs.maps.TextMaps.{text_cases, maps-get-put_same, maps-get-put_other}
-use Rattle.room_types.proofs.maps.TextMaps.{maps-contains_key-put_same}
+use Rattle.room_types.proofs.maps.TextMaps.{text_cases, get-put_same, get-put_other}
+use Rattle.room_types.proofs.maps.TextMaps.{contains_key-put_same}
 use Rattle.room_types.proofs.options.Options.{none_some}
 use Rattle.room_types.specs.declared.moves.Move.{Move}
 use Rattle.room_types.specs.declared.moves.Wave.{Wave}
@@ -43,7 +43,7 @@ use Rattle.office_state.proofs.moving_people.Relocations.{get-settled, home_sett
 use Rattle.office_state.proofs.moving_people.Relocations.{len-settled}
 use Rattle.office_state.proofs.round_problems.People.{not_withdrawn_differ}
 use Rattle.office_state.proofs.round_outcomes.Results.{get-round_results}
-use Rattle.office_state.proofs.round_problems.Rooms.{found_each, round_problems-given_open, round_problems-given_once, not_kept_back}
+use Rattle.office_state.proofs.round_problems.Rooms.{found_each, given_room_is_open, given_once, not_kept_back}
 use Rattle.office_state.proofs.moving_people.Settling.{AreFresh, home_in, moves_of-with_move}
 use Rattle.office_state.proofs.offices.Moves.{kept_moves}
 
@@ -82,21 +82,21 @@ not_withdrawn_settled office =
 module _ (office : Office) (l : IsValidRegister office.rooms office.people)
     (ok : IsMarket (round_market office)) (results : office.results ≡ round_results office) where
   -- the recorded result is that of top trading cycles
-  pub moving_people-recorded_is : (p : Text) → is_participant office p ≡ true
+  pub recorded_is : (p : Text) → is_participant office p ≡ true
       → recorded_result office p ≡ result_of office p
-  moving_people-recorded_is p part =
+  recorded_is p part =
       ap (option_and_then (λ (given : Assigned). given.room))
       (ap (λ kept. map.get kept p) results ∙ get-round_results office p
       ∙ ap (λ b. cond b (Some (record { room = result_of office p })) None) part)
 
   -- a person with a room as the recorded result takes part, and top trading cycles give that room
-  moving_people-given_part : (p room : Text) → recorded_result office p ≡ Some room
+  given_part : (p room : Text) → recorded_result office p ≡ Some room
       → (is_participant office p ≡ true) × (result_of office p ≡ Some room)
-  moving_people-given_part p room e =
+  given_part p room e =
       elim (is_participant office p) as
       (λ b. is_participant office p ≡ b
       → (is_participant office p ≡ true) × (result_of office p ≡ Some room)) [
-        | true ↦ λ part. (part, sym (moving_people-recorded_is p part) ∙ e)
+        | true ↦ λ part. (part, sym (recorded_is p part) ∙ e)
         | false ↦ λ apart.
             let none : recorded_result office p ≡ None =
             ap (option_and_then (λ (given : Assigned). given.room))
@@ -106,21 +106,21 @@ module _ (office : Office) (l : IsValidRegister office.rooms office.people)
       ] refl
 
   -- those who move, with all that is known of them
-  pub moving_people-moving : All (λ p. is_settled office p ≡ true)
+  pub moving : All (λ p. is_settled office p ≡ true)
       (filter (changes_home office) (people_not_withdrawn office))
-  moving_people-moving =
+  moving =
       All-filter (changes_home office) (λ p. is_settled office p ≡ true) (people_not_withdrawn office)
       (not_withdrawn_settled office)
 
   -- each person who moves comes to their home after the settlement
-  pub moving_people-relocations_lead : All (λ (m : Relocation). (room : Text) → m.2 ≡ Some room
+  pub relocations_lead : All (λ (m : Relocation). (room : Text) → m.2 ≡ Some room
       → home_in (settled_people office) m.0 ≡ Some room) (relocations office)
-  moving_people-relocations_lead =
+  relocations_lead =
       All-map (λ (m : Relocation). (room : Text) → m.2 ≡ Some room
       → home_in (settled_people office) m.0 ≡ Some room)
       (λ p. (p, home_of office p, recorded_result office p))
       (filter (changes_home office) (people_not_withdrawn office))
-      (λ k d b room e. comes _ (moving_people-moving k d b) room e)
+      (λ k d b room e. comes _ (moving k d b) room e)
     where
       known : (p : Text) → is_settled office p ≡ true → knows_person office p ≡ true
       known p part = (and_parts (knows_person office p) (not (has_withdrawn office p)) part).0
@@ -140,44 +140,44 @@ module _ (office : Office) (l : IsValidRegister office.rooms office.people)
           ] (known p part)
 
   -- those who move are different people, and no two of them get one room
-  moving_people-names_differ : AllPairs ◌≢◌ (filter (changes_home office) (people_not_withdrawn office))
-  moving_people-names_differ =
+  names_differ : AllPairs ◌≢◌ (filter (changes_home office) (people_not_withdrawn office))
+  names_differ =
       AllPairs-filter ◌≢◌ (changes_home office) (people_not_withdrawn office) (not_withdrawn_differ office)
 
-  pub moving_people-relocations_differ : AllPairs (λ (a b : Relocation). a.0 ≢ b.0) (relocations office)
-  moving_people-relocations_differ = AllPairs-map (λ (a b : Relocation). a.0 ≢ b.0)
+  pub relocations_differ : AllPairs (λ (a b : Relocation). a.0 ≢ b.0) (relocations office)
+  relocations_differ = AllPairs-map (λ (a b : Relocation). a.0 ≢ b.0)
       (λ p. (p, home_of office p, recorded_result office p))
-      (filter (changes_home office) (people_not_withdrawn office)) moving_people-names_differ
+      (filter (changes_home office) (people_not_withdrawn office)) names_differ
 
-  pub moving_people-new_rooms_differ : NewRoomsDiffer (relocations office)
-  moving_people-new_rooms_differ =
+  pub new_rooms_differ : NewRoomsDiffer (relocations office)
+  new_rooms_differ =
       AllPairs-map (λ (a b : Relocation). (room : Text) → a.2 ≡ Some room → b.2 ≡ Some room → ⊥)
       (λ p. (p, home_of office p, recorded_result office p))
       (filter (changes_home office) (people_not_withdrawn office))
       (λ i j d before within room ea eb.
       let names : List Text = filter (changes_home office) (people_not_withdrawn office) in
-      let first = moving_people-given_part (get_or names i d) room ea in
-      let second = moving_people-given_part (get_or names j d) room eb in
-      moving_people-names_differ i j d before within
-      (round_problems-given_once office ok (get_or names i d) (get_or names j d) room first.0 second.0
+      let first = given_part (get_or names i d) room ea in
+      let second = given_part (get_or names j d) room eb in
+      names_differ i j d before within
+      (given_once office ok (get_or names i d) (get_or names j d) room first.0 second.0
       first.1 second.1))
 
   -- a room that is given is not shut, and nobody who has withdrawn lives there
-  moving_people-given_open : (p room : Text) → recorded_result office p ≡ Some room
+  given_open : (p room : Text) → recorded_result office p ≡ Some room
       → (map.get office.rooms room ≡ Some false) × (is_kept_back office room ≡ false)
-  moving_people-given_open p room e =
-      let part = moving_people-given_part p room e in
-      round_problems-given_open office ok p room part.0 part.1
+  given_open p room e =
+      let part = given_part p room e in
+      given_room_is_open office ok p room part.0 part.1
 
   -- homes differ after the settlement
-  moving_people-settled_homes : Unshared (λ p. p.home) (settled_people office)
-  moving_people-settled_homes p q room hp hq =
+  settled_homes : Unshared (λ p. p.home) (settled_people office)
+  settled_homes p q room hp hq =
       elim (home_settled office p room hp) as (λ _. p ≡ q) [
         | inl a ↦ elim (home_settled office q room hq) as (λ _. p ≡ q) [
           | inl b ↦
-              let first = moving_people-given_part p room a.1 in
-              let second = moving_people-given_part q room b.1 in
-              round_problems-given_once office ok p q room first.0 second.0 first.1 second.1
+              let first = given_part p room a.1 in
+              let second = given_part q room b.1 in
+              given_once office ok p q room first.0 second.0 first.1 second.1
           | inr b ↦ absurd (taken_twice p q room a b)
         ]
         | inr a ↦ elim (home_settled office q room hq) as (λ _. p ≡ q) [
@@ -191,7 +191,7 @@ module _ (office : Office) (l : IsValidRegister office.rooms office.people)
           → (is_settled office q ≡ false) × (home_of office q ≡ Some room) → ⊥
       taken_twice p q room a b =
           let free : is_kept_back office room ≡ false =
-          (moving_people-given_open p room a.1).1 in
+          (given_open p room a.1).1 in
           elim (map.get office.people q) as
           (λ o. map.get office.people q ≡ o
           → option_and_then (λ (v : Person). v.home) o ≡ Some room → ⊥) [
@@ -201,14 +201,14 @@ module _ (office : Office) (l : IsValidRegister office.rooms office.people)
                 lives
           ] refl b.1
 
-  pub moving_people-settled_register : IsValidRegister office.rooms (settled_people office)
-  moving_people-settled_register = record {
+  pub settled_register : IsValidRegister office.rooms (settled_people office)
+  settled_register = record {
     keys = λ p q key hp hq. l.keys p q key (sym (key_settled office p) ∙ hp)
         (sym (key_settled office q) ∙ hq);
-    homes = moving_people-settled_homes;
+    homes = settled_homes;
     homes_open = λ p room h. elim (home_settled office p room h) as
         (λ _. map.get office.rooms room ≡ Some false) [
-          | inl a ↦ (moving_people-given_open p room a.1).0
+          | inl a ↦ (given_open p room a.1).0
           | inr a ↦ l.homes_open p room a.1
         ];
     few_rooms = l.few_rooms;
@@ -242,7 +242,7 @@ fresh kept round (m ∷ ms) (wave ∷ waves) none pairs =
           ∙ elim (text_cases b.0 m.0) as
           (λ _. map.contains_key (map.insert (moves_of kept round) m.0 value) b.0 ≡ false) [
             | inl same ↦ absurd (apart (sym same))
-            | inr other ↦ ap is_some (maps-get-put_other (moves_of kept round) m.0 value b.0 other)
+            | inr other ↦ ap is_some (get-put_other (moves_of kept round) m.0 value b.0 other)
                 ∙ absent
           ])
           ms others none.1)
@@ -260,7 +260,7 @@ pub record KeepsMoves (ok : ℕ → Bool) (moves : RoundMap RoundMoves) : Type 0
 
 not_empty : (m : TextMap Moved) (p : Text) (v : Moved) → map.insert m p v ≡ map.empty → ⊥
 not_empty m p v e =
-    let there : map.contains_key (map.insert m p v) p ≡ true = maps-contains_key-put_same m p v in
+    let there : map.contains_key (map.insert m p v) p ≡ true = contains_key-put_same m p v in
     let nowhere : map.contains_key (map.insert m p v) p ≡ false =
     ap (λ k. map.contains_key k p) e ∙ ap is_some (get-empty text_cmp p) in
     cc
@@ -300,11 +300,11 @@ with_move-keeps ok moves move l fine goes =
                       let is : value ≡ moved =
                       ap (λ o. unwrap_or o value) (sym
                       (ap (map.get (map.insert (moves_of moves move.round) move.person value)) same
-                      ∙ maps-get-put_same (moves_of moves move.round) move.person value) ∙ here) in
+                      ∙ get-put_same (moves_of moves move.round) move.person value) ∙ here) in
                       λ nowhere. ap (λ (m : Moved). m.wave) (sym is)
                       ∙ goes (ap (λ (m : Moved). m.to) is ∙ nowhere)
                   | inr other ↦ l.arrived move.round p moved
-                      (sym (maps-get-put_other (moves_of moves move.round) move.person value p other)
+                      (sym (get-put_other (moves_of moves move.round) move.person value p other)
                       ∙ here)
                 ]
             | Greater ↦ λ _ there. l.arrived round p moved there

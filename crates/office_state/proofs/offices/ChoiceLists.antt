@@ -8,8 +8,8 @@ use Rattle.std.specs.Ordering.{eq_by_cmp}
 use Rattle.std.specs.FinMap as map
 use Rattle.room_types.specs.Choices.{IsChoices}
 use Rattle.room_types.specs.Texts.{Text, TextMap, text_cmp}
-use Rattle.room_types.proofs.maps.TextMaps.{text_cases, maps-get-put_same, maps-get-put_other, maps-get-gone_same}
-use Rattle.room_types.proofs.maps.TextMaps.{maps-get-gone_other, maps-contains_key-put}
+use Rattle.room_types.proofs.maps.TextMaps.{text_cases, get-put_same, get-put_other, get-gone_same}
+use Rattle.room_types.proofs.maps.TextMaps.{get-gone_other, contains_key-put}
 use Rattle.office_state.specs.Change.{with_list}
 use Rattle.office_state.specs.Office.Invariants.{AreValidLists}
 use Rattle.office_state.specs.declared.office.person.Person.{Person}
@@ -17,8 +17,8 @@ use Rattle.office_state.specs.declared.office.person.Person.{Person}
 listed_other : (lists : TextMap (List Text)) (person : Text) (choices : List Text) (p : Text)
     → eq_by_cmp text_cmp p person ≡ false
     → map.get (with_list lists person choices) p ≡ map.get lists p
-listed_other lists person [] p other = maps-get-gone_other lists person p other
-listed_other lists person (code ∷ codes) p other = maps-get-put_other lists person (code ∷ codes) p other
+listed_other lists person [] p other = get-gone_other lists person p other
+listed_other lists person (code ∷ codes) p other = get-put_other lists person (code ∷ codes) p other
 
 -- a person whose list was put has that list, and it is not empty
 listed_same : (lists : TextMap (List Text)) (person : Text) (choices codes : List Text) (p : Text)
@@ -26,44 +26,44 @@ listed_same : (lists : TextMap (List Text)) (person : Text) (choices codes : Lis
     → (choices ≡ codes) × (codes ≡ [] → ⊥)
 listed_same lists person [] codes p same e =
     let none : map.get (map.remove lists person) p ≡ None =
-    ap (λ q. map.get (map.remove lists person) q) same ∙ maps-get-gone_same lists person in
+    ap (λ q. map.get (map.remove lists person) q) same ∙ get-gone_same lists person in
     absurd (cc)
 listed_same lists person (code ∷ more) codes p same e =
     let these : code ∷ more ≡ codes =
     ap (λ (o : Option (List Text)). unwrap_or o (code ∷ more))
-    (sym (maps-get-put_same lists person (code ∷ more))
+    (sym (get-put_same lists person (code ∷ more))
     ∙ ap (λ q. map.get (map.insert lists person (code ∷ more)) q) (sym same) ∙ e) in
     (these, λ none. let nil : code ∷ more ≡ [] = these ∙ none in cc)
 
 module _ (rooms : TextMap Bool) (people : TextMap Person) (choices : TextMap (List Text))
     (withdrawn : TextMap (Unit {0})) (l : AreValidLists rooms people choices withdrawn) where
   -- a room is put
-  pub offices-room_known : (room : Text) (shut : Bool)
+  pub room_known : (room : Text) (shut : Bool)
       → AreValidLists (map.insert rooms room shut) people choices withdrawn
-  offices-room_known room shut = record {
+  room_known room shut = record {
     choosers = l.choosers;
-    listed = λ p codes e k d b. maps-contains_key-put rooms room shut _ (l.listed p codes e k d b);
+    listed = λ p codes e k d b. contains_key-put rooms room shut _ (l.listed p codes e k d b);
     none_empty = l.none_empty;
     chosen = l.chosen;
     withdrawers = l.withdrawers;
   }
 
   -- a person is put
-  pub offices-person_known : (person : Text) (v : Person)
+  pub person_known : (person : Text) (v : Person)
       → AreValidLists rooms (map.insert people person v) choices withdrawn
-  offices-person_known person v = record {
-    choosers = λ p h. maps-contains_key-put people person v p (l.choosers p h);
+  person_known person v = record {
+    choosers = λ p h. contains_key-put people person v p (l.choosers p h);
     listed = l.listed;
     none_empty = l.none_empty;
     chosen = l.chosen;
-    withdrawers = λ p h. maps-contains_key-put people person v p (l.withdrawers p h);
+    withdrawers = λ p h. contains_key-put people person v p (l.withdrawers p h);
   }
 
   -- a known person's list of known rooms
-  pub offices-list_put : (person : Text) (codes : List Text) → map.contains_key people person ≡ true
+  pub list_put : (person : Text) (codes : List Text) → map.contains_key people person ≡ true
       → All (λ code. map.contains_key rooms code ≡ true) codes
       → IsChoices codes → AreValidLists rooms people (with_list choices person codes) withdrawn
-  offices-list_put person codes known known_codes formed = record {
+  list_put person codes known known_codes formed = record {
     choosers = λ p e. elim (text_cases p person) as (λ _. map.contains_key people p ≡ true) [
       | inl same ↦ ap (λ q. map.contains_key people q) same ∙ known
       | inr other ↦ l.choosers p (sym (ap is_some (listed_other choices person codes p other)) ∙ e)
@@ -87,9 +87,9 @@ module _ (rooms : TextMap Bool) (people : TextMap Person) (choices : TextMap (Li
   }
 
   -- a known person withdraws
-  pub offices-withdrawn_put : (person : Text) → map.contains_key people person ≡ true
+  pub withdrawn_put : (person : Text) → map.contains_key people person ≡ true
       → AreValidLists rooms people choices (map.insert withdrawn person tt)
-  offices-withdrawn_put person known = record {
+  withdrawn_put person known = record {
     choosers = l.choosers;
     listed = l.listed;
     none_empty = l.none_empty;
@@ -97,14 +97,14 @@ module _ (rooms : TextMap Bool) (people : TextMap Person) (choices : TextMap (Li
     withdrawers = λ p h. elim (text_cases p person) as (λ _. map.contains_key people p ≡ true) [
       | inl same ↦ ap (λ q. map.contains_key people q) same ∙ known
       | inr other ↦
-          l.withdrawers p (sym (ap is_some (maps-get-put_other withdrawn person tt p other)) ∙ h)
+          l.withdrawers p (sym (ap is_some (get-put_other withdrawn person tt p other)) ∙ h)
     ];
   }
 
   -- an unknown person has not withdrawn
-  pub offices-unknown_stays : (person : Text) → map.contains_key people person ≡ false
+  pub unknown_stays : (person : Text) → map.contains_key people person ≡ false
       → map.contains_key withdrawn person ≡ false
-  offices-unknown_stays person unknown =
+  unknown_stays person unknown =
       elim (map.contains_key withdrawn person) as
       (λ b. map.contains_key withdrawn person ≡ b → b ≡ false) [
         | true ↦ λ e. let known = l.withdrawers person e in cc

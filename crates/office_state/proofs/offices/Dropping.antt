@@ -4,7 +4,7 @@ use Rattle.std.specs.Cmp.Lexicographic.{nat_list_cmp_total}
 use Rattle.std.specs.FinMap as map
 use Rattle.std.specs.FinMap.{same_map}
 use Rattle.room_types.specs.Texts.{Text, TextMap}
-use Rattle.room_types.proofs.maps.TextMaps.{text_cases, exact_texts, maps-get-gone_same, maps-get-gone_other}
+use Rattle.room_types.proofs.maps.TextMaps.{text_cases, exact_texts, get-gone_same, get-gone_other}
 use Rattle.room_types.proofs.options.Options.{none_if_not_some}
 use Rattle.office_state.specs.Change.{applied, without_person}
 use Rattle.office_state.specs.Office.{knows_person}
@@ -16,9 +16,9 @@ gone_unknown : {X : Type 0} (m : TextMap X) (k : Text) → map.contains_key m k 
     → map.remove m k ≡ m
 gone_unknown m k unknown = same_map nat_list_cmp_total exact_texts _ _ (λ q.
     elim (text_cases q k) as (λ _. map.get (map.remove m k) q ≡ map.get m q) [
-      | inl same ↦ ap (λ p. map.get (map.remove m k) p) same ∙ maps-get-gone_same m k
+      | inl same ↦ ap (λ p. map.get (map.remove m k) p) same ∙ get-gone_same m k
           ∙ sym (none_if_not_some (map.get m k) unknown) ∙ ap (λ p. map.get m p) (sym same)
-      | inr other ↦ maps-get-gone_other m k q other
+      | inr other ↦ get-gone_other m k q other
     ])
 
 ungraded : (graded known : Bool) → (graded ≡ true → known ≡ true) → known ≡ false → graded ≡ false

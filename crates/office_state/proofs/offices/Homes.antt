@@ -3,20 +3,20 @@ use Rattle.std.proofs.Common.{◌≡◌, false, Option, Some, None, refl, ap, �
 use Rattle.std.specs.Option.{option_and_then}
 use Rattle.std.specs.FinMap as map
 use Rattle.room_types.specs.Texts.{Text}
-use Rattle.room_types.proofs.maps.TextMaps.{text_cases, maps-differ}
+use Rattle.room_types.proofs.maps.TextMaps.{text_cases, unequal_texts}
 use Rattle.office_state.specs.Change.{with_home}
 use Rattle.office_state.specs.Office.Invariants.{IsLawful, HomesDiffer}
 use Rattle.office_state.specs.Office.{had_by, home_of}
 use Rattle.office_state.specs.Office.Phases.{has_words}
 use Rattle.office_state.specs.declared.office.Office.{Office}
 use Rattle.office_state.specs.declared.office.person.Person.{Person}
-use Rattle.office_state.proofs.offices.People.{offices-had_by-put_same, offices-had_by-put_other}
-use Rattle.office_state.proofs.offices.Register.{offices-person_moved}
+use Rattle.office_state.proofs.offices.People.{had_by-put_same, had_by-put_other}
+use Rattle.office_state.proofs.offices.Register.{person_moved}
 use Rattle.office_state.proofs.round_phases.Untouched.{undrawn, words_undrawn, results_undrawn}
 use Rattle.office_state.proofs.round_phases.Untouched.{moves_stay}
-use Rattle.office_state.proofs.offices.Grades.{offices-graded_person}
-use Rattle.office_state.proofs.offices.ChoiceLists.{offices-person_known}
-use Rattle.office_state.proofs.offices.Leavers.{offices-leaver_person}
+use Rattle.office_state.proofs.offices.Grades.{graded_person}
+use Rattle.office_state.proofs.offices.ChoiceLists.{person_known}
+use Rattle.office_state.proofs.offices.Leavers.{leaver_person}
 
 -- the office after one person's move, by what is stored about the person
 abbrev pub moved : Office → Text → Option Text → Option Person → Office
@@ -55,14 +55,14 @@ moved-lawful office person home l before own unshut =
           let new : Office = moved office person home (Some kept) in
           record {
             kept = l.kept;
-            register = offices-person_moved office.rooms office.people l.register person kept home known own
+            register = person_moved office.rooms office.people l.register person kept home known own
                 unshut;
-            lists = offices-person_known office.rooms office.people office.choices office.withdrawn l.lists
+            lists = person_known office.rooms office.people office.choices office.withdrawn l.lists
                 person (record kept { home = home });
             round = l.round;
-            grades = offices-graded_person office.people office.grades l.grades person
+            grades = graded_person office.people office.grades l.grades person
                 (record kept { home = home });
-            leavers = offices-leaver_person office.phase office.people office.withdrawn office.going
+            leavers = leaver_person office.phase office.people office.withdrawn office.going
                 l.leavers person (record kept { home = home });
             words = words_undrawn office.phase new.people office.withdrawn office.going
                 office.words u.has_no_words u.no_words;
@@ -87,13 +87,13 @@ left_empty office person room differs lives q e =
         | inl same ↦
             let homeless : had_by (λ p. p.home)
             (map.insert office.people person (record kept { home = None })) q ≡ None =
-            offices-had_by-put_same (λ p. p.home) office.people person
+            had_by-put_same (λ p. p.home) office.people person
             (record kept { home = None }) q same in
             cc
         | inr other ↦
             let same : q ≡ person =
-            differs q person room (sym (offices-had_by-put_other (λ p. p.home) office.people person
+            differs q person room (sym (had_by-put_other (λ p. p.home) office.people person
             (record kept { home = None }) q other) ∙ there) lives in
-            maps-differ q person same other
+            unequal_texts q person same other
       ]
     ] refl e

@@ -16,7 +16,7 @@ use Rattle.room_types.specs.declared.moves.Move.{Move}
 use Rattle.office_state.specs.Office.Moves.{RoundMap, moves_of, with_move}
 use Rattle.office_state.specs.declared.office.moves.Moved.{Moved}
 use Rattle.office_state.specs.declared.office.moves.RoundMoves.{RoundMoves}
-use Rattle.room_types.proofs.maps.Trees.{maps-entries-empty, maps-get-tree, maps-insert-tree}
+use Rattle.room_types.proofs.maps.Trees.{entries-empty, get-tree, insert-tree}
 
 -- the recorded moves of a round
 abbrev pub kept_moves : Option RoundMoves → TextMap Moved
@@ -25,7 +25,7 @@ kept_moves kept = unwrap_or (option_map (λ (k : RoundMoves). k.by_person) kept)
 pub no_moves : (moves : RoundMap RoundMoves) (round : ℕ) → map.get moves round ≡ None
     → map.entries (moves_of moves round) ≡ []
 no_moves moves round none =
-    ap (λ o. map.entries (kept_moves o)) none ∙ maps-entries-empty nat_list_cmp_total
+    ap (λ o. map.entries (kept_moves o)) none ∙ entries-empty nat_list_cmp_total
 
 -- inserting the value that is there already changes nothing
 put_again : {X : Type 0} (m : RoundMap X) (k : ℕ) (v : X) → map.get m k ≡ Some v
@@ -43,24 +43,24 @@ module _ (m n : BTreeMap ℕ RoundMoves) (round : ℕ) (old : RoundMoves)
     (found : Some old ≡ tree.get_by (nat_cmp round) m) (new : TextMap Moved)
     (writes : IsSome (tree.get_by (nat_cmp round) m)
     → tree.UpdatesBy nat_cmp (nat_cmp round) m n (Some (record { by_person = new }))) where
-  offices-there : map.get (from_entries {R = nat_cmp} m.entries) round ≡ Some old
-  offices-there = maps-get-tree nat_cmp_total m round ∙ sym found
+  round_is_there : map.get (from_entries {R = nat_cmp} m.entries) round ≡ Some old
+  round_is_there = get-tree nat_cmp_total m round ∙ sym found
 
-  offices-written : from_entries {R = nat_cmp} n.entries
+  written : from_entries {R = nat_cmp} n.entries
       ≡ map.insert (from_entries m.entries) round (record { by_person = new })
-  offices-written = maps-insert-tree nat_cmp_total nat_cmp-IsAntisymmetric m n round (record { by_person = new })
+  written = insert-tree nat_cmp_total nat_cmp-IsAntisymmetric m n round (record { by_person = new })
       (writes (subst (λ o. IsSome o) found refl)).0
 
   -- the moves of a known round, with one more
-  pub offices-move-written : (move : Move) → move.round ≡ round
+  pub move-written : (move : Move) → move.round ≡ round
       → new ≡ map.insert old.by_person move.person
       (record { from = move.from; to = move.to; wave = move.wave })
       → from_entries {R = nat_cmp} n.entries ≡ with_move (from_entries m.entries) move
-  offices-move-written move same more =
-      offices-written
+  move-written move same more =
+      written
       ∙ ap (λ moves. map.insert (from_entries m.entries) round (record { by_person = moves }))
       (more ∙ ap (λ kept. map.insert (kept_moves kept) move.person
-      (record { from = move.from; to = move.to; wave = move.wave })) (sym offices-there))
+      (record { from = move.from; to = move.to; wave = move.wave })) (sym round_is_there))
       ∙ ap (λ r. map.insert (from_entries m.entries) r
       (record {
         by_person = map.insert (moves_of (from_entries m.entries) r) move.person
@@ -68,11 +68,11 @@ module _ (m n : BTreeMap ℕ RoundMoves) (round : ℕ) (old : RoundMoves)
       })) (sym same)
 
   -- the same moves again
-  pub offices-move-unwritten : new ≡ old.by_person
+  pub move-unwritten : new ≡ old.by_person
       → from_entries {R = nat_cmp} n.entries ≡ from_entries m.entries
-  offices-move-unwritten same =
-      offices-written ∙ ap (λ moves. map.insert (from_entries m.entries) round
-      (record { by_person = moves })) same ∙ put_again (from_entries m.entries) round old offices-there
+  move-unwritten same =
+      written ∙ ap (λ moves. map.insert (from_entries m.entries) round
+      (record { by_person = moves })) same ∙ put_again (from_entries m.entries) round old round_is_there
 
 -- the first move of a round
 pub move-begun : (moves : RoundMap RoundMoves) (move : Move) → map.get moves move.round ≡ None

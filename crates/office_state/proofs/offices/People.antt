@@ -10,57 +10,57 @@ use Rattle.std.specs.FinMap as map
 use Rattle.std.specs.FinMap.{get-entries, find, entries_sorted}
 use Rattle.std.specs.FinMap.Entries.{below_all, is_sorted}
 use Rattle.room_types.specs.Texts.{Text, TextMap, text_cmp}
-use Rattle.room_types.proofs.maps.TextMaps.{text_cases, maps-get-put_same, maps-get-put_other, maps-get-gone_same, less_from_test}
-use Rattle.room_types.proofs.maps.TextMaps.{maps-get-gone_other, first_holds, second_holds}
+use Rattle.room_types.proofs.maps.TextMaps.{text_cases, get-put_same, get-put_other, get-gone_same, less_from_test}
+use Rattle.room_types.proofs.maps.TextMaps.{get-gone_other, first_holds, second_holds}
 use Rattle.office_state.specs.Office.Invariants.{Unshared}
 use Rattle.office_state.specs.Office.{is_text, had_by, first_person, holder, is_same_text}
 use Rattle.office_state.specs.declared.office.person.Person.{Person}
 use Rattle.office_state.proofs.offices.Truths.{text_eq-same, tied, then_some}
 
 module _ (which : Person → Option Text) where
-  pub offices-had_by-put_same : (m : TextMap Person) (k : Text) (v : Person) (q : Text) → q ≡ k
+  pub had_by-put_same : (m : TextMap Person) (k : Text) (v : Person) (q : Text) → q ≡ k
       → had_by which (map.insert m k v) q ≡ which v
-  offices-had_by-put_same m k v q e = ap (λ p. had_by which (map.insert m k v) p) e
-      ∙ ap (option_and_then which) (maps-get-put_same m k v)
+  had_by-put_same m k v q e = ap (λ p. had_by which (map.insert m k v) p) e
+      ∙ ap (option_and_then which) (get-put_same m k v)
 
-  pub offices-had_by-put_other : (m : TextMap Person) (k : Text) (v : Person) (q : Text)
+  pub had_by-put_other : (m : TextMap Person) (k : Text) (v : Person) (q : Text)
       → eq_by_cmp text_cmp q k ≡ false → had_by which (map.insert m k v) q ≡ had_by which m q
-  offices-had_by-put_other m k v q e = ap (option_and_then which) (maps-get-put_other m k v q e)
+  had_by-put_other m k v q e = ap (option_and_then which) (get-put_other m k v q e)
 
   -- a removed person has nothing, and the others have what they had
-  pub offices-had_by-gone : (m : TextMap Person) (k q text : Text)
+  pub had_by-gone : (m : TextMap Person) (k q text : Text)
       → had_by which (map.remove m k) q ≡ Some text → had_by which m q ≡ Some text
-  offices-had_by-gone m k q text h =
+  had_by-gone m k q text h =
       elim (text_cases q k) as (λ _. had_by which m q ≡ Some text) [
         | inl same ↦
             let nothing : had_by which (map.remove m k) q ≡ None =
             ap (λ p. had_by which (map.remove m k) p) same
-            ∙ ap (option_and_then which) (maps-get-gone_same m k) in
+            ∙ ap (option_and_then which) (get-gone_same m k) in
             absurd (cc)
-        | inr other ↦ ap (option_and_then which) (sym (maps-get-gone_other m k q other)) ∙ h
+        | inr other ↦ ap (option_and_then which) (sym (get-gone_other m k q other)) ∙ h
       ]
 
-  pub offices-Unshared-gone : (m : TextMap Person) (k : Text) → Unshared which m
+  pub Unshared-gone : (m : TextMap Person) (k : Text) → Unshared which m
       → Unshared which (map.remove m k)
-  offices-Unshared-gone m k unshared p q text hp hq =
-      unshared p q text (offices-had_by-gone m k p text hp) (offices-had_by-gone m k q text hq)
+  Unshared-gone m k unshared p q text hp hq =
+      unshared p q text (had_by-gone m k p text hp) (had_by-gone m k q text hq)
 
   -- a person may be put if nobody else has the same
-  pub offices-Unshared-put : (m : TextMap Person) (k : Text) (v : Person) → Unshared which m
+  pub Unshared-put : (m : TextMap Person) (k : Text) (v : Person) → Unshared which m
       → ((q text : Text) → which v ≡ Some text → had_by which m q ≡ Some text → q ≡ k)
       → Unshared which (map.insert m k v)
-  offices-Unshared-put m k v unshared alone p q text hp hq =
+  Unshared-put m k v unshared alone p q text hp hq =
       elim (text_cases p k) as (λ _. p ≡ q) [
         | inl ep ↦ elim (text_cases q k) as (λ _. p ≡ q) [
           | inl eq ↦ ep ∙ sym eq
-          | inr nq ↦ ep ∙ sym (alone q text (sym (offices-had_by-put_same m k v p ep) ∙ hp)
-              (sym (offices-had_by-put_other m k v q nq) ∙ hq))
+          | inr nq ↦ ep ∙ sym (alone q text (sym (had_by-put_same m k v p ep) ∙ hp)
+              (sym (had_by-put_other m k v q nq) ∙ hq))
         ]
         | inr np ↦ elim (text_cases q k) as (λ _. p ≡ q) [
-          | inl eq ↦ alone p text (sym (offices-had_by-put_same m k v q eq) ∙ hq)
-              (sym (offices-had_by-put_other m k v p np) ∙ hp) ∙ sym eq
-          | inr nq ↦ unshared p q text (sym (offices-had_by-put_other m k v p np) ∙ hp)
-              (sym (offices-had_by-put_other m k v q nq) ∙ hq)
+          | inl eq ↦ alone p text (sym (had_by-put_same m k v q eq) ∙ hq)
+              (sym (had_by-put_other m k v p np) ∙ hp) ∙ sym eq
+          | inr nq ↦ unshared p q text (sym (had_by-put_other m k v p np) ∙ hp)
+              (sym (had_by-put_other m k v q nq) ∙ hq)
         ]
       ]
 

@@ -10,13 +10,13 @@ use Rattle.std.specs.List.Sorted.{IsStrictlySortedBy}
 use Rattle.std.specs.Map.{keys_of}
 use Rattle.std.specs.FinMap as maps
 use Rattle.std.specs.FinMap.{find, get-from_entries, same_map}
-use Rattle.room_types.proofs.maps.Trees.{maps-entries-sorted}
+use Rattle.room_types.proofs.maps.Trees.{entries-sorted}
 use Rattle.room_types.specs.Texts.{Text, TextMap, text_cmp}
-use Rattle.room_types.proofs.maps.TextMaps.{exact_texts, text_cases, maps-differ}
+use Rattle.room_types.proofs.maps.TextMaps.{exact_texts, text_cases, unequal_texts}
 use Rattle.trade_line.specs.Assignment.{given_in}
 use Rattle.trade_line.specs.Market.{IsMarket}
 use Rattle.trade_line.specs.TopTradingCycles.{gets, ttc}
-use Rattle.trade_line.proofs.welfare.Given.{welfare-given_gets}
+use Rattle.trade_line.proofs.welfare.Given.{given_gets}
 use Rattle.office_state.specs.Office.{participants}
 use Rattle.office_state.specs.Round.{is_participant, round_people, round_rooms, round_market}
 use Rattle.office_state.specs.Round.{round_room, result_of}
@@ -27,7 +27,7 @@ use Rattle.office_state.specs.declared.office.Office.{Office}
 use Rattle.office_state.proofs.round_problems.Names.{number_in-below}
 use Rattle.office_state.proofs.round_problems.People.{participants_ascend, participants_hold}
 use Rattle.office_state.proofs.round_problems.People.{participant_number}
-use Rattle.office_state.proofs.round_problems.Problem.{round_problems-market_people}
+use Rattle.office_state.proofs.round_problems.Problem.{market_people}
 
 find_named : {A : Type 0} (f : Text → A) (names : List Text) (q : Text)
     → find text_cmp q (map (λ name. (name, f name)) names)
@@ -43,7 +43,7 @@ find_named f (name ∷ names) q =
           → cond b (Some (f name)) (find text_cmp q (map (λ n. (n, f n)) names))
           ≡ cond (b || list_any (eq_by_cmp text_cmp q) names) (Some (f q)) None) [
             | true ↦ λ e. ap (λ t. Some (f t)) (sym same)
-            | false ↦ λ e. absurd (maps-differ q name same e)
+            | false ↦ λ e. absurd (unequal_texts q name same e)
           ] refl
       | inr other ↦
           ap (λ b. cond b (Some (f name)) (find text_cmp q (map (λ n. (n, f n)) names))) other
@@ -83,7 +83,7 @@ pub entries-round_results : (office : Office)
     ≡ map (λ person. (person, record { room = result_of office person })) (participants office)
 unfolding round_results
 entries-round_results office =
-    maps-entries-sorted nat_list_cmp_total
+    entries-sorted nat_list_cmp_total
     (map (λ person. (person, record { room = result_of office person })) (participants office))
     (subst (λ names. IsStrictlySortedBy text_cmp names)
     (sym (keys_named (λ person. record { room = result_of office person })
@@ -122,8 +122,8 @@ results-same office results people rooms given ok is_people is_rooms is_given re
       | None ↦ λ e part. ap (λ b. cond b (Some (record { room = None })) None) part
       | Some number ↦ λ e part.
           ap (λ o. Some (record { room = round_room office o }))
-          (welfare-given_gets (round_market office) ok number
-          (subst (λ n. number < n) (sym (round_problems-market_people office))
+          (given_gets (round_market office) ok number
+          (subst (λ n. number < n) (sym (market_people office))
           (number_in-below (round_people office) person number e)))
           ∙ ap (λ b. cond b (Some (by_number number)) None) part
     ] refl (participant_number office person)
@@ -153,9 +153,9 @@ blend one other same =
       going = same.going i;
     }
 
-pub round_outcomes-same_round : (one other : Office) → HaveSameEntries one other → HaveSameRound one other
+pub same_entries_same_round : (one other : Office) → HaveSameEntries one other → HaveSameRound one other
 unfolding round_people round_rooms round_market result_of round_results
-round_outcomes-same_round one other same = record {
+same_entries_same_round one other same = record {
   people = ap round_people (blend one other same);
   rooms = ap round_rooms (blend one other same);
   market = ap round_market (blend one other same);

@@ -7,22 +7,22 @@ use Rattle.office_state.specs.Office.Phases.{has_results}
 use Rattle.office_state.specs.Round.{is_participant, result_of, round_rank}
 use Rattle.office_state.specs.Round.Laws.{IsWellTraded}
 use Rattle.office_state.specs.declared.office.Office.{Office}
-use Rattle.office_state.proofs.round_outcomes.Apart.{round_outcomes-apart}
-use Rattle.office_state.proofs.round_problems.Problem.{round_problems-lawful-IsMarket}
-use Rattle.office_state.proofs.round_problems.Rooms.{round_problems-given_numbered, round_problems-given_once}
-use Rattle.office_state.proofs.moving_people.Settled.{moving_people-recorded_is}
-use Rattle.office_state.proofs.round_outcomes.Ranks.{round_outcomes-rational, round_outcomes-efficient}
+use Rattle.office_state.proofs.round_outcomes.Apart.{no_better_trade}
+use Rattle.office_state.proofs.round_problems.Problem.{lawful-IsMarket}
+use Rattle.office_state.proofs.round_problems.Rooms.{given_numbered, given_once}
+use Rattle.office_state.proofs.moving_people.Settled.{recorded_is}
+use Rattle.office_state.proofs.round_outcomes.Ranks.{outcome_is_rational, outcome_is_efficient}
 
-pub round_outcomes-traded : (office : Office) → IsLawful office → IsWellTraded office (result_of office)
-round_outcomes-traded office l = record {
+pub outcome_is_well_traded : (office : Office) → IsLawful office → IsWellTraded office (result_of office)
+outcome_is_well_traded office l = record {
   assignment = record {
-    known = λ p room part e. round_problems-given_numbered office (round_problems-lawful-IsMarket office l) p room part e;
-    differ = λ p q room part_p part_q ep eq. round_problems-given_once office
-        (round_problems-lawful-IsMarket office l) p q room part_p part_q ep eq;
+    known = λ p room part e. given_numbered office (lawful-IsMarket office l) p room part e;
+    differ = λ p q room part_p part_q ep eq. given_once office
+        (lawful-IsMarket office l) p q room part_p part_q ep eq;
   };
-  rational = round_outcomes-rational office (round_problems-lawful-IsMarket office l);
-  efficient = round_outcomes-efficient office (round_problems-lawful-IsMarket office l);
-  apart = round_outcomes-apart office l.register (round_problems-lawful-IsMarket office l);
+  rational = outcome_is_rational office (lawful-IsMarket office l);
+  efficient = outcome_is_efficient office (lawful-IsMarket office l);
+  apart = no_better_trade office l.register (lawful-IsMarket office l);
 }
 
 -- so is everything that gives each participant the same
@@ -51,10 +51,10 @@ traded_too office f g w same = record {
 pub recorded : (office : Office) → IsLawful office → has_results office.phase ≡ true → (p : Text)
     → is_participant office p ≡ true → recorded_result office p ≡ result_of office p
 recorded office l there p part =
-    moving_people-recorded_is office l.register (round_problems-lawful-IsMarket office l) (l.results.given there) p part
+    recorded_is office l.register (lawful-IsMarket office l) (l.results.given there) p part
 
 pub recorded_traded : (office : Office) → IsLawful office → has_results office.phase ≡ true
     → IsWellTraded office (recorded_result office)
 recorded_traded office l there =
-    traded_too office (result_of office) (recorded_result office) (round_outcomes-traded office l)
+    traded_too office (result_of office) (recorded_result office) (outcome_is_well_traded office l)
     (recorded office l there)

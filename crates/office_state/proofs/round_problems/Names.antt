@@ -20,7 +20,7 @@ use Rattle.std.proofs.lemmas.List.Sums.{position_or_len_is}
 use Rattle.std.proofs.lemmas.Option.{slice_get-get_or}
 use Rattle.office_lists.proofs.move_days.Leavers.{position-push}
 use Rattle.room_types.specs.Texts.{Text, TextMap, text_cmp, text_eq}
-use Rattle.room_types.proofs.maps.TextMaps.{text_cases, maps-differ}
+use Rattle.room_types.proofs.maps.TextMaps.{text_cases, unequal_texts}
 use Rattle.room_types.proofs.options.Options.{none_if_not_some}
 use Rattle.office_state.specs.Round.{number_in}
 use Rattle.office_state.proofs.offices.Truths.{text_eq-same}
@@ -36,7 +36,7 @@ text_eq-tied a b =
           ∙ sym (ap is_eq (tied_itself nat_list_cmp_total a))
           ∙ sym (ap (λ t. eq_by_cmp text_cmp t a) same)
       | inr other ↦ elim (text_eq a b) as (λ t. text_eq a b ≡ t → t ≡ eq_by_cmp text_cmp b a) [
-        | true ↦ λ e. absurd (maps-differ b a (sym (same-text_eq a b e)) other)
+        | true ↦ λ e. absurd (unequal_texts b a (sym (same-text_eq a b e)) other)
         | false ↦ λ e. sym other
       ] refl
     ]
@@ -48,9 +48,9 @@ none_before : (m : ℕ) → nat_lt 0 (suc m) ≡ true
 none_before m = grind (arith, nat_tests)
 
 module _ {X : Type 0} (p : X → Bool) where
-  pub round_problems-position-cons : (x : X) (xs : List X)
+  pub position-cons : (x : X) (xs : List X)
       → position p (x ∷ xs) ≡ cond (p x) (Some 0) (option_map (λ n. 1 + n) (position p xs))
-  round_problems-position-cons x xs =
+  position-cons x xs =
       let n = position_or_len p xs in
       let m = length xs in
       elim (p x) as (λ b. cond (nat_lt (cond (not b) (1 + n) 0) (suc m))
@@ -79,7 +79,7 @@ number_in-push_fresh names name q fresh =
           → cond b (Some (length names)) None
           ≡ cond b (Some (length names)) (number_in names q)) [
             | true ↦ λ e. refl
-            | false ↦ λ e. absurd (maps-differ q name same e)
+            | false ↦ λ e. absurd (unequal_texts q name same e)
           ] refl
       | inr other ↦ ap (λ b. option_or (number_in names q) (cond b (Some (length names)) None))
           (text_eq-tied name q ∙ other)
@@ -244,16 +244,16 @@ kept_back-more m home room rest =
 
 module _ (f : Text → Option ℕ) (codes : List Text) (i : ℕ) (code : Text) (within : i < length codes)
     (at : code ≡ get_or codes i code) where
-  pub round_problems-numbered-some : (n : ℕ) → f code ≡ Some n
+  pub numbered-some : (n : ℕ) → f code ≡ Some n
       → filter_map f (take (i + 1) codes) ≡ filter_map f (take i codes) ++ n ∷ []
-  round_problems-numbered-some n has =
+  numbered-some n has =
       ap (filter_map f) (one_more codes i code within at)
       ∙ filter_map-append f (take i codes) (code ∷ [])
       ∙ ap (λ o. filter_map f (take i codes) ++ cons_option o []) has
 
-  pub round_problems-numbered-none : f code ≡ None
+  pub numbered-none : f code ≡ None
       → filter_map f (take (i + 1) codes) ≡ filter_map f (take i codes)
-  round_problems-numbered-none has =
+  numbered-none has =
       ap (filter_map f) (one_more codes i code within at)
       ∙ filter_map-append f (take i codes) (code ∷ [])
       ∙ ap (λ o. filter_map f (take i codes) ++ cons_option o []) has

@@ -21,61 +21,61 @@ use Rattle.room_types.specs.Texts.{Text, text_cmp, text_eq}
 use Rattle.room_types.proofs.maps.TextMaps.{exact_texts, first_holds, second_holds, less_from_test}
 use Rattle.room_types.proofs.options.Options.{some_of}
 use Rattle.draw_order.specs.Draw.{Ticket, IsDrawnOrder, drawn_order, ungraded}
-use Rattle.draw_order.proofs.draws.Orders.{goes_by_word_alone, draws-one_drawn_order}
+use Rattle.draw_order.proofs.draws.Orders.{goes_by_word_alone, drawn_orders_agree}
 use Rattle.office_state.specs.Round.Settlement.{is_settled}
 use Rattle.office_state.specs.Office.{knows_person, grade_of, has_withdrawn, participants, people_not_withdrawn, sits_out}
 use Rattle.office_state.specs.Round.{is_participant, word_of, tickets_of, round_people, round_rooms}
 use Rattle.office_state.specs.Round.{is_kept_back, number_in}
 use Rattle.office_state.specs.Round.Laws.{people_by_word, plain_tickets_of}
 use Rattle.office_state.specs.declared.office.Office.{Office}
-use Rattle.office_state.proofs.round_problems.Names.{text_eq-tied, round_problems-position-cons}
+use Rattle.office_state.proofs.round_problems.Names.{text_eq-tied, position-cons}
 
 module _ {X : Type 0} (test : Text × X → Bool) where
-  round_problems-below_kept : (x : Text) (es : List (Text × X)) → T (below_all text_cmp x es)
+  below_kept : (x : Text) (es : List (Text × X)) → T (below_all text_cmp x es)
       → AllByRecursion (λ y. text_cmp x y ≡ Less) (map (λ e. e.0) (filter test es))
-  round_problems-below_kept x [] below = tt
-  round_problems-below_kept x (e ∷ es) below =
+  below_kept x [] below = tt
+  below_kept x (e ∷ es) below =
       elim (test e) as (λ b. AllByRecursion (λ y. text_cmp x y ≡ Less)
       (map (λ e. e.0) (cond b (e ∷ filter test es) (filter test es)))) [
         | true ↦ (
           less_from_test (text_cmp x e.0) (first_holds _ _ below),
-          round_problems-below_kept x es
+          below_kept x es
               (second_holds _ _ below),
         )
-        | false ↦ round_problems-below_kept x es (second_holds _ _ below)
+        | false ↦ below_kept x es (second_holds _ _ below)
       ]
 
   -- the keys of entries ascend, and so do those of some of them
-  round_problems-keys_ascend : (es : List (Text × X)) → T (is_sorted text_cmp es)
+  keys_ascend : (es : List (Text × X)) → T (is_sorted text_cmp es)
       → IsStrictlySortedBy text_cmp (map (λ e. e.0) (filter test es))
   unfolding IsStrictlySortedBy
-  round_problems-keys_ascend [] sorted = tt
-  round_problems-keys_ascend (e ∷ es) sorted =
+  keys_ascend [] sorted = tt
+  keys_ascend (e ∷ es) sorted =
       elim (test e) as (λ b. IsStrictlySortedBy text_cmp
       (map (λ e. e.0) (cond b (e ∷ filter test es) (filter test es)))) [
         | true ↦ (
-          round_problems-below_kept e.0 es (first_holds _ _ sorted),
-          round_problems-keys_ascend es
+          below_kept e.0 es (first_holds _ _ sorted),
+          keys_ascend es
               (second_holds _ _ sorted),
         )
-        | false ↦ round_problems-keys_ascend es (second_holds _ _ sorted)
+        | false ↦ keys_ascend es (second_holds _ _ sorted)
       ]
 
 pub participants_ascend : (office : Office) → IsStrictlySortedBy text_cmp (participants office)
 participants_ascend office =
-    round_problems-keys_ascend (λ e. not (sits_out office e.0)) (maps.entries office.people)
+    keys_ascend (λ e. not (sits_out office e.0)) (maps.entries office.people)
     (entries_sorted office.people)
 
 -- those who have not withdrawn ascend
 not_withdrawn_ascend : (office : Office) → IsStrictlySortedBy text_cmp (people_not_withdrawn office)
 not_withdrawn_ascend office =
-    round_problems-keys_ascend (λ e. not (has_withdrawn office e.0)) (maps.entries office.people)
+    keys_ascend (λ e. not (has_withdrawn office e.0)) (maps.entries office.people)
     (entries_sorted office.people)
 
 rooms_ascend : (office : Office) → IsStrictlySortedBy text_cmp (round_rooms office)
 unfolding round_rooms
 rooms_ascend office =
-    round_problems-keys_ascend (λ e. not e.1 && not (is_kept_back office e.0)) (maps.entries office.rooms)
+    keys_ascend (λ e. not e.1 && not (is_kept_back office e.0)) (maps.entries office.rooms)
     (entries_sorted office.rooms)
 
 less_differs : (a b : Text) → text_cmp a b ≡ Less → a ≢ b
@@ -97,10 +97,10 @@ not_withdrawn_differ office = ascending_differ (people_not_withdrawn office) (no
 pub rooms_differ : (office : Office) → AllPairs ◌≢◌ (round_rooms office)
 rooms_differ office = ascending_differ (round_rooms office) (rooms_ascend office)
 
-round_problems-identifiers : (grade word : Text → ℕ) (people : List Text)
+identifiers_of_tickets : (grade word : Text → ℕ) (people : List Text)
     → map (λ (ticket : Ticket). ticket.0) (map (λ p. (p, grade p, word p)) people) ≡ people
-round_problems-identifiers grade word [] = refl
-round_problems-identifiers grade word (p ∷ people) = ap (λ (others : List Text). p ∷ others) (round_problems-identifiers grade word people)
+identifiers_of_tickets grade word [] = refl
+identifiers_of_tickets grade word (p ∷ people) = ap (λ (others : List Text). p ∷ others) (identifiers_of_tickets grade word people)
 
 -- the drawn order has the participants, in another order
 pub people_are_participants : (office : Office)
@@ -108,13 +108,13 @@ pub people_are_participants : (office : Office)
 unfolding round_people
 people_are_participants office =
     let drawn : IsDrawnOrder (tickets_of office) (round_people office) =
-    (draws-one_drawn_order (tickets_of office)).some in
+    (drawn_orders_agree (tickets_of office)).some in
     let moved : IsPermutation (map (λ (ticket : Ticket). ticket.0) (tickets_of office))
     (map (λ (ticket : Ticket). ticket.0) drawn.ascending) =
     IsPermutation-map (λ (ticket : Ticket). ticket.0)
     (tickets_of office) drawn.ascending drawn.arranged.same_items in
     subst (λ names. IsPermutation names (round_people office))
-    (round_problems-identifiers (grade_of office) (word_of office) (participants office))
+    (identifiers_of_tickets (grade_of office) (word_of office) (participants office))
     (subst (λ names. IsPermutation (map (λ (ticket : Ticket). ticket.0) (tickets_of office)) names)
     (sym drawn.identifiers) moved)
 
@@ -170,7 +170,7 @@ pub is_some-number_in : (names : List Text) (q : Text)
     → is_some (number_in names q) ≡ list_any (eq_by_cmp text_cmp q) names
 is_some-number_in [] q = refl
 is_some-number_in (name ∷ names) q =
-    ap is_some (round_problems-position-cons (λ other. text_eq other q) name names)
+    ap is_some (position-cons (λ other. text_eq other q) name names)
     ∙ ap (λ b. is_some (cond b (Some 0) (option_map (λ n. 1 + n) (number_in names q))))
     (text_eq-tied name q)
     ∙ elim (eq_by_cmp text_cmp q name) as
@@ -206,8 +206,8 @@ ungraded_tickets grade word none (p ∷ people) =
     λ i. (p, none p i, word p) ∷ ungraded_tickets grade word none people i
 
 -- the participants of a round without grades are in order of word and identifier alone
-pub round_problems-people_by_word : (office : Office) → office.grades ≡ maps.empty → round_people office ≡ people_by_word office
+pub ungraded_by_word : (office : Office) → office.grades ≡ maps.empty → round_people office ≡ people_by_word office
 unfolding round_people
-round_problems-people_by_word office none =
+ungraded_by_word office none =
     ap drawn_order (ungraded_tickets (grade_of office) (word_of office) (no_grade office none) (participants office))
     ∙ goes_by_word_alone (plain_tickets_of office)

@@ -30,11 +30,11 @@ use Rattle.office_state.proofs.offices.Truths.{text_eq-same, then_some}
 -- ---- parts of lists
 
 module _ {X : Type 0} (R : X → X → Type 0) where
-  round_problems-first_apart : (x : X) (xs : List X) → AllPairs R (x ∷ xs) → All (R x) xs
-  round_problems-first_apart x xs apart = λ k d within. apart 0 (suc k) d (omega arith) (omega arith)
+  first_apart : (x : X) (xs : List X) → AllPairs R (x ∷ xs) → All (R x) xs
+  first_apart x xs apart = λ k d within. apart 0 (suc k) d (omega arith) (omega arith)
 
-  round_problems-rest_apart : (x : X) (xs : List X) → AllPairs R (x ∷ xs) → AllPairs R xs
-  round_problems-rest_apart x xs apart = λ i j d before within. apart (suc i) (suc j) d (omega arith) (omega arith)
+  rest_apart : (x : X) (xs : List X) → AllPairs R (x ∷ xs) → AllPairs R xs
+  rest_apart x xs apart = λ i j d before within. apart (suc i) (suc j) d (omega arith) (omega arith)
 
 before_first-cons : {X : Type 0} (p : X → Bool) (x : X) (xs : List X)
     → before_first p (x ∷ xs) ≡ cond (p x) [] (x ∷ before_first p xs)
@@ -54,8 +54,8 @@ AllPairs-before_first R p (x ∷ xs) apart =
     (elim (p x) as (λ b. AllPairs R (cond b [] (x ∷ before_first p xs))) [
       | true ↦ λ i j d before within. absurd (omega arith)
       | false ↦ AllPairs-cons R x (before_first p xs)
-          (All-take (R x) (position_or_len p xs) xs (round_problems-first_apart R x xs apart))
-          (AllPairs-before_first R p xs (round_problems-rest_apart R x xs apart))
+          (All-take (R x) (position_or_len p xs) xs (first_apart R x xs apart))
+          (AllPairs-before_first R p xs (rest_apart R x xs apart))
     ])
 
 fails_before_first : {X : Type 0} (p : X → Bool) (xs : List X)
@@ -131,15 +131,15 @@ codes_differ codes none = (unrepeated [] codes none).0
 
 module _ (names : List Text) where
   -- two names with one number are one
-  round_problems-same_number : (a b : Text) (n : ℕ) → number_in names a ≡ Some n → number_in names b ≡ Some n
+  same_number : (a b : Text) (n : ℕ) → number_in names a ≡ Some n → number_in names b ≡ Some n
       → a ≡ b
-  round_problems-same_number a b n ha hb = sym (number_in-name names a n [] ha) ∙ number_in-name names b n [] hb
+  same_number a b n ha hb = sym (number_in-name names a n [] ha) ∙ number_in-name names b n [] hb
 
-  round_problems-numbers_differ : (codes : List Text) → AllPairs ◌≢◌ codes
+  numbers_differ : (codes : List Text) → AllPairs ◌≢◌ codes
       → AllPairs ◌≢◌ (filter_map (number_in names) codes)
-  round_problems-numbers_differ [] apart = λ i j d before within. absurd (omega arith)
-  round_problems-numbers_differ (code ∷ codes) apart =
-      let rest = round_problems-numbers_differ codes (round_problems-rest_apart ◌≢◌ code codes apart) in
+  numbers_differ [] apart = λ i j d before within. absurd (omega arith)
+  numbers_differ (code ∷ codes) apart =
+      let rest = numbers_differ codes (rest_apart ◌≢◌ code codes apart) in
       elim (number_in names code) as
       (λ o. number_in names code ≡ o
       → AllPairs ◌≢◌ (cons_option o (filter_map (number_in names) codes))) [
@@ -147,8 +147,8 @@ module _ (names : List Text) where
         | Some n ↦ λ e. AllPairs-cons ◌≢◌ n (filter_map (number_in names) codes)
             (All-filter_map (number_in names) (λ other. code ≢ other) (λ m. n ≢ m)
             (λ other m differs has same. differs
-            (round_problems-same_number code other m (e ∙ ap (λ k. Some k) same) has)) codes
-            (round_problems-first_apart ◌≢◌ code codes apart))
+            (same_number code other m (e ∙ ap (λ k. Some k) same) has)) codes
+            (first_apart ◌≢◌ code codes apart))
             rest
       ] refl
 
@@ -156,28 +156,28 @@ anything : (codes : List Text) → All (λ _. Unit {0}) codes
 anything codes = λ k d within. tt
 
 module _ (office : Office) (person : Text) (codes : List Text) where
-  pub round_problems-list_known : All (λ r. r < length (round_rooms office)) (round_list office person codes)
-  round_problems-list_known =
+  pub list_known : All (λ r. r < length (round_rooms office)) (round_list office person codes)
+  list_known =
       All-filter_map (number_in (round_rooms office)) (λ _. Unit {0})
       (λ r. r < length (round_rooms office))
       (λ code r here has. number_in-below (round_rooms office) code r has)
       (before_own (home_of office person) codes)
       (anything (before_own (home_of office person) codes))
 
-  pub round_problems-list_differs : AllPairs ◌≢◌ codes → AllPairs ◌≢◌ (round_list office person codes)
-  round_problems-list_differs apart =
-      round_problems-numbers_differ (round_rooms office) (before_own (home_of office person) codes)
+  pub list_differs : AllPairs ◌≢◌ codes → AllPairs ◌≢◌ (round_list office person codes)
+  list_differs apart =
+      numbers_differ (round_rooms office) (before_own (home_of office person) codes)
       (AllPairs-before_first ◌≢◌ (is_text (home_of office person)) codes apart)
 
-  pub round_problems-list_lacks : (r : ℕ) → round_home office person ≡ Some r
+  pub list_lacks : (r : ℕ) → round_home office person ≡ Some r
       → All (λ x. x ≢ r) (round_list office person codes)
-  round_problems-list_lacks r lives =
+  list_lacks r lives =
       let own = then_some (number_in (round_rooms office)) (home_of office person) r lives in
       All-filter_map (number_in (round_rooms office))
       (λ code. is_text (home_of office person) code ≡ false) (λ x. x ≢ r)
       (λ code x other has same.
       let is : own.0 ≡ code =
-      round_problems-same_number (round_rooms office) own.0 code r own.2 (has ∙ ap (λ k. Some k) same) in
+      same_number (round_rooms office) own.0 code r own.2 (has ∙ ap (λ k. Some k) same) in
       cc (sym other ∙ ap (λ o. is_text o code) own.1 ∙ ap (λ t. text_eq own.0 t) (sym is)
       ∙ text_eq-same own.0))
       (before_own (home_of office person) codes)
@@ -195,39 +195,39 @@ unrepeated_choices office lawful person =
 -- ---- the market
 
 module _ (office : Office) where
-  pub round_problems-market_people : (round_market office).people ≡ length (round_people office)
+  pub market_people : (round_market office).people ≡ length (round_people office)
   unfolding round_market
-  round_problems-market_people = refl
+  market_people = refl
 
-  pub round_problems-market_rooms : (round_market office).rooms ≡ length (round_rooms office)
+  pub market_rooms : (round_market office).rooms ≡ length (round_rooms office)
   unfolding round_market
-  round_problems-market_rooms = refl
+  market_rooms = refl
 
-  pub round_problems-market_home : (p : ℕ) → p < length (round_people office)
+  pub market_home : (p : ℕ) → p < length (round_people office)
       → home (round_market office) p ≡ round_home office (get_or (round_people office) p [])
   unfolding round_market
-  round_problems-market_home p within = get_or-map (round_home office) (round_people office) p [] None within
+  market_home p within = get_or-map (round_home office) (round_people office) p [] None within
 
-  pub round_problems-market_list : (p : ℕ) → p < length (round_people office)
+  pub market_list : (p : ℕ) → p < length (round_people office)
       → list_of (round_market office) p
       ≡ round_list office (get_or (round_people office) p [])
       (choices_of office (get_or (round_people office) p []))
   unfolding round_market
-  round_problems-market_list p within =
+  market_list p within =
       get_or-map (λ person. round_list office person (choices_of office person))
       (round_people office) p [] [] within
 
   -- one number, one home, one person
-  round_problems-one_person : HomesDiffer office → (p q r : ℕ) → p < length (round_people office)
+  one_person : HomesDiffer office → (p q r : ℕ) → p < length (round_people office)
       → q < length (round_people office)
       → round_home office (get_or (round_people office) p []) ≡ Some r
       → round_home office (get_or (round_people office) q []) ≡ Some r → p ≡ q
-  round_problems-one_person differ p q r at_p at_q lives_p lives_q =
+  one_person differ p q r at_p at_q lives_p lives_q =
       let one = then_some (number_in (round_rooms office))
       (home_of office (get_or (round_people office) p [])) r lives_p in
       let two = then_some (number_in (round_rooms office))
       (home_of office (get_or (round_people office) q [])) r lives_q in
-      let room : two.0 ≡ one.0 = round_problems-same_number (round_rooms office) two.0 one.0 r two.2 one.2 in
+      let room : two.0 ≡ one.0 = same_number (round_rooms office) two.0 one.0 r two.2 one.2 in
       let same : get_or (round_people office) p [] ≡ get_or (round_people office) q [] =
       differ (get_or (round_people office) p []) (get_or (round_people office) q []) one.0 one.1
       (two.1 ∙ ap (λ t. Some t) room) in
@@ -237,75 +237,75 @@ module _ (office : Office) where
       number_in-at (round_people office) q [] (people_differ office) at_q in
       cc (sym first ∙ ap (number_in (round_people office)) same ∙ second)
 
-  round_problems-homes_len : length (round_market office).homes ≡ (round_market office).people
+  market_homes : length (round_market office).homes ≡ (round_market office).people
   unfolding round_market
-  round_problems-homes_len = length-map (round_people office) (round_home office)
+  market_homes = length-map (round_people office) (round_home office)
 
-  round_problems-lists_len : length (round_market office).lists ≡ (round_market office).people
+  market_lists : length (round_market office).lists ≡ (round_market office).people
   unfolding round_market
-  round_problems-lists_len = length-map (round_people office)
+  market_lists = length-map (round_people office)
       (λ person. round_list office person (choices_of office person))
 
-  pub round_problems-market-IsMarket : HomesDiffer office
+  pub market-IsMarket : HomesDiffer office
       → All (λ p. first_repeated [] (choices_of office p) ≡ None) (round_people office)
       → IsMarket (round_market office)
-  round_problems-market-IsMarket differ lists =
+  market-IsMarket differ lists =
       let at : (p : ℕ) → p < (round_market office).people → p < length (round_people office) =
-      λ p h. subst (λ n. p < n) round_problems-market_people h in
+      λ p h. subst (λ n. p < n) market_people h in
       record {
         indexed = record {
-          homes_len = round_problems-homes_len;
-          lists_len = round_problems-lists_len;
+          homes_len = market_homes;
+          lists_len = market_lists;
           homes_known = λ p r h lives.
               let own = then_some (number_in (round_rooms office)) _ r
-              (sym (round_problems-market_home p (at p h)) ∙ lives) in
-              subst (λ n. r < n) (sym round_problems-market_rooms)
+              (sym (market_home p (at p h)) ∙ lives) in
+              subst (λ n. r < n) (sym market_rooms)
               (number_in-below (round_rooms office) own.0 r own.2);
           lists_known = λ p h. subst (λ xs. All (λ r. r < (round_market office).rooms) xs)
-              (sym (round_problems-market_list p (at p h)))
+              (sym (market_list p (at p h)))
               (subst (λ n. All (λ r. r < n) (round_list office (get_or (round_people office) p [])
-              (choices_of office (get_or (round_people office) p [])))) (sym round_problems-market_rooms)
-              (round_problems-list_known office (get_or (round_people office) p [])
+              (choices_of office (get_or (round_people office) p [])))) (sym market_rooms)
+              (list_known office (get_or (round_people office) p [])
               (choices_of office (get_or (round_people office) p []))));
         };
-        homes_differ = λ p q r hp hq ep eq. round_problems-one_person differ p q r (at p hp) (at q hq)
-            (sym (round_problems-market_home p (at p hp)) ∙ ep) (sym (round_problems-market_home q (at q hq)) ∙ eq);
-        lists_strict = λ p h. subst (λ xs. AllPairs ◌≢◌ xs) (sym (round_problems-market_list p (at p h)))
-            (round_problems-list_differs office (get_or (round_people office) p [])
+        homes_differ = λ p q r hp hq ep eq. one_person differ p q r (at p hp) (at q hq)
+            (sym (market_home p (at p hp)) ∙ ep) (sym (market_home q (at q hq)) ∙ eq);
+        lists_strict = λ p h. subst (λ xs. AllPairs ◌≢◌ xs) (sym (market_list p (at p h)))
+            (list_differs office (get_or (round_people office) p [])
             (choices_of office (get_or (round_people office) p []))
             (codes_differ (choices_of office (get_or (round_people office) p []))
             (lists p [] (at p h))));
         own_unlisted =
-            λ p r h lives. subst (λ xs. All (λ x. x ≢ r) xs) (sym (round_problems-market_list p (at p h)))
-            (round_problems-list_lacks office (get_or (round_people office) p [])
+            λ p r h lives. subst (λ xs. All (λ x. x ≢ r) xs) (sym (market_list p (at p h)))
+            (list_lacks office (get_or (round_people office) p [])
             (choices_of office (get_or (round_people office) p [])) r
-            (sym (round_problems-market_home p (at p h)) ∙ lives));
+            (sym (market_home p (at p h)) ∙ lives));
       }
 
   -- in a lawful office
-  pub round_problems-lawful-IsMarket : IsLawful office → IsMarket (round_market office)
-  round_problems-lawful-IsMarket lawful =
-      round_problems-market-IsMarket lawful.register.homes
+  pub lawful-IsMarket : IsLawful office → IsMarket (round_market office)
+  lawful-IsMarket lawful =
+      market-IsMarket lawful.register.homes
       (λ k d within. unrepeated_choices office lawful (get_or (round_people office) k d))
 
   -- a list without repeats may be handed in by a participant
-  pub round_problems-fits : (person : Text) (n : ℕ) (codes : List Text)
+  pub fits : (person : Text) (n : ℕ) (codes : List Text)
       → number_in (round_people office) person ≡ Some n → AllPairs ◌≢◌ codes
       → IsListFor (round_market office) n (round_list office person codes)
-  round_problems-fits person n codes has apart =
+  fits person n codes has apart =
       let within : n < length (round_people office) =
       number_in-below (round_people office) person n has in
       let name : get_or (round_people office) n [] ≡ person =
       number_in-name (round_people office) person n [] has in (
         (
-          subst (λ k. n < k) (sym round_problems-market_people) within,
+          subst (λ k. n < k) (sym market_people) within,
           subst
-              (λ k. All (λ r. r < k) (round_list office person codes)) (sym round_problems-market_rooms)
-              (round_problems-list_known office person codes),
+              (λ k. All (λ r. r < k) (round_list office person codes)) (sym market_rooms)
+              (list_known office person codes),
         ),
-        round_problems-list_differs office person codes apart,
-        λ r lives. round_problems-list_lacks office person codes r
-            (ap (round_home office) (sym name) ∙ sym (round_problems-market_home n within) ∙ lives),
+        list_differs office person codes apart,
+        λ r lives. list_lacks office person codes r
+            (ap (round_home office) (sym name) ∙ sym (market_home n within) ∙ lives),
       )
 
 -- the market that the code builds is that of the round

@@ -21,8 +21,8 @@ use Rattle.room_types.proofs.maps.TextMaps.{text_cases, first_holds, second_hold
 use Rattle.trade_line.specs.Market.{Market, IsMarket, home, list_of}
 use Rattle.trade_line.specs.Rank.{rank}
 use Rattle.trade_line.specs.TopTradingCycles.{gets}
-use Rattle.trade_line.proofs.welfare.Ranks.{welfare-rank_home}
-use Rattle.trade_line.proofs.welfare.Welfare.{welfare-gets_assignment, welfare-gets_rational}
+use Rattle.trade_line.proofs.welfare.Ranks.{rank_home}
+use Rattle.trade_line.proofs.welfare.Welfare.{gets_assignment, gets_rational}
 use Rattle.office_state.specs.Office.Invariants.{IsValidRegister}
 use Rattle.office_state.specs.Office.{home_of, has_withdrawn, lives_in, is_text}
 use Rattle.office_state.specs.Round.{is_participant, round_people, round_rooms, round_market}
@@ -33,9 +33,9 @@ use Rattle.office_state.proofs.round_problems.Names.{number_in-below, number_in-
 use Rattle.office_state.proofs.round_problems.People.{number_of_participant, rooms_differ}
 use Rattle.office_state.proofs.round_problems.People.{is_some-number_in}
 use Rattle.office_state.proofs.offices.People.{found_above, held-is_text}
-use Rattle.office_state.proofs.round_problems.Problem.{round_problems-market_people, round_problems-market_rooms, round_problems-market_home}
+use Rattle.office_state.proofs.round_problems.Problem.{market_people, market_rooms, market_home}
 use Rattle.office_state.proofs.offices.Truths.{text_eq-same}
-use Rattle.office_state.proofs.round_outcomes.Ranks.{round_outcomes-result-numbered, round_outcomes-within}
+use Rattle.office_state.proofs.round_outcomes.Ranks.{result-numbered, within}
 
 -- each entry is what its key gives
 pub found_each : {X : Type 0} (P : Text → X → Type 0) (es : List (Text × X))
@@ -79,11 +79,11 @@ rooms_open office =
 
 module _ {X : Type 0} (test : Text × X → Bool) where
   -- an entry that is found and passes is among those that pass
-  round_problems-found_passes : (es : List (Text × X)) (q : Text) (v : X) → find text_cmp q es ≡ Some v
+  found_passes : (es : List (Text × X)) (q : Text) (v : X) → find text_cmp q es ≡ Some v
       → test (q, v) ≡ true → list_any (eq_by_cmp text_cmp q) (map_list (λ e. e.0) (filter test es))
       ≡ true
-  round_problems-found_passes [] q v h t = cc
-  round_problems-found_passes (e ∷ es) q v h t =
+  found_passes [] q v h t = cc
+  found_passes (e ∷ es) q v h t =
       let others : List Text = map_list (λ e. e.0) (filter test es) in
       elim (eq_by_cmp text_cmp q e.0) as
       (λ b. eq_by_cmp text_cmp q e.0 ≡ b → cond b (Some e.1) (find text_cmp q es) ≡ Some v
@@ -98,7 +98,7 @@ module _ {X : Type 0} (test : Text × X → Bool) where
             (map_list (λ e. e.0) (cond b (e ∷ filter test es) (filter test es)))) passes
             ∙ ap (λ b. b || list_any (eq_by_cmp text_cmp q) others) ties
         | false ↦ λ apart there.
-            let rest = round_problems-found_passes es q v there t in
+            let rest = found_passes es q v there t in
             elim (test e) as (λ b. list_any (eq_by_cmp text_cmp q)
             (map_list (λ e. e.0) (cond b (e ∷ filter test es) (filter test es))) ≡ true) [
               | true ↦ ap (λ b. b || list_any (eq_by_cmp text_cmp q) others) apart ∙ rest
@@ -173,7 +173,7 @@ unfolding round_rooms
 home_numbered office person room l part lives =
     let free = home_free office person room l (or_parts _ _ (both_true _ _ part).1).0 lives in
     is_some-number_in (round_rooms office) room
-    ∙ round_problems-found_passes (λ e. not e.1 && not (is_kept_back office e.0))
+    ∙ found_passes (λ e. not e.1 && not (is_kept_back office e.0))
     (map.entries office.rooms) room false
     (sym (get-entries office.rooms room) ∙ l.homes_open person room lives)
     (ap (λ b. not false && not b) free)
@@ -188,25 +188,25 @@ pub record IsGiven (office : Office) (person room : Text) : Type 0 where
   pub is_room : get_or (round_rooms office) room_number [] ≡ room
 
 module _ (office : Office) (ok : IsMarket (round_market office)) where
-  round_problems-room_at : (n r : ℕ) → n < (round_market office).people → gets (round_market office) n ≡ Some r
+  room_at : (n r : ℕ) → n < (round_market office).people → gets (round_market office) n ≡ Some r
       → (r < length (round_rooms office))
       × (round_room office (Some r) ≡ Some (get_or (round_rooms office) r []))
-  round_problems-room_at n r below e =
+  room_at n r below e =
       let known : r < length (round_rooms office) =
-      subst (λ k. r < k) (round_problems-market_rooms office)
-      ((welfare-gets_assignment (round_market office) ok).known n r below e) in
+      subst (λ k. r < k) (market_rooms office)
+      ((gets_assignment (round_market office) ok).known n r below e) in
       (known, slice_get-get_or (round_rooms office) r [] known)
 
-  pub round_problems-given : (person room : Text) → is_participant office person ≡ true
+  pub participant_is_given : (person room : Text) → is_participant office person ≡ true
       → result_of office person ≡ Some room → IsGiven office person room
-  round_problems-given person room part result_is =
+  participant_is_given person room part result_is =
       let numbered = number_of_participant office person part in
       elim (gets (round_market office) numbered.0) as
       (λ o. gets (round_market office) numbered.0 ≡ o → round_room office o ≡ Some room
       → IsGiven office person room) [
         | None ↦ λ _ none. absurd (cc)
         | Some r ↦ λ got named.
-            let at = round_problems-room_at numbered.0 r (round_outcomes-within office ok person numbered.0 numbered.1) got in
+            let at = room_at numbered.0 r (within office ok person numbered.0 numbered.1) got in
             record {
               person_number = numbered.0;
               room_number = r;
@@ -215,43 +215,43 @@ module _ (office : Office) (ok : IsMarket (round_market office)) where
               is_below = at.0;
               is_room = ap (λ o. unwrap_or o (get_or (round_rooms office) r [])) (sym at.1 ∙ named);
             }
-      ] refl (sym (round_outcomes-result-numbered office ok person numbered.0 numbered.1) ∙ result_is)
+      ] refl (sym (result-numbered office ok person numbered.0 numbered.1) ∙ result_is)
 
   -- it is a room of the round
-  pub round_problems-given_numbered : (person room : Text) → is_participant office person ≡ true
+  pub given_numbered : (person room : Text) → is_participant office person ≡ true
       → result_of office person ≡ Some room → is_some (number_in (round_rooms office) room) ≡ true
-  round_problems-given_numbered person room part result_is =
-      let g = round_problems-given person room part result_is in
+  given_numbered person room part result_is =
+      let g = participant_is_given person room part result_is in
       ap is_some (ap (number_in (round_rooms office)) (sym g.is_room)
       ∙ number_in-at (round_rooms office) g.room_number [] (rooms_differ office) g.is_below)
 
   -- the room is open, and nobody who has withdrawn lives there
-  pub round_problems-given_open : (person room : Text) → is_participant office person ≡ true
+  pub given_room_is_open : (person room : Text) → is_participant office person ≡ true
       → result_of office person ≡ Some room
       → (map.get office.rooms room ≡ Some false) × (is_kept_back office room ≡ false)
-  round_problems-given_open person room part result_is =
-      let g = round_problems-given person room part result_is in
+  given_room_is_open person room part result_is =
+      let g = participant_is_given person room part result_is in
       let P : Text → Type 0 =
       λ r. (map.get office.rooms r ≡ Some false) × (is_kept_back office r ≡ false) in
       subst P g.is_room (All-get_or P (round_rooms office) g.room_number [] g.is_below
       (rooms_open office))
 
   -- nobody else gets it
-  pub round_problems-given_once : (p q room : Text) → is_participant office p ≡ true
+  pub given_once : (p q room : Text) → is_participant office p ≡ true
       → is_participant office q ≡ true → result_of office p ≡ Some room
       → result_of office q ≡ Some room → p ≡ q
-  round_problems-given_once p q room part_p part_q is_p is_q =
-      let a = round_problems-given p room part_p is_p in
-      let b = round_problems-given q room part_q is_q in
+  given_once p q room part_p part_q is_p is_q =
+      let a = participant_is_given p room part_p is_p in
+      let b = participant_is_given q room part_q is_q in
       let same_room : a.room_number ≡ b.room_number =
       ap (λ o. unwrap_or o 0)
       (sym (number_in-at (round_rooms office) a.room_number [] (rooms_differ office) a.is_below)
       ∙ ap (number_in (round_rooms office)) (a.is_room ∙ sym b.is_room)
       ∙ number_in-at (round_rooms office) b.room_number [] (rooms_differ office) b.is_below) in
       let same_person : a.person_number ≡ b.person_number =
-      (welfare-gets_assignment (round_market office) ok).differ a.person_number b.person_number
-      a.room_number (round_outcomes-within office ok p a.person_number a.is_person)
-      (round_outcomes-within office ok q b.person_number b.is_person)
+      (gets_assignment (round_market office) ok).differ a.person_number b.person_number
+      a.room_number (within office ok p a.person_number a.is_person)
+      (within office ok q b.person_number b.is_person)
       a.is_got (b.is_got ∙ ap (λ r. Some r) (sym same_room)) in
       sym (number_in-name (round_people office) p a.person_number [] a.is_person)
       ∙ ap (λ n. get_or (round_people office) n []) same_person
@@ -259,16 +259,16 @@ module _ (office : Office) (ok : IsMarket (round_market office)) where
 
 module _ (m : Market) (ok : IsMarket m) (p h : ℕ) (below : p < m.people)
     (lives : home m p ≡ Some h) where
-  round_problems-rank_nothing : rank m p None ≡ length (list_of m p) + 1
-  round_problems-rank_nothing = ap (λ o. cond (is_none o) (length (list_of m p)) (length (list_of m p) + 1)) lives
+  rank_nothing : rank m p None ≡ length (list_of m p) + 1
+  rank_nothing = ap (λ o. cond (is_none o) (length (list_of m p)) (length (list_of m p) + 1)) lives
 
   -- a tenant gets some room
-  round_problems-tenant_served : gets m p ≡ None → ⊥
-  round_problems-tenant_served none =
-      let least = welfare-gets_rational m ok p below in
+  tenant_served : gets m p ≡ None → ⊥
+  tenant_served none =
+      let least = gets_rational m ok p below in
       let got : rank m p (gets m p) ≡ length (list_of m p) + 1 =
-      ap (rank m p) none ∙ round_problems-rank_nothing in
-      let floor : rank m p (home m p) ≡ length (list_of m p) = welfare-rank_home m ok p below in
+      ap (rank m p) none ∙ rank_nothing in
+      let floor : rank m p (home m p) ≡ length (list_of m p) = rank_home m ok p below in
       omega (arith, least, got, floor)
 
 -- a tenant who takes part gets some room
@@ -280,24 +280,24 @@ tenant_gets office ok person room l part lives none =
     let numbered = number_of_participant office person part in
     let n : ℕ = numbered.0 in
     let below : n < (round_market office).people =
-    subst (λ k. n < k) (sym (round_problems-market_people office))
+    subst (λ k. n < k) (sym (market_people office))
     (number_in-below (round_people office) person n numbered.1) in
     let there : is_some (number_in (round_rooms office) room) ≡ true =
     home_numbered office person room l part lives in
     let house : home (round_market office) n ≡ number_in (round_rooms office) room =
-    round_problems-market_home office n (number_in-below (round_people office) person n numbered.1)
+    market_home office n (number_in-below (round_people office) person n numbered.1)
     ∙ ap (round_home office) (number_in-name (round_people office) person n [] numbered.1)
     ∙ ap (option_and_then (number_in (round_rooms office))) lives in
     let nothing : round_room office (gets (round_market office) n) ≡ None =
-    sym (round_outcomes-result-numbered office ok person n numbered.1) ∙ none in
+    sym (result-numbered office ok person n numbered.1) ∙ none in
     elim (number_in (round_rooms office) room) as
     (λ o. number_in (round_rooms office) room ≡ o → is_some o ≡ true → ⊥) [
       | None ↦ λ _ h. cc
-      | Some h ↦ λ at _. round_problems-tenant_served (round_market office) ok n h below (house ∙ at)
+      | Some h ↦ λ at _. tenant_served (round_market office) ok n h below (house ∙ at)
           (elim (gets (round_market office) n) as
           (λ o. gets (round_market office) n ≡ o → round_room office o ≡ None → o ≡ None) [
             | None ↦ λ _ _. refl
             | Some r ↦ λ got named. absurd
-                (let named_too = (round_problems-room_at office ok n r below got).1 in cc)
+                (let named_too = (room_at office ok n r below got).1 in cc)
           ] refl nothing)
     ] refl there

@@ -10,7 +10,7 @@ use Rattle.std.specs.FinMap as map
 use Rattle.std.proofs.lemmas.Bool.{and_parts}
 use Rattle.room_types.specs.Texts.{Text, TextMap}
 use Rattle.room_types.specs.declared.phase.Phase.{Phase}
-use Rattle.room_types.proofs.maps.Entries.{maps-all_keys, maps-keys_all}
+use Rattle.room_types.proofs.maps.Entries.{all_keys, keys_all}
 use Rattle.room_types.proofs.maps.TextMaps.{exact_texts}
 use Rattle.room_types.proofs.options.Options.{some_of}
 use Rattle.office_state.specs.Office.Invariants.{AreValidGrades, AreValidLeavers}
@@ -36,12 +36,12 @@ pub grades-decide : (people : TextMap Person) (grades : TextMap ℕ)
     → Decides (list_all (λ (e : Text × ℕ). is_recorded_grade people e.0 e.1) (map.entries grades)) (AreValidGrades people grades)
 grades-decide people grades = (
   λ e.
-      let test : (p : Text) (grade : ℕ) → map.get grades p ≡ Some grade → is_recorded_grade people p grade ≡ true = maps-all_keys nat_list_cmp_total exact_texts (λ k g. is_recorded_grade people k g) grades e in
+      let test : (p : Text) (grade : ℕ) → map.get grades p ≡ Some grade → is_recorded_grade people p grade ≡ true = all_keys nat_list_cmp_total exact_texts (λ k g. is_recorded_grade people k g) grades e in
       record {
         graded = λ p h. let found = some_of (map.get grades p) h in (and_parts (map.contains_key people p) _ (test p found.0 found.1)).0;
         none_zero = λ p f. no_zero 0 (and_parts (map.contains_key people p) _ (test p 0 f)).1 refl;
       },
-  λ l. maps-keys_all nat_list_cmp_total exact_texts (λ k g. is_recorded_grade people k g) grades (λ k g f.
+  λ l. keys_all nat_list_cmp_total exact_texts (λ k g. is_recorded_grade people k g) grades (λ k g f.
       both_true (l.graded k (ap is_some f)) (at_no_zero g (λ nothing. l.none_zero k (f ∙ ap (λ n. Some n) nothing)))),
 )
 
@@ -50,12 +50,12 @@ pub leavers-decide : (phase : Phase) (people : TextMap Person) (withdrawn going 
     → Decides (list_all (λ (e : Text × Unit {0}). is_leaver people withdrawn e.0) (map.entries going)) (AreValidLeavers phase people withdrawn going)
 leavers-decide phase people withdrawn going busy = (
   λ e.
-      let test : (p : Text) (v : Unit {0}) → map.get going p ≡ Some v → is_leaver people withdrawn p ≡ true = maps-all_keys nat_list_cmp_total exact_texts (λ k v. is_leaver people withdrawn k) going e in
+      let test : (p : Text) (v : Unit {0}) → map.get going p ≡ Some v → is_leaver people withdrawn p ≡ true = all_keys nat_list_cmp_total exact_texts (λ k v. is_leaver people withdrawn k) going e in
       record {
         leavers = λ p h. let found = some_of (map.get going p) h in (and_parts (map.contains_key people p) _ (test p found.0 found.1)).0;
         apart = λ p h. let found = some_of (map.get going p) h in not_true_false (map.contains_key withdrawn p) (and_parts (map.contains_key people p) _ (test p found.0 found.1)).1;
         idle_going = λ idle. absurd (cc);
       },
-  λ l. maps-keys_all nat_list_cmp_total exact_texts (λ k v. is_leaver people withdrawn k) going (λ k v f.
+  λ l. keys_all nat_list_cmp_total exact_texts (λ k v. is_leaver people withdrawn k) going (λ k v f.
       both_true (l.leavers k (ap is_some f)) (not_false (map.contains_key withdrawn k) (l.apart k (ap is_some f)))),
 )

@@ -6,7 +6,7 @@ use Rattle.office_state.specs.Round.{round_people, round_rooms, round_market, nu
 use Rattle.office_state.specs.declared.office.Office.{Office}
 use Rattle.office_state.specs.declared.round.problem.RoundProblem.{RoundProblem}
 
--- it is the problem of the office's round, with its names
+-- `round` is the problem of the office's round, with the names of its people and rooms, and the number of each room
 pub record IsProblemOf (office : Office) (round : RoundProblem) : Type 0 where
   pub people : round.people.items ≡ round_people office
   pub rooms : round.rooms.items ≡ round_rooms office

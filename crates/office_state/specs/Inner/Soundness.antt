@@ -19,7 +19,7 @@ use Rattle.office_state.specs.declared.office.moves.RoundMoves.{RoundMoves}
 use Rattle.office_state.specs.declared.office.Assigned.{Assigned}
 use Rattle.office_state.specs.declared.office.person.Person.{Person}
 
--- no two of these people have the same, and none of them has what was seen before
+-- whether no two of these people share the text that `which` gives for a person, and none of them has a text in `seen`
 abbrev pub differ_from : (Person → Option Text) → TextMap (Unit {0}) → List (Text × Person) → Bool
 differ_from which seen [] = true
 differ_from which seen (e ∷ es) = elim (which e.1) [
@@ -29,7 +29,7 @@ differ_from which seen (e ∷ es) = elim (which e.1) [
       else differ_from which (map.insert seen text tt) es
 ]
 
--- a room that is known and not shut
+-- whether a room is known and not shut, by its entry among the rooms
 abbrev pub is_unshut : Option Bool → Bool
 is_unshut None = false
 is_unshut (Some shut) = not shut
@@ -41,7 +41,7 @@ is_home_open rooms person = elim person.home [
   | Some home ↦ is_unshut (map.get rooms home)
 ]
 
--- whether it is a valid list of choices: at most the limit, and none twice
+-- whether the codes are a valid list of choices: at most `CHOICE_LIMIT` codes, and none twice
 abbrev pub is_choices : List Text → Bool
 is_choices codes =
     nat_le (length codes) CHOICE_LIMIT && not (is_some (first_repeated [] codes))
@@ -59,7 +59,7 @@ is_given results person found = elim (map.get results person) [
   | Some given ↦ is_same_text given.room found.room
 ]
 
--- whether it is the wave of those who leave the college, wave 0
+-- whether a wave is wave 0, that of the people who leave the college
 abbrev pub is_wave_0 : Wave → Bool
 is_wave_0 Swap = false
 is_wave_0 (Nth number) = eqb number 0

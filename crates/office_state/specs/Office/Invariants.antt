@@ -19,7 +19,7 @@ use Rattle.office_state.specs.declared.office.moves.RoundMoves.{RoundMoves}
 use Rattle.office_state.specs.declared.office.Office.{Office}
 use Rattle.office_state.specs.declared.office.person.Person.{Person}
 
--- no two people have the same of what `which` gives, a home or a key
+-- no two people share the text (a home or a key) that `which` gives for them
 abbrev pub Unshared : (Person → Option Text) → TextMap Person → Type 0
 Unshared which people =
     (p q text : Text) → had_by which people p ≡ Some text → had_by which people q ≡ Some text
@@ -34,8 +34,8 @@ abbrev pub HomesOpen : TextMap Bool → TextMap Person → Type 0
 HomesOpen rooms people = (p room : Text) → had_by (λ p. p.home) people p ≡ Some room
     → map.get rooms room ≡ Some false
 
--- rooms and people: keys differ, homes differ, each home is a known room that is not shut, and the numbers of
--- both are within the limits
+-- rooms and people: no two people share a key or a home, each home is a known room that is not shut, and the numbers of
+-- rooms and of people are within their limits
 pub record IsValidRegister (rooms : TextMap Bool) (people : TextMap Person) : Type 0 where
   pub keys : Unshared (λ p. Some p.key) people
   pub homes : Unshared (λ p. p.home) people
@@ -43,8 +43,8 @@ pub record IsValidRegister (rooms : TextMap Bool) (people : TextMap Person) : Ty
   pub few_rooms : map.len rooms ≤ room_limit
   pub few_people : map.len people ≤ people_limit
 
--- lists and withdrawals: people with a list or a withdrawal are known, and each list is of at most forty
--- known rooms, none twice, and is not empty
+-- lists and withdrawals: each person who has a list or has withdrawn is known, and each list has from one to forty
+-- rooms, all known and none twice
 pub record AreValidLists (rooms : TextMap Bool) (people : TextMap Person) (choices : TextMap (List Text))
     (withdrawn : TextMap (Unit {0})) : Type 0 where
   pub choosers : (p : Text) → map.contains_key choices p ≡ true → map.contains_key people p ≡ true
@@ -76,7 +76,7 @@ pub record AreValidLeavers (phase : Phase) (people : TextMap Person) (withdrawn 
   pub apart : (p : Text) → map.contains_key going p ≡ true → map.contains_key withdrawn p ≡ false
   pub idle_going : is_idle phase ≡ true → going ≡ map.empty
 
--- words: from the draw on, one for each participant, and before it none
+-- words: before the draw there are none; from the draw on, each participant has one and nobody else does
 pub record AreValidWords (phase : Phase) (people : TextMap Person) (withdrawn : TextMap (Unit {0}))
     (going : TextMap (Unit {0})) (words : TextMap ℕ) : Type 0 where
   pub none : has_words phase ≡ false → words ≡ map.empty
@@ -84,7 +84,7 @@ pub record AreValidWords (phase : Phase) (people : TextMap Person) (withdrawn : 
       → map.contains_key words p
       ≡ (map.contains_key people p && not (map.contains_key withdrawn p || map.contains_key going p))
 
--- results: none before the run, and from the run on those of top trading cycles for the round's problem
+-- results: before the run there are none; from the run on, they are those of top trading cycles for the round's problem
 pub record AreValidResults (office : Office) : Type 0 where
   pub none : has_results office.phase ≡ false → office.results ≡ map.empty
   pub given : has_results office.phase ≡ true → office.results ≡ round_results office

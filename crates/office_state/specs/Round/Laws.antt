@@ -13,7 +13,7 @@ use Rattle.office_state.specs.Round.{round_market, round_results, round_rank, nu
 use Rattle.office_state.specs.declared.office.Assigned.{Assigned}
 use Rattle.office_state.specs.declared.office.Office.{Office}
 
--- an assignment of rooms of the round, or nothing, to the participants: no room is given twice
+-- an assignment: each participant gets a room of the round or nothing, and no two participants get the same room
 pub record IsRoundAssignment (office : Office) (gives : Text → Option Text) : Type 0 where
   pub known :
       (person room : Text) → is_participant office person ≡ true
@@ -29,8 +29,8 @@ IsRationalFor office gets =
     (person : Text) → is_participant office person ≡ true
     → round_rank office person (gets person) ≤ round_rank office person (home_of office person)
 
--- each assignment at which no participant is worse off gives every participant the same: nobody can be better
--- off
+-- Pareto efficient: each assignment that leaves no participant worse off than `gets` gives every participant the same
+-- as `gets`, so no assignment makes somebody better off and nobody worse
 abbrev pub IsEfficientFor : Office → (Text → Option Text) → Type 0
 IsEfficientFor office gets =
     (gives : Text → Option Text) → IsRoundAssignment office gives
@@ -38,7 +38,7 @@ IsEfficientFor office gets =
     → round_rank office person (gives person) ≤ round_rank office person (gets person))
     → (person : Text) → is_participant office person ≡ true → gives person ≡ gets person
 
--- participants with homes who hand out their own rooms among themselves
+-- a group of participants with homes trades its own homes: each member gets a member's home, and no two get the same
 pub record TradesOwnRooms
     (office : Office) (group : Text → Bool) (gives : Text → Option Text) : Type 0 where
   pub participants : (person : Text) → group person ≡ true → is_participant office person ≡ true
@@ -52,7 +52,7 @@ pub record TradesOwnRooms
       (person other : Text) → group person ≡ true → group other ≡ true
       → gives person ≡ gives other → person ≡ other
 
--- no such group does better: if none of it is worse off, all of it get the same
+-- each trade of a group's own homes that leaves no member worse off than `gets` gives every member the same as `gets`
 abbrev pub HasNoBetterTradeFor : Office → (Text → Option Text) → Type 0
 HasNoBetterTradeFor office gets =
     (group : Text → Bool) (gives : Text → Option Text) → TradesOwnRooms office group gives
@@ -98,7 +98,7 @@ market_in office people = record {
   lists = map_list (λ person. round_list office person (choices_of office person)) people;
 }
 
--- what each participant gets by top trading cycles in that problem
+-- what each participant gets by top trading cycles in the problem with the people in this order
 abbrev pub results_in : Office → List Text → TextMap Assigned
 results_in office people =
     map.from_entries
@@ -117,7 +117,7 @@ pub record GoesByWord (office : Office) : Type 0 where
   pub market : round_market office ≡ market_in office (people_by_word office)
   pub results : round_results office ≡ results_in office (people_by_word office)
 
--- this holds whenever nobody has a grade
+-- if nobody has a grade, the round goes by word and identifier alone
 abbrev pub UngradedGoesByWord : Type 0
 UngradedGoesByWord = (office : Office) → office.grades ≡ map.empty → GoesByWord office
 

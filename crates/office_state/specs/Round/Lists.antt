@@ -21,7 +21,7 @@ abbrev pub AreChoices : TextMap (List Text) → Type 0
 AreChoices lists =
     (person : Text) (codes : List Text) → map.get lists person ≡ Some codes → IsChoices codes
 
--- no list gets a participant a room that the recorded list ranks above what they get
+-- no other list gets a participant anything that the recorded list ranks above what `gets` gives them
 abbrev pub IsStrategyproofFor : Office → (Text → Option Text) → Type 0
 IsStrategyproofFor office gets =
     (person : Text) (codes : List Text) → is_participant office person ≡ true → IsChoices codes
@@ -34,8 +34,8 @@ OthersKeepList office group lists =
     (person : Text) → is_participant office person ≡ true → group person ≡ false
     → choices_of (with_choices office lists) person ≡ choices_of office person
 
--- none in the group loses: by their recorded list, nobody in it ranks what they get with the other lists
--- below what they get
+-- nobody in the group loses: by their recorded list, each member ranks what they get with the other lists at least as
+-- high as what `gets` gives them
 abbrev pub NoneLosesBy :
     Office → (Text → Option Text) → (Text → Bool) → TextMap (List Text) → Type 0
 NoneLosesBy office gets group lists =
@@ -43,8 +43,8 @@ NoneLosesBy office gets group lists =
     → round_rank office person (result_of (with_choices office lists) person)
     ≤ round_rank office person (gets person)
 
--- if a group of participants hands in other lists and none in it loses, every participant, in the group or
--- not, gets the same
+-- if a group of participants hands in other lists and nobody in the group loses, then every participant, in the group
+-- or not, gets what `gets` gives them
 abbrev pub IsGroupStrategyproofFor : Office → (Text → Option Text) → Type 0
 IsGroupStrategyproofFor office gets =
     (group : Text → Bool) (lists : TextMap (List Text)) → AreChoices lists

@@ -15,8 +15,9 @@ use Rattle.office_state.specs.declared.office.moves.RoundMoves.{RoundMoves}
 use Rattle.office_state.specs.declared.office.Office.{Office}
 use Rattle.office_state.specs.declared.office.person.Person.{Person}
 
--- whether the settlement sets a person's home: that of a participant to the result, and that of a person who
--- leaves the college, who has no result, to none
+-- whether the settlement sets a person's home to the recorded result: whether the person is known and has not
+-- withdrawn. In a lawful office a person who leaves the college has no result, so the settlement leaves them without a
+-- home.
 abbrev pub is_settled : Office → Text → Bool
 is_settled office person = knows_person office person && not (has_withdrawn office person)
 
@@ -24,7 +25,8 @@ is_settled office person = knows_person office person && not (has_withdrawn offi
 abbrev pub has_room : Office → Text → Bool
 has_room office person = is_some (home_of office person) || is_some (recorded_result office person)
 
--- whether the settlement changes the home, to the recorded result
+-- whether the recorded result differs from the home; if so, the settlement changes the home of a person who has not
+-- withdrawn
 abbrev pub changes_home : Office → Text → Bool
 changes_home office person = not (is_same_text (home_of office person) (recorded_result office person))
 
@@ -40,7 +42,7 @@ abbrev pub OnlyLeaversMoveOut : Office → Type 0
 OnlyLeaversMoveOut office =
     All (λ (relocation : Relocation). relocation.2 ≡ None → is_going office relocation.0 ≡ true) (relocations office)
 
--- the moves that are recorded, each with its wave
+-- the moves of a round: each relocation with its wave
 abbrev pub moves_with : ℕ → List Relocation → List Wave → List Move
 moves_with round (relocation ∷ others) (wave ∷ waves) =
     record { round = round; person = relocation.0; from = relocation.1; to = relocation.2; wave = wave }
@@ -56,8 +58,8 @@ settled_moves office = moves_with office.number (relocations office) (waves_of (
 abbrev pub with_moves : RoundMap RoundMoves → List Move → RoundMap RoundMoves
 with_moves = fold with_move
 
--- a participant gets the home of the result, a person who leaves the college none, and a person who has
--- withdrawn keeps theirs
+-- a person's entry after the settlement: the recorded result becomes the home, but a person who has withdrawn keeps
+-- theirs. In a lawful office a person who leaves the college has no result, and so no home afterwards.
 abbrev pub settled_person : Office → Text × Person → Text × Person
 settled_person office entry = (
   entry.0,

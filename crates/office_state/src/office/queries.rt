@@ -60,14 +60,15 @@ impl Office {
         None
     }
 
-    /// Returns where a person lives, or `None` for no home and for an unknown person.
+    /// Returns where a person lives, or `None` if the person has no home or is unknown.
     pub(crate) fn home_of(&self, person: &PersonId) -> Option<&RoomCode>
         ensures { option_copied result ≡ home_of self.now person.now }
     {
         self.people.get(person)?.home.as_ref()
     }
 
-    /// Returns the recorded result of a person: the room, or `None` for no room and if no result is recorded.
+    /// Returns the room that is recorded as a person's result, or `None` if the result is no room or no result is
+    /// recorded.
     pub fn recorded_result(&self, person: &PersonId) -> Option<&RoomCode>
         ensures { option_copied result ≡ recorded_result self.now person.now }
     {
@@ -117,8 +118,9 @@ impl Office {
         self.grades.get(person).copied().unwrap_or(Grade::first())
     }
 
-    /// Returns whether a person may see their result: whether the phase is `Published`, and the person has not withdrawn and
-    /// does not leave the college. In a lawful office it is then true of an unknown person too.
+    /// Returns whether a person may see their result: whether the phase is `Published`, and the person has not
+    /// withdrawn and does not leave the college. While a lawful office is `Published`, the call returns `true` for an
+    /// unknown person too.
     pub fn is_shown(&self, person: &PersonId) -> bool
         ensures { result ≡ is_shown self.now person.now }
     {

@@ -14,16 +14,18 @@ ghost use Rattle.office_state.specs.Round.Settlement.{OnlyLeaversMoveOut};
 ghost use Rattle.office_state.specs.Puts.{with_all};
 ghost use Rattle.office_state.specs.Round.Lists.{IsStrategyproofFor, IsGroupStrategyproofFor, IsNonbossyFor, with_choices_of};
 
-/// In a lawful office the round's problem is well formed, and top trading cycles give an assignment of the round's rooms that
-/// is individually rational, is Pareto efficient and leaves no better trade apart: nobody ranks what they get below their
-/// home, no other assignment makes somebody better off and nobody worse, and no group of tenants can trade its own rooms so
-/// that one of them is better off and none worse.
+/// In a lawful office the round's problem is well formed, and top trading cycles give an assignment of the round's
+/// rooms. The assignment is individually rational: nobody ranks what they get below their home, or below no room if
+/// they have no home. It is Pareto efficient: no other assignment makes somebody better off and nobody worse. It leaves
+/// no better trade apart: no group of tenants can trade its own rooms and make one of the group better off and none
+/// worse.
 pub fn well_traded_rounds()
     ensures well_formed { (office : Office) → IsLawful office → IsMarket (round_market office) }
     ensures traded { (office : Office) → IsLawful office → IsWellTraded office (result_of office) }
 {}
 
-/// The same for the recorded results, in each lawful office whose rooms are traded.
+/// In each lawful office whose rooms are traded, the recorded results are such an assignment: individually rational,
+/// Pareto efficient and without a better trade apart.
 pub fn well_traded_results()
     ensures { (office : Office) → IsLawful office → has_results office.phase ≡ true
         → IsWellTraded office (recorded_result office) }
@@ -41,9 +43,9 @@ pub fn strategyproof()
         → result_by office person codes ≡ result_of (with_choices_of office person codes) person }
 {}
 
-/// Group strategy-proofness: if a group of participants hands in other lists together while all others keep theirs, then
-/// somebody in the group gets what their recorded list ranks below the recorded result, or every participant, in the group or
-/// not, gets the same (Bird 1984; Pápai 2000).
+/// Group strategy-proofness: suppose that a group of participants hands in other lists together, and all others keep
+/// theirs. If nobody in the group gets what their recorded list ranks below the recorded result, then every
+/// participant, in the group or not, gets their recorded result (Bird 1984; Pápai 2000).
 pub fn group_strategyproof()
     ensures { (office : Office) → IsLawful office → has_results office.phase ≡ true
         → IsGroupStrategyproofFor office (recorded_result office) }

@@ -13,7 +13,8 @@ use room_types::grammars::RoomCodes;
 use room_types::{OutOfMemory, PersonId, RoomCode, Table};
 use std::alloc::Global;
 
-/// Returns the home of each person, as the number of the room. It is `None` without a home, and for a home without a number.
+/// Returns the home of each person, as the number of the room. An entry is `None` if the person has no home, or if the
+/// home has no number.
 pub(crate) fn homes(
     alloc: Global,
     office: &Office,
@@ -41,7 +42,8 @@ fn home_number(
     numbers.get(home).copied()
 }
 
-/// Returns the numbers of the rooms on a list that come before the person's own room. Rooms without a number are left out.
+/// Returns the numbers of the rooms on a list that come before the person's own room, or of all its rooms if the person
+/// has no room or does not list it. Rooms without a number are left out.
 pub(crate) fn numbers_of(
     alloc: Global,
     numbers: &Table<RoomCodes, usize>,
@@ -69,7 +71,7 @@ fn before_own<'a>(home: Option<&RoomCode>, codes: &'a [RoomCode]) -> &'a [RoomCo
     }
 }
 
-/// Returns each person's recorded list as it counts in the round: the numbers of the rooms before their own room.
+/// Returns each person's recorded list as it counts in the round: what `numbers_of` returns for it.
 pub(crate) fn lists(
     alloc: Global,
     office: &Office,

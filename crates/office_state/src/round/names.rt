@@ -6,7 +6,7 @@ ghost use Rattle.office_state.specs.Round.{number_in};
 use room_types::{Grammar, OutOfMemory, Table, Text};
 use std::alloc::Global;
 
-/// Returns the number of each name, which is its first place in `names`. Takes n log n comparisons.
+/// Returns the number of each name: the index of its first occurrence in `names`. Makes O(n log n) comparisons.
 pub(crate) fn numbers<G: Grammar>(
     alloc: Global,
     names: &[Text<G>],

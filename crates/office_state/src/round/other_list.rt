@@ -11,8 +11,9 @@ use room_types::{Choices, OutOfMemory, PersonId, RoomCode};
 use std::alloc::Global;
 use trade_line::what_if::run_with_list;
 
-/// Returns the room that a participant would get with this list instead of the recorded one, in the same order and with all
-/// other lists unchanged; `None` is no room. By the recorded list it never ranks above what the round gives the participant.
+/// Returns the room that a participant would get with this list instead of the recorded one, or `None` for no room. The
+/// order and all other lists stay the same. By the recorded list, what the call returns never ranks above what the
+/// round gives the participant.
 ///
 /// # Errors
 ///

@@ -55,7 +55,7 @@ pub(crate) fn round_problem(alloc: Global, office: &Office) -> Result<RoundProbl
     }
 }
 
-/// Converts the only fault that a well-formed problem, or a list that may be handed in, can have.
+/// Converts the fault `OutOfMemory`. A well-formed problem, or a list that may be handed in, causes no other fault.
 pub(crate) fn out_of_memory(fault: TradeFault) -> OutOfMemory
     requires { fault ≡ TradeFault.OutOfMemory }
 {

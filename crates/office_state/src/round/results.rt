@@ -72,7 +72,7 @@ fn results_by_person(
     Ok(results)
 }
 
-/// Returns the room of a number, if there is one.
+/// Returns the room with this number, or `None` if there is no number or no such room.
 pub(crate) fn room_named(
     rooms: &[RoomCode],
     number: Option<usize>,

@@ -28,7 +28,7 @@ fn are_rounds_over(office: &Office) -> bool
     office.moves.iter().all(|(round, _)| office.is_over(*round))
 }
 
-// Returns whether no recorded round is without moves, and each move without a new room has wave 0.
+// Returns whether each recorded round has a move, and each move without a new room has wave 0.
 fn are_rounds_recorded(office: &Office) -> bool
     ensures { result ≡ list_all (λ e. is_recorded_round e.1) (map.entries office.now.moves) }
 {

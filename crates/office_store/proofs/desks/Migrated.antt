@@ -13,9 +13,9 @@ use Rattle.office_schema.specs.cells.WellFormed.{IsWellFormed}
 use Rattle.office_schema.specs.rows.Tables.{own_version, rows_at, rows_of}
 use Rattle.office_schema.specs.tables.Steps.{IsIntact}
 use Rattle.office_schema.specs.tables.Tables.{HoldsOffice}
-use Rattle.office_db.specs.migration.Causes.{HasCause, IsAllowed, MayReturn}
-use Rattle.office_db.specs.declared.migration.migrating.MigrateFault.{MigrateFault}
-use Rattle.office_db.specs.declared.migration.migrating.MigrateFault.TheVariants as migrate
+use Rattle.office_migration.specs.Causes.{HasCause, IsAllowed, MayReturn}
+use Rattle.office_migration.specs.declared.migrating.MigrateFault.{MigrateFault}
+use Rattle.office_migration.specs.declared.migrating.MigrateFault.TheVariants as migrate
 use Rattle.office_store.specs.Desk.{Shows}
 use Rattle.office_store.specs.Migrating.{IsFaultOfMigration, MayNotMigrate, MayReturnFault, migrating_fault}
 use Rattle.office_store.specs.declared.desk.faults.DeskFault.TheVariants.{AlreadyThere}
@@ -40,11 +40,11 @@ fault_of_migration schema migrate.NotAnOffice allowed = allowed
 fault_of_migration schema migrate.AlreadyThere allowed = allowed
 
 -- A desk returns `AlreadyThere` only if the migration does.
-pub desks-there : (fault : MigrateFault) → migrating_fault fault ≡ AlreadyThere → fault ≡ migrate.AlreadyThere
-desks-there migrate.Unavailable e = absurd (cc)
-desks-there (migrate.OtherVersion version) e = absurd (cc)
-desks-there migrate.NotAnOffice e = absurd (cc)
-desks-there migrate.AlreadyThere e = refl
+pub only_there : (fault : MigrateFault) → migrating_fault fault ≡ AlreadyThere → fault ≡ migrate.AlreadyThere
+only_there migrate.Unavailable e = absurd (cc)
+only_there (migrate.OtherVersion version) e = absurd (cc)
+only_there migrate.NotAnOffice e = absurd (cc)
+only_there migrate.AlreadyThere e = refl
 
 -- The rows of any version are those of this one, except for the version in the row of table `round`.
 pub well_formed_as_own : (version : ℕ) (office : Office) → IsWellFormed (rows_at version office) → IsWellFormed (rows_of office)

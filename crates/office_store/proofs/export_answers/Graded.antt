@@ -1,5 +1,5 @@
 -- Each person is joined with the person's recorded grade, if any.
-use Rattle.std.proofs.Common.{◌≡◌, ℕ, ℤ, pos, Bool, true, false, ◌&&◌, List, [], ◌∷◌, ◌++◌, map, flat_map, filter, cond, Option, Some, None, option_to_list, T, refl, sym, ap, ap₂, ◌∙◌, subst, IsPermutation, Less, Equal, Greater}
+use Rattle.std.proofs.Common.{◌≡◌, ℕ, ℤ, Bool, true, false, List, [], ◌∷◌, ◌++◌, map, flat_map, filter, cond, Option, Some, None, option_to_list, refl, sym, ap, ap₂, ◌∙◌, subst, IsPermutation, Less, Equal, Greater}
 use Rattle.std.specs.declared.cmp.Ordering.{Ordering}
 use Rattle.std.specs.Cmp.Lexicographic.{nat_list_cmp_total}
 use Rattle.std.specs.List.{AllByRecursion, list_all}

@@ -77,10 +77,10 @@ shown_again office e = go (recorded office e.0)
     go None = refl
     go (Some n) = refl
 
-export_answers-answers : (db : Database) (office : Office) (rows : List Row) → HoldsOffice db office → IsLawful office → Answers db (alone grades_query) [] rows
+grades_answer : (db : Database) (office : Office) (rows : List Row) → HoldsOffice db office → IsLawful office → Answers db (alone grades_query) [] rows
     → header_of Grades ∷ map grade_record rows ≡ exported Grades office
 unfolding rows_at
-export_answers-answers db office rows holds lawful h =
+grades_answer db office rows holds lawful h =
     let held = holds.rows.people in
     let shown = out (recorded office) in
     let row = person_row office.withdrawn in
@@ -103,5 +103,5 @@ grades_exported_by_query = record {
   plain = grades_meant.plain;
   unlisted = grades_meant.unlisted;
   asks = grades_meant.asks;
-  answers = export_answers-answers;
+  answers = grades_answer;
 }

@@ -1,5 +1,5 @@
 -- Each room is joined with the person who lives there.
-use Rattle.std.proofs.Common.{◌≡◌, ℤ, Bool, true, false, ◌&&◌, List, [], ◌∷◌, ◌++◌, map, flat_map, filter, Option, Some, None, option_to_list, refl, sym, ap, ap₂, ◌∙◌, subst}
+use Rattle.std.proofs.Common.{◌≡◌, ℤ, Bool, true, ◌&&◌, List, [], ◌∷◌, ◌++◌, map, flat_map, filter, Option, Some, None, option_to_list, refl, sym, ap, ap₂, ◌∙◌}
 use Rattle.std.specs.List.{list_all}
 use Rattle.std.proofs.lemmas.List.{map-append}
 use Rattle.sqlite_value.specs.Order.{Row}
@@ -33,10 +33,10 @@ meets_is : (room : ℤ × (Bytes × Bool)) (person : ℤ × PersonRecord) → me
 meets_is room person = lives_is person.1.person.home room.1.0
 
 -- the matches of a room
-export_answers-found : (room : ℤ × (Bytes × Bool)) (people : List (ℤ × PersonRecord))
+matches_of_room : (room : ℤ × (Bytes × Bool)) (people : List (ℤ × PersonRecord))
     → filter (meets (stored room_columns room)) (map (stored person_columns) people)
     ≡ map (stored person_columns) (filter (λ (e : ℤ × PersonRecord). is_text e.1.person.home room.1.0) people)
-export_answers-found room people =
+matches_of_room room people =
     filter-map (meets (stored room_columns room)) (stored person_columns) people
     ∙ ap (λ (test : ℤ × PersonRecord → Bool). map (stored person_columns) (filter test people)) (λ i e. meets_is room e i)
 
@@ -68,6 +68,6 @@ all_shown tenant people named [] = refl
 all_shown tenant people named (room ∷ rooms) =
     map-append (output rooms_query) (joined (stored room_columns room) (filter (meets (stored room_columns room)) (map (stored person_columns) people))) _
     ∙ ap₂ ◌++◌
-    (ap (λ l. map (output rooms_query) (joined (stored room_columns room) l)) (export_answers-found room people)
+    (ap (λ l. map (output rooms_query) (joined (stored room_columns room) l)) (matches_of_room room people)
     ∙ one_shown tenant room (filter (λ (e : ℤ × PersonRecord). is_text e.1.person.home room.1.0) people) (tenant room.1.0) refl (named room.1.0))
     (all_shown tenant people named rooms)

@@ -6,7 +6,7 @@ use Rattle.sqlite.specs.Given.{IsPlain}
 use Rattle.sqlite.specs.Listing.{understood, reads_listing}
 use Rattle.sqlite.proofs.Callers.{command_of}
 use Rattle.sqlite_tied.specs.Compute.{everything}
-use Rattle.office_db.proofs.asking.Selects.{asking-only}
+use Rattle.office_db.proofs.asking.Selects.{selects_only_ask}
 use Rattle.office_db.specs.loading.Asking.{OnlyAsks}
 use Rattle.office_schema.specs.tables.Schema.{office_schema}
 use Rattle.office_schema.specs.tables.Queries.{alone}
@@ -24,25 +24,25 @@ room_names = codes "code" ∷ codes "shut" ∷ codes "id" ∷ []
 
 pub rooms_meant : Means queries.rooms_text queries.rooms_query room_names
 unfolding understood everything
-rooms_meant = record { is = refl; plain = (refl, refl); unlisted = refl; asks = asking-only queries.rooms_text tt }
+rooms_meant = record { is = refl; plain = (refl, refl); unlisted = refl; asks = selects_only_ask queries.rooms_text tt }
 
 abbrev pub person_names : List (List ℕ)
 person_names = codes "id" ∷ codes "name" ∷ codes "home" ∷ []
 
 pub people_meant : Means queries.people_text queries.people_query person_names
 unfolding understood everything
-people_meant = record { is = refl; plain = (refl, refl); unlisted = refl; asks = asking-only queries.people_text tt }
+people_meant = record { is = refl; plain = (refl, refl); unlisted = refl; asks = selects_only_ask queries.people_text tt }
 
 abbrev pub move_names : List (List ℕ)
 move_names = codes "round" ∷ codes "person" ∷ codes "from_room" ∷ codes "to_room" ∷ codes "wave" ∷ []
 
 pub moves_meant : Means queries.moves_text queries.moves_query move_names
 unfolding understood everything
-moves_meant = record { is = refl; plain = (refl, refl); unlisted = refl; asks = asking-only queries.moves_text tt }
+moves_meant = record { is = refl; plain = (refl, refl); unlisted = refl; asks = selects_only_ask queries.moves_text tt }
 
 abbrev pub grade_names : List (List ℕ)
 grade_names = codes "id" ∷ codes "value" ∷ []
 
 pub grades_meant : Means queries.grades_text queries.grades_query grade_names
 unfolding understood everything
-grades_meant = record { is = refl; plain = (refl, refl); unlisted = refl; asks = asking-only queries.grades_text tt }
+grades_meant = record { is = refl; plain = (refl, refl); unlisted = refl; asks = selects_only_ask queries.grades_text tt }

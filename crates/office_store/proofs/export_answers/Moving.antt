@@ -117,10 +117,10 @@ move_again x = ap move_fields (go x.from x.to x.wave)
     go (Some f) (Some t) Swap = refl
     go (Some f) (Some t) (Nth n) = refl
 
-export_answers-answers : (db : Database) (office : Office) (rows : List Row) → HoldsOffice db office → IsLawful office → Answers db (alone moves_query) [] rows
+moves_answer : (db : Database) (office : Office) (rows : List Row) → HoldsOffice db office → IsLawful office → Answers db (alone moves_query) [] rows
     → header_of Moves ∷ map move_record rows ≡ exported Moves office
 unfolding rows_at
-export_answers-answers db office rows holds lawful h =
+moves_answer db office rows holds lawful h =
     let held = holds.rows.moves in
     let records = move_rows office.moves in
     let all : IsPermutation (map out records) (map (output moves_query) (matches db.trees [] (inner 7 end) ([] ∷ []))) =
@@ -140,5 +140,5 @@ moves_exported_by_query = record {
   plain = moves_meant.plain;
   unlisted = moves_meant.unlisted;
   asks = moves_meant.asks;
-  answers = export_answers-answers;
+  answers = moves_answer;
 }

@@ -59,10 +59,10 @@ shown_again withdrawn e = go e.1.home
     go None = refl
     go (Some room) = refl
 
-export_answers-answers : (db : Database) (office : Office) (rows : List Row) → HoldsOffice db office → IsLawful office → Answers db (alone people_query) [] rows
+people_answer : (db : Database) (office : Office) (rows : List Row) → HoldsOffice db office → IsLawful office → Answers db (alone people_query) [] rows
     → header_of People ∷ map person_record rows ≡ exported People office
 unfolding rows_at
-export_answers-answers db office rows holds lawful h =
+people_answer db office rows holds lawful h =
     let held = holds.rows.people in
     let records = person_rows office.people office.withdrawn in
     let all : IsPermutation (map out records) (map (output people_query) (matches db.trees [] (inner 2 end) ([] ∷ []))) =
@@ -83,5 +83,5 @@ people_exported_by_query = record {
   plain = people_meant.plain;
   unlisted = people_meant.unlisted;
   asks = people_meant.asks;
-  answers = export_answers-answers;
+  answers = people_answer;
 }

@@ -70,10 +70,10 @@ shown_again office e = go e.1 (tenant office e.0)
     go false None = refl
     go false (Some t) = refl
 
-export_answers-answers : (db : Database) (office : Office) (rows : List Row) → HoldsOffice db office → IsLawful office → Answers db (alone rooms_query) [] rows
+rooms_answer : (db : Database) (office : Office) (rows : List Row) → HoldsOffice db office → IsLawful office → Answers db (alone rooms_query) [] rows
     → header_of Rooms ∷ map room_record rows ≡ exported Rooms office
 unfolding rows_at
-export_answers-answers db office rows holds lawful h =
+rooms_answer db office rows holds lawful h =
     let held = holds.rows.rooms in
     let entries = maps.entries office.rooms in
     let outs = map (out (tenant office)) entries in
@@ -95,5 +95,5 @@ rooms_exported_by_query = record {
   plain = rooms_meant.plain;
   unlisted = rooms_meant.unlisted;
   asks = rooms_meant.asks;
-  answers = export_answers-answers;
+  answers = rooms_answer;
 }

@@ -12,7 +12,7 @@ use Rattle.sqlite_keyed.proofs.ListLemmas.{map-map, filter-map, filter_none, all
 use Rattle.sqlite.proofs.Callers.{one_permutation}
 use Rattle.room_types.specs.Texts.{Text, TextMap, text_cmp}
 use Rattle.room_types.proofs.maps.TextMaps.{exact_texts}
-use Rattle.room_types.proofs.maps.Entries.{maps-entries_found}
+use Rattle.room_types.proofs.maps.Entries.{entries_found}
 use Rattle.office_state.specs.Office.Invariants.{Unshared}
 use Rattle.office_state.specs.Office.{first_person, had_by, holder, is_text, lives_in}
 use Rattle.office_state.specs.declared.office.person.Person.{Person}
@@ -61,7 +61,7 @@ module _ (people : TextMap Person) (code : Text) (differ : Unshared (λ p. p.hom
   each_found =
       all_weaker (λ (e : Text × Person). find text_cmp e.0 (maps.entries people) ≡ Some e.1) IsFound
       (λ e f. ap (option_and_then (λ (p : Person). p.home)) (get-entries people e.0 ∙ f))
-      (maps.entries people) (maps-entries_found nat_list_cmp_total exact_texts (maps.entries people) (entries_sorted people))
+      (maps.entries people) (entries_found nat_list_cmp_total exact_texts (maps.entries people) (entries_sorted people))
 
   -- Among the rows of all people, in any order, those of the people who live there name the tenant.
   pub tenant_named : (withdrawn : TextMap (Unit {0})) (rows : List PersonRecord) → IsPermutation (person_rows people withdrawn) rows

@@ -9,16 +9,16 @@ ghost use Rattle.office_schema.specs.tables.Tables.{HoldsOfficeIn};
 ghost use Rattle.office_schema.specs.declared.tables.layouts.Layout.{Layout as AnyLayout};
 ghost use Rattle.office_db.specs.loading.Finding.{AreDeclared, AreWhole, names_round};
 ghost use Rattle.office_db.specs.loading.Layout.{layout_in};
-ghost use Rattle.office_db.specs.migration.Causes.{AreRowsAsStated, HoldsEarlier, HoldsLayoutVersion, StatesVersion, HoldsEarlierFirst};
+ghost use Rattle.office_migration.specs.Causes.{AreRowsAsStated, HoldsEarlier, HoldsLayoutVersion, StatesVersion, HoldsEarlierFirst};
 ghost use Rattle.office_db.specs.loading.FirstTables.{BeginsOffice, begins_office};
-ghost use Rattle.office_db.specs.migration.Names.{uses_missing_name};
-ghost use Rattle.office_db.specs.migration.Versions.{IsEarlierLayout, IsNotEarlier, IsOfVersion};
+ghost use Rattle.office_migration.specs.Names.{uses_missing_name};
+ghost use Rattle.office_migration.specs.Versions.{IsEarlierLayout, IsNotEarlier, IsOfVersion};
 ghost use Rattle.office_store.specs.Desk.{Shows};
 ghost use Rattle.office_store.specs.Migrating.{IsFaultOfMigration, MayNotMigrate, MayReturnFault, migrating_fault};
 
 use crate::desk::Desk;
 use crate::desk::faults::{Back, DeskFault};
-use office_db::migration::{MigrateFault, migrate};
+use office_migration::{MigrateFault, migrate};
 use sqlite::{Alter, Connection};
 use std::alloc::Global;
 
@@ -29,14 +29,22 @@ impl<S: Alter> Desk<S> {
     ///
     /// # Errors
     ///
-    /// `NotAnOffice` if nothing has the name of table `round`. Otherwise, if the first tables are those of an office:
-    /// `OtherVersion` only if the row of table `round` holds that version, and it is not an earlier one; `NotAnOffice`
-    /// only if the first tables, in a known order, do not hold the rows of an office of an earlier version, or if the
-    /// row of table `round` is missing; `AlreadyThere` only if the rows are not at fault and something has the name of
-    /// a table that the version in the row lacks. `Unavailable` may take the place of each of these, and is the error
-    /// in all other cases. The tables of an office of an earlier version are refused only as `AlreadyThere` or
-    /// `Unavailable`. The error returns the connection. Its tables are unchanged, unless a fault closed it or the disk
-    /// failed to return what was written. If the first tables are not those of an office, no statement has run on it.
+    /// The first of these that applies:
+    ///
+    /// - `NotAnOffice` if nothing has the name of table `round`.
+    /// - `Unavailable` if the first three tables are not those of an office, or if there is a view (a table that the
+    ///   engine does not understand counts as one). No statement has run then.
+    /// - `NotAnOffice` if table `round` does not have exactly one row, `Unavailable` if the version in its row is not
+    ///   an integer, or `OtherVersion` if that integer is neither 1 nor 2.
+    /// - If something has the name of a table that the version in that row lacks: `NotAnOffice` if the tables of a
+    ///   layout of that version come first and do not hold the rows of an office of that version, and otherwise
+    ///   `AlreadyThere`.
+    /// - `Unavailable` if the tables are in no known layout, or `NotAnOffice` if they do not hold the rows of an office
+    ///   of the version in the row.
+    ///
+    /// If the database fails or memory runs out, `Unavailable` may take the place of each but the first. The error
+    /// returns the connection. Its tables are unchanged, unless a fault closed it or the disk failed to return what was
+    /// written.
     pub fn migrate(alloc: Global, connection: Connection<S>) -> Result<Desk<S>, Back<S>>
         requires { connection.in_transaction ≡ false }
         ensures follows { IfOk result

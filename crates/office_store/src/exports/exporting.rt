@@ -105,6 +105,7 @@ fn export_rows<E: Exported, S: Alter, W: Write>(
     ensures flushes { watched_flushes output.new ≡ watched_flushes output.old }
     ensures stops { StopsAtFailure output.old output.new }
 {
+    // The proof needs these two lines: outside a transaction, an open connection shows what is committed.
     let outside = conn.is_autocommit();
     prove!(outside);
     let Ok(mut rows) = conn.query(E::query(), &[]) else {

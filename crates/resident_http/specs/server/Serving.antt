@@ -53,9 +53,10 @@ module _ {S : Type 0} (g : Ghosts S) where
         (middle : L) × (between : DeskState S) × ServesEach listener old count middle between × ServesNext middle between listener' new
 
   module _ {L T : Type 0} (calls : Calls T) (remaining contents : T → Option (List ℕ)) (accepts : L → Output → Option (Watched T) → L → Type 0) (closes : L → Output → Watched T → L → Type 0) where
-    -- The line with the listening port was printed and flushed. Then this number of connections was accepted and served,
-    -- with nothing printed until the last one was closed; then their number was printed. Or an allocation for the two lines
-    -- failed, or the first line could not be printed: then no connection was accepted.
+    -- The line with the listening port was printed and flushed. Then the listener was asked for this number of connections, one
+    -- after another. Each one that was accepted was served, and closed before the next was asked for. Nothing was printed
+    -- meanwhile; then the number was printed. Or an allocation for the two lines failed, or the first line could not be printed:
+    -- then the listener was asked for no connection.
     abbrev pub ServesAll : L → DeskState S → L → DeskState S → ℕ → ℕ → ℕ → Output → Output → Type 0
     ServesAll listener old listener' new port count status out out' =
         ((printed : Output) × Prints (listening_text port) 0 0 out printed × ServesEach calls remaining contents accepts closes printed listener old count listener' new

@@ -17,11 +17,11 @@ pub trait Listener {
 
     type Stream: Stream + Drop;
 
-    /// From the first state, with this output written before, accepting returned this connection or none, and led to the
-    /// second state.
+    /// After this output had been written, accepting returned this connection or none, and led from the old state to
+    /// the new one.
     ghost accepts: { Self → Output → Option (Watched Self.Stream) → Self → Type 0 } = { λ _ _ _ _. ⊤ };
 
-    /// From the first state, with this output written before, closing this connection led to the second state.
+    /// After this output had been written, closing this connection led from the old state to the new one.
     ghost closes: { Self → Output → Watched Self.Stream → Self → Type 0 } = { λ _ _ _ _. ⊤ };
 
     /// Waits for the next connection and returns it, or `None` if it could not be accepted. The connection is `Watched`
@@ -59,20 +59,20 @@ pub trait Ports {
 
     type Socket: Listener;
 
-    /// Listening on this port returned this socket and led from the first state to the second.
+    /// Listening on this port returned this socket and led from the old state to the new one.
     ghost listens: { Self → ℕ → Self.Socket → Self → Type 0 } = { λ _ _ _ _. ⊤ };
 
-    /// Listening on this port failed and led from the first state to the second.
+    /// Listening on this port failed and led from the old state to the new one.
     ghost fails: { Self → ℕ → Self → Type 0 } = { λ _ _ _. ⊤ };
 
-    /// Closing this socket led from the first state to the second.
+    /// Closing this socket led from the old state to the new one.
     ghost stops: { Self → Self.Socket → Self → Type 0 } = { λ _ _ _. ⊤ };
 
     /// Listens on a port.
     ///
     /// # Errors
     ///
-    /// `Unavailable` if it can't listen on the port.
+    /// `Unavailable` if it cannot listen on the port.
     fn listen(&mut self, port: u16) -> Result<Self::Socket, Unavailable>
         ensures listening { IfOk result (λ socket. listens self.old port socket self.new) }
         ensures failed { OnErr result (fails self.old port self.new) };
@@ -83,7 +83,7 @@ pub trait Ports {
 }
 
 /// The ports of 127.0.0.1, which no other machine can reach. Only this type holds the runtime, so code that is generic in
-/// the ports can't reach others.
+/// the ports cannot reach others.
 #[derive(Drop)]
 pub struct Loopback<'a> {
     rt: &'a HostRuntime,

@@ -16,7 +16,7 @@ use sqlite::Alter;
 use std::alloc::{AllocError, Global};
 use std::io::Write;
 
-/// Listens on this port, serves residents as `serve_listener` does, and closes the listener. If it can't listen on the
+/// Listens on this port, serves residents as `serve_listener` does, and closes the listener. If it cannot listen on the
 /// port, it prints `unavailable`. Returns the exit status.
 pub fn serve_port<S: Alter, P: Ports, W: Write>(
     alloc: Global,
@@ -35,8 +35,7 @@ pub fn serve_port<S: Alter, P: Ports, W: Write>(
         (output_of W.contents output.old) (output_of W.contents output.new) }
 {
     match ports.listen(port) {
-        Ok(listener) => {
-            let mut listener = listener;
+        Ok(mut listener) => {
             let status = serve_listener(alloc, desk, &mut listener, port, count, output);
             ports.stop(listener);
             status
@@ -45,9 +44,10 @@ pub fn serve_port<S: Alter, P: Ports, W: Write>(
     }
 }
 
-/// Prints `listening on 127.0.0.1:PORT`, accepts and serves `count` connections one after another, and prints
-/// `served COUNT` once the last one is closed. Allocates both lines first: an allocation for them fails before anybody
-/// is served, or not at all. If the first line can't be printed, accepts no connection. Returns the exit status.
+/// Prints `listening on 127.0.0.1:PORT`. Then asks the listener for `count` connections, one after another; serves each
+/// one that is accepted, and closes it before it asks for the next. Then prints `served COUNT`. Allocates both lines
+/// first: an allocation for them fails before anybody is served, or not at all. If the first line cannot be printed,
+/// asks for no connection. Returns the exit status.
 pub fn serve_listener<S: Alter, L: Listener, W: Write>(
     alloc: Global,
     desk: &mut Desk<S>,
@@ -71,8 +71,9 @@ pub fn serve_listener<S: Alter, L: Listener, W: Write>(
     print(output, lines.served.as_str(), ACCEPTED)
 }
 
-/// Accepts `count` connections one after another, and serves a resident on each. A connection that could not be
-/// accepted also counts. `printed` is the output written before.
+/// Asks the listener for `count` connections, one after another. Serves a resident on each one that is accepted, and
+/// closes it before it asks for the next. A connection that could not be accepted also counts. `printed` is the output
+/// written before.
 pub fn serve_each<S: Alter, L: Listener, W: Write>(
     alloc: Global,
     desk: &mut Desk<S>,

@@ -6,12 +6,12 @@ use Rattle.httparse.specs.Grammar.{RequestHead, print_request, ReadsRequest}
 use Rattle.resident_requests.specs.Asks.{window, head_limit}
 
 -- taking more bytes than there are takes all of them
-http_requests-short : (n : ℕ) (xs : List ℕ) → length xs < n → take n xs ≡ xs
-http_requests-short n xs h = take_all n xs (omega arith)
+short : (n : ℕ) (xs : List ℕ) → length xs < n → take n xs ≡ xs
+short n xs h = take_all n xs (omega arith)
 
 pub window-few : (xs : List ℕ) → length xs < head_limit → window xs ≡ xs
 unfolding window
-window-few xs h = http_requests-short head_limit xs h
+window-few xs h = short head_limit xs h
 
 pub window-is : (xs : List ℕ) → take head_limit xs ≡ window xs
 unfolding window

@@ -8,7 +8,7 @@ use Rattle.matchit.specs.Seek.{first}
 use Rattle.resident_requests.specs.declared.routes.Route.{Route}
 use Rattle.resident_requests.specs.Routes.{route_of}
 use Rattle.resident_requests.specs.Inner.RouteRows.{route_rows}
-use Rattle.resident_requests.proofs.http_routes.Literal.{IsLiteral, http_routes-seek_literal}
+use Rattle.resident_requests.proofs.http_routes.Literal.{IsLiteral, seek_literal}
 
 literal : (text : List ℕ) → list_all (λ b. nat_lt b 256) text ≡ true → IsLiteral text
 literal [] e = tt
@@ -28,6 +28,6 @@ one_of_four false false false false p q r s = refl
 
 pub route_found : (path : List ℕ) → option_map (λ (route : RouteOf Route). route.value) (first route_rows path) ≡ route_of path
 route_found path =
-    let found = http_routes-seek_literal path route_rows (literal (codes "/me/choices") refl, (literal (codes "/me/withdraw") refl, (literal (codes "/me") refl, (literal (codes "/rooms") refl, tt)))) in
+    let found = seek_literal path route_rows (literal (codes "/me/choices") refl, (literal (codes "/me/withdraw") refl, (literal (codes "/me") refl, (literal (codes "/rooms") refl, tt)))) in
     ap (option_map (λ (route : RouteOf Route). route.value)) found
     ∙ one_of_four (bytes_eq (codes "/me/choices") path) (bytes_eq (codes "/me/withdraw") path) (bytes_eq (codes "/me") path) (bytes_eq (codes "/rooms") path) _ _ _ _

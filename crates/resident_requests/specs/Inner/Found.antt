@@ -4,7 +4,7 @@ use Rattle.httparse.specs.Spans.{span_bytes, IsWithin}
 use Rattle.resident_requests.specs.declared.fields.Found.{Found}
 use Rattle.resident_requests.specs.declared.fields.Found.TheVariants as found
 
--- the search found exactly these values
+-- the result describes these values: none, exactly the one at the span, or at least two
 abbrev pub Finds : List ℕ → Found → List (List ℕ) → Type 0
 Finds buf found.Nothing values = values ≡ []
 Finds buf (found.One span) values = IsWithin (length buf) span × (values ≡ span_bytes buf span ∷ [])

@@ -37,8 +37,8 @@ tied_text q k ties =
     [ inl same ↦ same | inr other ↦ absurd (false≢true (sym other ∙ ties)) ]
 
 -- equal texts cannot fail to tie
-pub maps-differ : (q k : Text) → q ≡ k → eq_by_cmp text_cmp q k ≡ false → ⊥
-maps-differ q k same other =
+pub unequal_texts : (q k : Text) → q ≡ k → eq_by_cmp text_cmp q k ≡ false → ⊥
+unequal_texts q k same other =
     let ties : eq_by_cmp text_cmp q k ≡ true =
     ap (λ p. eq_by_cmp text_cmp p k) same ∙ ap is_eq (tied_itself nat_list_cmp_total k) in
     cc
@@ -58,83 +58,83 @@ less_from_test Equal p = absurd p
 less_from_test Greater p = absurd p
 
 module _ {X : Type 0} where
-  maps-below_key : (x : Text) (es : List (Text × X)) → T (below_all text_cmp x es)
+  below_key : (x : Text) (es : List (Text × X)) → T (below_all text_cmp x es)
       → AllByRecursion (λ y. text_cmp x y ≡ Less) (map (λ e. e.0) es)
-  maps-below_key x [] below = tt
-  maps-below_key x (e ∷ es) below =
-      (less_from_test (text_cmp x e.0) (first_holds _ _ below), maps-below_key x es (second_holds _ _ below))
+  below_key x [] below = tt
+  below_key x (e ∷ es) below =
+      (less_from_test (text_cmp x e.0) (first_holds _ _ below), below_key x es (second_holds _ _ below))
 
-  maps-keys_ascend : (es : List (Text × X)) → T (is_sorted text_cmp es) → AscendsBy (λ e. e.0) es
+  keys_ascend : (es : List (Text × X)) → T (is_sorted text_cmp es) → AscendsBy (λ e. e.0) es
   unfolding IsStrictlySortedBy
-  maps-keys_ascend [] up = tt
-  maps-keys_ascend (e ∷ es) up =
-      (maps-below_key e.0 es (first_holds _ _ up), maps-keys_ascend es (second_holds _ _ up))
+  keys_ascend [] up = tt
+  keys_ascend (e ∷ es) up =
+      (below_key e.0 es (first_holds _ _ up), keys_ascend es (second_holds _ _ up))
 
   -- the entries ascend by key
-  pub maps-entries_ascend : (m : TextMap X) → AscendsBy (λ e. e.0) (maps.entries m)
-  maps-entries_ascend m = maps-keys_ascend (maps.entries m) (entries_sorted m)
+  pub entries_ascend : (m : TextMap X) → AscendsBy (λ e. e.0) (maps.entries m)
+  entries_ascend m = keys_ascend (maps.entries m) (entries_sorted m)
 
   -- rows made from the entries, with the same keys, ascend too
-  pub maps-rows_ascend : {Row : Type 0} (row : Text × X → Row) (key : Row → Text)
+  pub rows_ascend : {Row : Type 0} (row : Text × X → Row) (key : Row → Text)
       → ((e : Text × X) → key (row e) ≡ e.0)
       → (m : TextMap X) → AscendsBy key (map row (maps.entries m))
-  maps-rows_ascend row key same m =
+  rows_ascend row key same m =
       subst (λ keys. IsStrictlySortedBy text_cmp keys)
       (sym (map-map key row (maps.entries m)
-      ∙ ap (λ f. map f (maps.entries m)) (λ i e. same e i))) (maps-entries_ascend m)
+      ∙ ap (λ f. map f (maps.entries m)) (λ i e. same e i))) (entries_ascend m)
 
-  pub maps-get-put_same : (m : TextMap X) (k : Text) (v : X) → maps.get (maps.insert m k v) k ≡ Some v
-  maps-get-put_same m k v =
+  pub get-put_same : (m : TextMap X) (k : Text) (v : X) → maps.get (maps.insert m k v) k ≡ Some v
+  get-put_same m k v =
       get-insert nat_list_cmp_total m k v k
       ∙ ap (λ o. cond (is_eq o) (Some v) (maps.get m k)) (tied_itself nat_list_cmp_total k)
 
-  pub maps-get-put_other : (m : TextMap X) (k : Text) (v : X) (q : Text) → eq_by_cmp text_cmp q k ≡ false
+  pub get-put_other : (m : TextMap X) (k : Text) (v : X) (q : Text) → eq_by_cmp text_cmp q k ≡ false
       → maps.get (maps.insert m k v) q ≡ maps.get m q
-  maps-get-put_other m k v q e = get-insert nat_list_cmp_total m k v q
+  get-put_other m k v q e = get-insert nat_list_cmp_total m k v q
       ∙ ap (λ b. cond b (Some v) (maps.get m q)) e
 
-  pub maps-get-gone_same : (m : TextMap X) (k : Text) → maps.get (maps.remove m k) k ≡ None
-  maps-get-gone_same m k =
+  pub get-gone_same : (m : TextMap X) (k : Text) → maps.get (maps.remove m k) k ≡ None
+  get-gone_same m k =
       get-remove nat_list_cmp_total m k k
       ∙ ap (λ o. cond (is_eq o) None (maps.get m k)) (tied_itself nat_list_cmp_total k)
 
-  pub maps-get-gone_other : (m : TextMap X) (k : Text) (q : Text) → eq_by_cmp text_cmp q k ≡ false
+  pub get-gone_other : (m : TextMap X) (k : Text) (q : Text) → eq_by_cmp text_cmp q k ≡ false
       → maps.get (maps.remove m k) q ≡ maps.get m q
-  maps-get-gone_other m k q e = get-remove nat_list_cmp_total m k q
+  get-gone_other m k q e = get-remove nat_list_cmp_total m k q
       ∙ ap (λ b. cond b None (maps.get m q)) e
 
   -- inserting, under any key, a value equal to the one that a look-up finds leaves the look-up as it is
-  pub maps-get-put_either : (m : TextMap X) (k : Text) (v : X) (q : Text) (w : X) → v ≡ w
+  pub get-put_either : (m : TextMap X) (k : Text) (v : X) (q : Text) (w : X) → v ≡ w
       → maps.get m q ≡ Some w
       → maps.get (maps.insert m k v) q ≡ Some w
-  maps-get-put_either m k v q w e h =
+  get-put_either m k v q w e h =
       elim (text_cases q k) as (λ _. maps.get (maps.insert m k v) q ≡ Some w) [
-        | inl same ↦ ap (λ p. maps.get (maps.insert m k v) p) same ∙ maps-get-put_same m k v
+        | inl same ↦ ap (λ p. maps.get (maps.insert m k v) p) same ∙ get-put_same m k v
             ∙ ap (λ x. Some x) e
-        | inr other ↦ maps-get-put_other m k v q other ∙ h
+        | inr other ↦ get-put_other m k v q other ∙ h
       ]
 
-  pub maps-contains_key-put_same : (m : TextMap X) (k : Text) (v : X)
+  pub contains_key-put_same : (m : TextMap X) (k : Text) (v : X)
       → maps.contains_key (maps.insert m k v) k ≡ true
-  maps-contains_key-put_same m k v = ap is_some (maps-get-put_same m k v)
+  contains_key-put_same m k v = ap is_some (get-put_same m k v)
 
   -- a key that the map contains stays in it
-  pub maps-contains_key-put : (m : TextMap X) (k : Text) (v : X) (q : Text)
+  pub contains_key-put : (m : TextMap X) (k : Text) (v : X) (q : Text)
       → maps.contains_key m q ≡ true
       → maps.contains_key (maps.insert m k v) q ≡ true
-  maps-contains_key-put m k v q h =
+  contains_key-put m k v q h =
       elim (text_cases q k) as (λ _. maps.contains_key (maps.insert m k v) q ≡ true) [
         | inl same ↦ ap (λ p. maps.contains_key (maps.insert m k v) p) same
-            ∙ maps-contains_key-put_same m k v
-        | inr other ↦ ap is_some (maps-get-put_other m k v q other) ∙ h
+            ∙ contains_key-put_same m k v
+        | inr other ↦ ap is_some (get-put_other m k v q other) ∙ h
       ]
 
-  pub maps-len-put_known : (m : TextMap X) (k : Text) (v : X) → maps.contains_key m k ≡ true
+  pub len-put_known : (m : TextMap X) (k : Text) (v : X) → maps.contains_key m k ≡ true
       → maps.len (maps.insert m k v) ≡ maps.len m
-  maps-len-put_known m k v known = len-insert nat_list_cmp_total m k v
+  len-put_known m k v known = len-insert nat_list_cmp_total m k v
       ∙ ap (λ b. cond b (maps.len m) (maps.len m + 1)) known
 
-  pub maps-len-put_fresh : (m : TextMap X) (k : Text) (v : X) → maps.contains_key m k ≡ false
+  pub len-put_fresh : (m : TextMap X) (k : Text) (v : X) → maps.contains_key m k ≡ false
       → maps.len (maps.insert m k v) ≡ maps.len m + 1
-  maps-len-put_fresh m k v new = len-insert nat_list_cmp_total m k v
+  len-put_fresh m k v new = len-insert nat_list_cmp_total m k v
       ∙ ap (λ b. cond b (maps.len m) (maps.len m + 1)) new

@@ -14,57 +14,57 @@ use Rattle.std.proofs.lemmas.List.{nil_from_length}
 
 module _ {K X : Type 0} (R : K → K → Ordering) where
   -- both functions find the first entry that ties with the key
-  pub maps-find-lookup : (q : K) (es : List (K × X)) → find R q es ≡ lookup (is_at (R q)) es
-  maps-find-lookup q [] = refl
-  maps-find-lookup q (e ∷ es) = ap (cond (is_at (R q) e.0) (Some e.1)) (maps-find-lookup q es)
+  pub find-lookup : (q : K) (es : List (K × X)) → find R q es ≡ lookup (is_at (R q)) es
+  find-lookup q [] = refl
+  find-lookup q (e ∷ es) = ap (cond (is_at (R q) e.0) (Some e.1)) (find-lookup q es)
 
 module _ {K X : Type 0} {R : K → K → Ordering} (total : IsTotalOrder R) where
-  pub maps-get-tree : (m : BTreeMap K X) (q : K) → map.get (from_entries {R = R} m.entries) q ≡ tree.get_by (R q) m
-  maps-get-tree m q = get-from_entries total m.entries q ∙ maps-find-lookup R q m.entries
+  pub get-tree : (m : BTreeMap K X) (q : K) → map.get (from_entries {R = R} m.entries) q ≡ tree.get_by (R q) m
+  get-tree m q = get-from_entries total m.entries q ∙ find-lookup R q m.entries
 
 module _ {K X : Type 0} {R : K → K → Ordering} (total : IsTotalOrder R) (exact : IsAntisymmetric R) where
   -- the map after an insertion
-  pub maps-insert-tree : (m n : BTreeMap K X) (k : K) (v : X) → ((q : K) → tree.get R n q ≡ cond (is_at (R k) q) (Some v) (tree.get R m q))
+  pub insert-tree : (m n : BTreeMap K X) (k : K) (v : X) → ((q : K) → tree.get R n q ≡ cond (is_at (R k) q) (Some v) (tree.get R m q))
       → from_entries {R = R} n.entries ≡ map.insert (from_entries m.entries) k v
-  maps-insert-tree m n k v updates = same_map total exact _ _ (λ q.
-      maps-get-tree total n q ∙ updates q
-      ∙ ap (λ o. cond (is_at (R k) q) (Some v) o) (sym (maps-get-tree total m q))
+  insert-tree m n k v updates = same_map total exact _ _ (λ q.
+      get-tree total n q ∙ updates q
+      ∙ ap (λ o. cond (is_at (R k) q) (Some v) o) (sym (get-tree total m q))
       ∙ ap (λ b. cond b (Some v) (map.get (from_entries {R = R} m.entries) q)) ((eq_by_cmp_equiv total).symm k q)
       ∙ sym (get-insert total (from_entries m.entries) k v q))
 
   -- the map after a removal
-  pub maps-remove-tree : (m n : BTreeMap K X) (k : K) → ((q : K) → tree.get R n q ≡ cond (is_at (R k) q) None (tree.get R m q))
+  pub remove-tree : (m n : BTreeMap K X) (k : K) → ((q : K) → tree.get R n q ≡ cond (is_at (R k) q) None (tree.get R m q))
       → from_entries {R = R} n.entries ≡ map.remove (from_entries m.entries) k
-  maps-remove-tree m n k updates = same_map total exact _ _ (λ q.
-      maps-get-tree total n q ∙ updates q
-      ∙ ap (λ o. cond (is_at (R k) q) None o) (sym (maps-get-tree total m q))
+  remove-tree m n k updates = same_map total exact _ _ (λ q.
+      get-tree total n q ∙ updates q
+      ∙ ap (λ o. cond (is_at (R k) q) None o) (sym (get-tree total m q))
       ∙ ap (λ b. cond b None (map.get (from_entries {R = R} m.entries) q)) ((eq_by_cmp_equiv total).symm k q)
       ∙ sym (get-remove total (from_entries m.entries) k q))
 
 module _ {K X : Type 0} {R : K → K → Ordering} (total : IsTotalOrder R) where
-  maps-put-first : (k : K) (v : X) (es : List (K × X)) → IsStrictlySortedBy R (k ∷ keys_of es) → put R k v es ≡ (k, v) ∷ es
+  put-first : (k : K) (v : X) (es : List (K × X)) → IsStrictlySortedBy R (k ∷ keys_of es) → put R k v es ≡ (k, v) ∷ es
   unfolding IsStrictlySortedBy
-  maps-put-first k v [] s = refl
-  maps-put-first k v (e ∷ es) s = ap (λ o. by_order o ((k, v) ∷ e ∷ es) ((e.0, v) ∷ es) (e ∷ put R k v es)) s.0.0
+  put-first k v [] s = refl
+  put-first k v (e ∷ es) s = ap (λ o. by_order o ((k, v) ∷ e ∷ es) ((e.0, v) ∷ es) (e ∷ put R k v es)) s.0.0
 
-  pub maps-entries-empty : map.entries (map.empty {X = X} {R = R}) ≡ []
-  maps-entries-empty = nil_from_length _ (sym (len-entries (map.empty {X = X} {R = R})) ∙ len-empty R X)
+  pub entries-empty : map.entries (map.empty {X = X} {R = R}) ≡ []
+  entries-empty = nil_from_length _ (sym (len-entries (map.empty {X = X} {R = R})) ∙ len-empty R X)
 
   -- entries in strictly ascending order are the entries of the map that they make
-  pub maps-entries-sorted : (es : List (K × X)) → IsStrictlySortedBy R (keys_of es) → map.entries (from_entries {R = R} es) ≡ es
+  pub entries-sorted : (es : List (K × X)) → IsStrictlySortedBy R (keys_of es) → map.entries (from_entries {R = R} es) ≡ es
   unfolding IsStrictlySortedBy
-  maps-entries-sorted [] s = maps-entries-empty
-  maps-entries-sorted (e ∷ es) s =
+  entries-sorted [] s = entries-empty
+  entries-sorted (e ∷ es) s =
       entries-insert total (from_entries es) e.0 e.1
-      ∙ ap (put R e.0 e.1) (maps-entries-sorted es s.1)
-      ∙ maps-put-first e.0 e.1 es s
+      ∙ ap (put R e.0 e.1) (entries-sorted es s.1)
+      ∙ put-first e.0 e.1 es s
 
   -- a tree has the same entries as its map
-  pub maps-entries-tree : (m : BTreeMap K X) → tree.IsOrdered R m → map.entries (from_entries {R = R} m.entries) ≡ m.entries
-  maps-entries-tree m s = maps-entries-sorted m.entries s
+  pub entries-tree : (m : BTreeMap K X) → tree.IsOrdered R m → map.entries (from_entries {R = R} m.entries) ≡ m.entries
+  entries-tree m s = entries-sorted m.entries s
 
-  pub maps-len-tree : (m : BTreeMap K X) → tree.IsOrdered R m → map.len (from_entries {R = R} m.entries) ≡ tree.btree_map_len m
-  maps-len-tree m s = len-entries _ ∙ ap length (maps-entries-tree m s)
+  pub len-tree : (m : BTreeMap K X) → tree.IsOrdered R m → map.len (from_entries {R = R} m.entries) ≡ tree.btree_map_len m
+  len-tree m s = len-entries _ ∙ ap length (entries-tree m s)
 
 -- entries with equal keys and equal values are equal
 pub same_pairs : {K X : Type 0} (C : K → K → Type 0) (D : X → X → Type 0) → ((x y : K) → C x y → y ≡ x) → ((x y : X) → D x y → y ≡ x)

@@ -11,9 +11,9 @@ use Rattle.trade_line.specs.Member.{among, Once}
 use Rattle.trade_line.specs.Inner.Queue.{AscendsFrom, Ascends, last_of, WaitsBehind, stage_of, close}
 use Rattle.trade_line.specs.Line.{front_of, tail_of, without}
 use Rattle.trade_line.proofs.searches.Search.{and_nots, clash, is_room_gives, is_room_from}
-use Rattle.trade_line.proofs.cycles.Exchange.{cycles-taken_gives}
-use Rattle.trade_line.proofs.cycles.Unique.{same_stage, cycles-taken_from}
-use Rattle.trade_line.proofs.cycles.Chain.{cycles-wish_stays}
+use Rattle.trade_line.proofs.cycles.Exchange.{taken_gives}
+use Rattle.trade_line.proofs.cycles.Unique.{same_stage, taken_from}
+use Rattle.trade_line.proofs.cycles.Chain.{wish_stays}
 
 pub among_self : (a : ℕ) (xs : List ℕ) → among (a ∷ xs) a ≡ true
 among_self a xs = or_left (a == a) (among xs a) (eq-eqb a a refl)
@@ -158,36 +158,36 @@ length-close remaining None = refl
 length-close remaining (Some x) = length-set remaining x false
 
 module _ (m : Market) where
-  pub askers-taken_push : (s : Stage) (past : List ℕ) (d : ℕ) (o : Option ℕ) → wish m s d ≡ o → d < m.people → (r : ℕ) → taken m s (among (past ++ d ∷ [])) r ≡ (taken m s (among past) r || is_room r o)
-  askers-taken_push s past d o e l r = one_truth (taken m s (among (past ++ d ∷ [])) r) (taken m s (among past) r || is_room r o)
+  pub taken_push : (s : Stage) (past : List ℕ) (d : ℕ) (o : Option ℕ) → wish m s d ≡ o → d < m.people → (r : ℕ) → taken m s (among (past ++ d ∷ [])) r ≡ (taken m s (among past) r || is_room r o)
+  taken_push s past d o e l r = one_truth (taken m s (among (past ++ d ∷ [])) r) (taken m s (among past) r || is_room r o)
       (λ h.
-      let g : (q : ℕ) × (q < m.people) × (among (past ++ d ∷ []) q ≡ true) × (wish m s q ≡ Some r) = cycles-taken_gives m s (among (past ++ d ∷ [])) r h in
+      let g : (q : ℕ) × (q < m.people) × (among (past ++ d ∷ []) q ≡ true) × (wish m s q ≡ Some r) = taken_gives m s (among (past ++ d ∷ [])) r h in
       elim (among_cases past (d ∷ []) g.0 g.2) [
-        | inl i ↦ or_left (taken m s (among past) r) (is_room r o) (cycles-taken_from m s (among past) r g.0 g.1 i g.3)
+        | inl i ↦ or_left (taken m s (among past) r) (is_room r o) (taken_from m s (among past) r g.0 g.1 i g.3)
         | inr i ↦
             let eq : d ≡ g.0 = eqb-true d g.0 (sym (or-false (d == g.0)) ∙ i) in
             or_right (taken m s (among past) r) (is_room r o) (is_room_from r o (sym e ∙ subst (λ z. wish m s z ≡ Some r) (sym eq) g.3))
       ])
       (λ h. elim (or_cases (taken m s (among past) r) (is_room r o) h) [
         | inl t ↦
-            let g : (q : ℕ) × (q < m.people) × (among past q ≡ true) × (wish m s q ≡ Some r) = cycles-taken_gives m s (among past) r t in
-            cycles-taken_from m s (among (past ++ d ∷ [])) r g.0 g.1 (among_left past (d ∷ []) g.0 g.2) g.3
-        | inr i ↦ cycles-taken_from m s (among (past ++ d ∷ [])) r d l (among_right past (d ∷ []) d (among_self d [])) (e ∙ is_room_gives r o i)
+            let g : (q : ℕ) × (q < m.people) × (among past q ≡ true) × (wish m s q ≡ Some r) = taken_gives m s (among past) r t in
+            taken_from m s (among (past ++ d ∷ [])) r g.0 g.1 (among_left past (d ∷ []) g.0 g.2) g.3
+        | inr i ↦ taken_from m s (among (past ++ d ∷ [])) r d l (among_right past (d ∷ []) d (among_self d [])) (e ∙ is_room_gives r o i)
       ])
 
-  pub askers-leave_none : (s : Stage) → s ≡ leave m s (among [])
+  pub leave_none : (s : Stage) → s ≡ leave m s (among [])
   unfolding leave
-  askers-leave_none s = same_stage s (leave m s (among [])) (λ p. sym (and-true (s.people p))) (λ r. sym (rw (nothing r) (and-true (s.rooms r))))
+  leave_none s = same_stage s (leave m s (among [])) (λ p. sym (and-true (s.people p))) (λ r. sym (rw (nothing r) (and-true (s.rooms r))))
     where
       nothing : (r : ℕ) → taken m s (among []) r ≡ false
       nothing r = false_from_ne_true (taken m s (among []) r) (λ h.
-          let g : (q : ℕ) × (q < m.people) × (false ≡ true) × (wish m s q ≡ Some r) = cycles-taken_gives m s (among []) r h in
+          let g : (q : ℕ) × (q < m.people) × (false ≡ true) × (wish m s q ≡ Some r) = taken_gives m s (among []) r h in
           both_ways false refl g.2)
 
   -- the front of the line leaves with the wish
-  pub askers-front_leaves : (s : Stage) (past : List ℕ) (d : ℕ) (t : List ℕ) (remaining : List Bool) (o : Option ℕ) → stage_of (d ∷ t) remaining ≡ leave m s (among past) → among t d ≡ false → d < m.people → wish m s d ≡ o → ((x : ℕ) → o ≡ Some x → x < length remaining) → stage_of t (close remaining o) ≡ leave m s (among (past ++ d ∷ []))
+  pub front_leaves : (s : Stage) (past : List ℕ) (d : ℕ) (t : List ℕ) (remaining : List Bool) (o : Option ℕ) → stage_of (d ∷ t) remaining ≡ leave m s (among past) → among t d ≡ false → d < m.people → wish m s d ≡ o → ((x : ℕ) → o ≡ Some x → x < length remaining) → stage_of t (close remaining o) ≡ leave m s (among (past ++ d ∷ []))
   unfolding leave
-  askers-front_leaves s past d t remaining o e absent l w known =
+  front_leaves s past d t remaining o e absent l w known =
       same_stage (stage_of t (close remaining o)) (leave m s (among (past ++ d ∷ []))) people rooms
     where
       before : (p : ℕ) → ((d == p) || among t p) ≡ (s.people p && not (among past p))
@@ -215,48 +215,48 @@ module _ (m : Market) where
           remaining_after remaining o r known
           ∙ ap (λ b. b && not (is_room r o)) (ap (λ (z : Stage). z.rooms r) e)
           ∙ and_nots (s.rooms r) (taken m s (among past) r) (is_room r o)
-          ∙ ap (λ b. s.rooms r && not b) (sym (askers-taken_push s past d o w l r))
+          ∙ ap (λ b. s.rooms r && not b) (sym (taken_push s past d o w l r))
 
   -- those behind wait on if nobody takes the homes that they wait for
-  pub askers-waits_on : (s : Stage) (k : ℕ → Bool) (a : ℕ) (xs : List ℕ) → ((q h : ℕ) → among (a ∷ xs) q ≡ true → home m q ≡ Some h → taken m s k h ≡ false) → WaitsBehind m s a xs → WaitsBehind m (leave m s k) a xs
-  askers-waits_on s k a [] free w = tt
-  askers-waits_on s k a (b ∷ r) free w = (
+  pub waits_on : (s : Stage) (k : ℕ → Bool) (a : ℕ) (xs : List ℕ) → ((q h : ℕ) → among (a ∷ xs) q ≡ true → home m q ≡ Some h → taken m s k h ≡ false) → WaitsBehind m s a xs → WaitsBehind m (leave m s k) a xs
+  waits_on s k a [] free w = tt
+  waits_on s k a (b ∷ r) free w = (
     (
       w.0.0,
       w.0.1,
-      cycles-wish_stays m s k b (λ h e.
+      wish_stays m s k b (λ h e.
           let z : Some w.0.0 ≡ Some h = sym w.0.2 ∙ e in
           let zz : w.0.0 ≡ h = cc in
           subst (λ x. taken m s k x ≡ false) zz (free a w.0.0 (among_self a (b ∷ r)) w.0.1)) ∙ w.0.2,
     ),
-    askers-waits_on s k b r (λ q h i e. free q h (among_more a (b ∷ r) q i) e) w.1,
+    waits_on s k b r (λ q h i e. free q h (among_more a (b ∷ r) q i) e) w.1,
   )
 
-  pub askers-waits_front : (s : Stage) (a : ℕ) (xs ys : List ℕ) → WaitsBehind m s a (xs ++ ys) → WaitsBehind m s a xs
-  askers-waits_front s a [] ys w = tt
-  askers-waits_front s a (b ∷ r) ys w = (w.0, askers-waits_front s b r ys w.1)
+  pub waits_front : (s : Stage) (a : ℕ) (xs ys : List ℕ) → WaitsBehind m s a (xs ++ ys) → WaitsBehind m s a xs
+  waits_front s a [] ys w = tt
+  waits_front s a (b ∷ r) ys w = (w.0, waits_front s b r ys w.1)
 
-  pub askers-waits_back : (s : Stage) (a : ℕ) (xs : List ℕ) (b : ℕ) (ys : List ℕ) → WaitsBehind m s a (xs ++ (b ∷ ys)) → WaitsBehind m s b ys
-  askers-waits_back s a [] b ys w = w.1
-  askers-waits_back s a (x ∷ xs) b ys w = askers-waits_back s x xs b ys w.1
+  pub waits_back : (s : Stage) (a : ℕ) (xs : List ℕ) (b : ℕ) (ys : List ℕ) → WaitsBehind m s a (xs ++ (b ∷ ys)) → WaitsBehind m s b ys
+  waits_back s a [] b ys w = w.1
+  waits_back s a (x ∷ xs) b ys w = waits_back s x xs b ys w.1
 
   -- a person right behind another waits for that one's home
-  pub askers-waits_pair : (s : Stage) (a : ℕ) (xs past : List ℕ) (d e : ℕ) (zs : List ℕ) → WaitsBehind m s a xs → a ∷ xs ≡ past ++ (d ∷ e ∷ zs) → wish m s e ≡ home m d
-  askers-waits_pair s a [] [] d e zs w q = let z : [] ≡ e ∷ zs = cc in absurd (cc)
-  askers-waits_pair s a (x ∷ xs) [] d e zs w q =
+  pub waits_pair : (s : Stage) (a : ℕ) (xs past : List ℕ) (d e : ℕ) (zs : List ℕ) → WaitsBehind m s a xs → a ∷ xs ≡ past ++ (d ∷ e ∷ zs) → wish m s e ≡ home m d
+  waits_pair s a [] [] d e zs w q = let z : [] ≡ e ∷ zs = cc in absurd (cc)
+  waits_pair s a (x ∷ xs) [] d e zs w q =
       let z : a ≡ d = cc in
       let z2 : x ≡ e = cc in
       subst (λ y. wish m s y ≡ home m d) z2 (w.0.2 ∙ sym w.0.1 ∙ ap (home m) z)
-  askers-waits_pair s a [] (y ∷ ys) d e zs w q = absurd (nonempty ys (ap tail_of q))
+  waits_pair s a [] (y ∷ ys) d e zs w q = absurd (nonempty ys (ap tail_of q))
     where
       nonempty : (ys : List ℕ) → [] ≡ ys ++ (d ∷ e ∷ zs) → ⊥
       nonempty [] q = cc
       nonempty (y ∷ ys) q = cc
-  askers-waits_pair s a (x ∷ xs) (y ∷ ys) d e zs w q = askers-waits_pair s x xs ys d e zs w.1 (ap tail_of q)
+  waits_pair s a (x ∷ xs) (y ∷ ys) d e zs w q = waits_pair s x xs ys d e zs w.1 (ap tail_of q)
 
-  pub askers-wish_known : IsMarket m → (s : Stage) (p r : ℕ) → p < m.people → wish m s p ≡ Some r → r < m.rooms
+  pub wish_known : IsMarket m → (s : Stage) (p r : ℕ) → p < m.people → wish m s p ≡ Some r → r < m.rooms
   unfolding wish
-  askers-wish_known ok s p r l e = by_found (find s.rooms (list_of m p)) refl e
+  wish_known ok s p r l e = by_found (find s.rooms (list_of m p)) refl e
     where
       found_in : (q : ℕ → Bool) (xs : List ℕ) (x : ℕ) → find q xs ≡ Some x → (P : ℕ → Type 0) → ((k d : ℕ) → k < length xs → P (get_or xs k d)) → P x
       found_in q [] x e P all = absurd (cc)

@@ -23,15 +23,15 @@ abbrev pub first_or : ℕ → List ℕ → ℕ
 first_or z [] = z
 first_or z (x ∷ xs) = x
 
-pub askers-next_is : (next previous : List ℕ) (a : ℕ) (xs : List ℕ) (z : ℕ) → Links next previous a xs z
+pub next_is : (next previous : List ℕ) (a : ℕ) (xs : List ℕ) (z : ℕ) → Links next previous a xs z
     → get_or next a 0 ≡ first_or z xs
-askers-next_is next previous a [] z l = l.0
-askers-next_is next previous a (x ∷ xs) z l = l.0
+next_is next previous a [] z l = l.0
+next_is next previous a (x ∷ xs) z l = l.0
 
 links_left : (next previous : List ℕ) (a : ℕ) (xs : List ℕ) (x : ℕ) (ys : List ℕ) (z : ℕ)
     → Links next previous a (xs ++ (x ∷ ys)) z
     → (get_or previous x 0 ≡ last_of a xs) × (get_or next x 0 ≡ first_or z ys)
-links_left next previous a [] x ys z l = (l.1, askers-next_is next previous x ys z l.2)
+links_left next previous a [] x ys z l = (l.1, next_is next previous x ys z l.2)
 links_left next previous a (w ∷ xs) x ys z l = links_left next previous w xs x ys z l.2
 
 -- writing elsewhere keeps the links
@@ -57,7 +57,7 @@ pub link_cut_out : (next previous : List ℕ) (a : ℕ) (xs : List ℕ) (x : ℕ
     → behind < length previous → Once (xs ++ (x ∷ ys)) → among (xs ++ (x ∷ ys)) a ≡ false
     → among (xs ++ (x ∷ ys)) z ≡ false
     → Links next previous a (xs ++ (x ∷ ys)) z → Links (set next before behind) (set previous behind before) a (xs ++ ys) z
-link_cut_out next previous a [] x ys z before behind eb eh lb lh once na nz l = by_rest ys once na nz l.2 (eh ∙ askers-next_is next previous x ys z l.2)
+link_cut_out next previous a [] x ys z before behind eb eh lb lh once na nz l = by_rest ys once na nz l.2 (eh ∙ next_is next previous x ys z l.2)
   where
     at_a : before ≡ a
     at_a = eb ∙ l.1
@@ -110,7 +110,7 @@ pub link_put_in : (next previous : List ℕ) (x : ℕ) (ys : List ℕ) (end firs
 link_put_in next previous x ys end first ef lx le px pf nx ne once nend l = (
   get_or-set_same (set next x first) end x 0 (omega (arith, length-set next x first)),
   get_or-set_same (set previous first x) x end 0 (omega (arith, length-set previous first x)),
-  by_rest ys nx once nend l (ef ∙ askers-next_is next previous end ys end l),
+  by_rest ys nx once nend l (ef ∙ next_is next previous end ys end l),
 )
   where
     next' : List ℕ
@@ -174,73 +174,73 @@ split_in (y ∷ ys) p h =
     ]
 
 module _ (next previous : List ℕ) (waits : List Bool) (xs : List ℕ) (ring : IsLinkedRing next previous waits xs) where
-  pub askers-end_out : among xs (length waits) ≡ false
-  askers-end_out = false_from_ne_true (among xs (length waits)) (λ y. let l : length waits < length waits = ring.known (length waits) y in absurd (omega arith))
+  pub end_out : among xs (length waits) ≡ false
+  end_out = false_from_ne_true (among xs (length waits)) (λ y. let l : length waits < length waits = ring.known (length waits) y in absurd (omega arith))
 
-  pub askers-people_are : linked_people next waits ≡ xs
-  askers-people_are = along_links next previous (length waits) (length waits) xs (length waits) ring.links askers-end_out (once_few (length waits) xs ring.once ring.known)
+  pub people_are : linked_people next waits ≡ xs
+  people_are = along_links next previous (length waits) (length waits) xs (length waits) ring.links end_out (once_few (length waits) xs ring.once ring.known)
 
-  askers-links_at : (us vs : List ℕ) (p : ℕ) → xs ≡ us ++ (p ∷ vs)
+  links_at : (us vs : List ℕ) (p : ℕ) → xs ≡ us ++ (p ∷ vs)
       → Links next previous (length waits) (us ++ (p ∷ vs)) (length waits)
-  askers-links_at us vs p e = subst (λ z. Links next previous (length waits) z (length waits)) e ring.links
+  links_at us vs p e = subst (λ z. Links next previous (length waits) z (length waits)) e ring.links
 
-  askers-without_is : (us vs : List ℕ) (p : ℕ) → xs ≡ us ++ (p ∷ vs) → without p xs ≡ us ++ vs
-  askers-without_is us vs p e =
+  without_is : (us vs : List ℕ) (p : ℕ) → xs ≡ us ++ (p ∷ vs) → without p xs ≡ us ++ vs
+  without_is us vs p e =
       let o : Once (us ++ (p ∷ vs)) = subst Once e ring.once in
       let n : among us p ≡ false = false_from_ne_true (among us p) (λ y. both_ways (among (p ∷ vs) p) (once_apart us (p ∷ vs) o p y) (among_self p vs)) in
       ap (without p) e ∙ without-append p us (p ∷ vs) n
       ∙ ap (λ z. us ++ z) (without_hit p p vs (eq-eqb p p refl) ∙ without_absent p vs (once_right us (p ∷ vs) o).0)
 
-  askers-last_known : (us : List ℕ) (vs : List ℕ) (p : ℕ) → xs ≡ us ++ (p ∷ vs)
+  last_known : (us : List ℕ) (vs : List ℕ) (p : ℕ) → xs ≡ us ++ (p ∷ vs)
       → last_of (length waits) us < length next
-  askers-last_known [] vs p e = omega (arith, ring.next_len)
-  askers-last_known (u ∷ us) vs p e =
+  last_known [] vs p e = omega (arith, ring.next_len)
+  last_known (u ∷ us) vs p e =
       let i : last_of u us < length waits = ring.known (last_of u us) (subst (λ z. among z (last_of u us) ≡ true) (sym e) (among_left (u ∷ us) (p ∷ vs) (last_of u us) (among_last u us))) in
       omega (arith, ring.next_len)
 
-  askers-first_or_known : (vs : List ℕ) → ((q : ℕ) → among vs q ≡ true → q < length waits)
+  first_or_known : (vs : List ℕ) → ((q : ℕ) → among vs q ≡ true → q < length waits)
       → first_or (length waits) vs < length previous
-  askers-first_or_known [] h = omega (arith, ring.previous_len)
-  askers-first_or_known (v ∷ vs) h = let l : v < length waits = h v (among_self v vs) in omega (arith, ring.previous_len)
+  first_or_known [] h = omega (arith, ring.previous_len)
+  first_or_known (v ∷ vs) h = let l : v < length waits = h v (among_self v vs) in omega (arith, ring.previous_len)
 
-  pub askers-before_known : (p before : ℕ) → among xs p ≡ true → before ≡ get_or previous p before
+  pub before_known : (p before : ℕ) → among xs p ≡ true → before ≡ get_or previous p before
       → before < length next
-  askers-before_known p before i eb =
+  before_known p before i eb =
       let s : (us : List ℕ) × (vs : List ℕ) × (xs ≡ us ++ (p ∷ vs)) = split_in xs p i in
       let l : p < length waits = ring.known p i in
-      let e : before ≡ last_of (length waits) s.0 = eb ∙ read_same previous p before 0 (omega (arith, ring.previous_len)) ∙ (links_left next previous (length waits) s.0 p s.1 (length waits) (askers-links_at s.0 s.1 p s.2)).0 in
-      subst (λ z. z < length next) (sym e) (askers-last_known s.0 s.1 p s.2)
+      let e : before ≡ last_of (length waits) s.0 = eb ∙ read_same previous p before 0 (omega (arith, ring.previous_len)) ∙ (links_left next previous (length waits) s.0 p s.1 (length waits) (links_at s.0 s.1 p s.2)).0 in
+      subst (λ z. z < length next) (sym e) (last_known s.0 s.1 p s.2)
 
-  pub askers-behind_known : (p behind : ℕ) → among xs p ≡ true → behind ≡ get_or next p behind
+  pub behind_known : (p behind : ℕ) → among xs p ≡ true → behind ≡ get_or next p behind
       → behind < length previous
-  askers-behind_known p behind i eh =
+  behind_known p behind i eh =
       let s : (us : List ℕ) × (vs : List ℕ) × (xs ≡ us ++ (p ∷ vs)) = split_in xs p i in
       let l : p < length waits = ring.known p i in
-      let e : behind ≡ first_or (length waits) s.1 = eh ∙ read_same next p behind 0 (omega (arith, ring.next_len)) ∙ (links_left next previous (length waits) s.0 p s.1 (length waits) (askers-links_at s.0 s.1 p s.2)).1 in
+      let e : behind ≡ first_or (length waits) s.1 = eh ∙ read_same next p behind 0 (omega (arith, ring.next_len)) ∙ (links_left next previous (length waits) s.0 p s.1 (length waits) (links_at s.0 s.1 p s.2)).1 in
       subst (λ z. z < length previous) (sym e)
-      (askers-first_or_known s.1 (λ q h. ring.known q (subst (λ z. among z q ≡ true) (sym s.2) (among_right s.0 (p ∷ s.1) q (among_more p s.1 q h)))))
+      (first_or_known s.1 (λ q h. ring.known q (subst (λ z. among z q ≡ true) (sym s.2) (among_right s.0 (p ∷ s.1) q (among_more p s.1 q h)))))
 
-  pub askers-cut_links : (p before behind : ℕ) → among xs p ≡ true → before ≡ get_or previous p before
+  pub cut_links : (p before behind : ℕ) → among xs p ≡ true → before ≡ get_or previous p before
       → behind ≡ get_or next p behind
       → Links (set next before behind) (set previous behind before) (length waits) (without p xs) (length waits)
-  askers-cut_links p before behind i eb eh =
+  cut_links p before behind i eb eh =
       let s : (us : List ℕ) × (vs : List ℕ) × (xs ≡ us ++ (p ∷ vs)) = split_in xs p i in
       let l : p < length waits = ring.known p i in
       let o : Once (s.0 ++ (p ∷ s.1)) = subst Once s.2 ring.once in
-      let n : among (s.0 ++ (p ∷ s.1)) (length waits) ≡ false = subst (λ z. among z (length waits) ≡ false) s.2 askers-end_out in
-      subst (λ z. Links (set next before behind) (set previous behind before) (length waits) z (length waits)) (sym (askers-without_is s.0 s.1 p s.2))
+      let n : among (s.0 ++ (p ∷ s.1)) (length waits) ≡ false = subst (λ z. among z (length waits) ≡ false) s.2 end_out in
+      subst (λ z. Links (set next before behind) (set previous behind before) (length waits) z (length waits)) (sym (without_is s.0 s.1 p s.2))
       (link_cut_out next previous (length waits) s.0 p s.1 (length waits) before behind
       (eb ∙ read_same previous p before 0 (omega (arith, ring.previous_len))) (eh ∙ read_same next p behind 0 (omega (arith, ring.next_len)))
-      (askers-before_known p before i eb) (askers-behind_known p behind i eh) o n n (askers-links_at s.0 s.1 p s.2))
+      (before_known p before i eb) (behind_known p behind i eh) o n n (links_at s.0 s.1 p s.2))
 
   -- a person leaves
-  pub askers-cut_ring : (p before behind : ℕ) → among xs p ≡ true → before ≡ get_or previous p before
+  pub cut_ring : (p before behind : ℕ) → among xs p ≡ true → before ≡ get_or previous p before
       → behind ≡ get_or next p behind
       → IsLinkedRing (set next before behind) (set previous behind before) (set waits p false) (without p xs)
-  askers-cut_ring p before behind i eb eh = record {
+  cut_ring p before behind i eb eh = record {
     next_len = length-set next before behind ∙ ring.next_len ∙ ap suc (sym (length-set waits p false));
     previous_len = length-set previous behind before ∙ ring.previous_len ∙ ap suc (sym (length-set waits p false));
-    links = subst (λ z. Links (set next before behind) (set previous behind before) z (without p xs) z) (sym (length-set waits p false)) (askers-cut_links p before behind i eb eh);
+    links = subst (λ z. Links (set next before behind) (set previous behind before) z (without p xs) z) (sym (length-set waits p false)) (cut_links p before behind i eb eh);
     once = once_without p xs ring.once;
     known = λ q h. subst (λ z. q < z) (sym (length-set waits p false)) (ring.known q (and_parts (among xs q) (not (p == q)) (sym (among-without p xs q) ∙ h)).0);
     waits_are = λ q. elim (cases_eq q p) [
@@ -255,23 +255,23 @@ module _ (next previous : List ℕ) (waits : List Bool) (xs : List ℕ) (ring : 
     l : p < length waits
     l = ring.known p i
 
-    askers-out : among (without p xs) (length waits) ≡ false
-    askers-out = among-without p xs (length waits) ∙ and_left (among xs (length waits)) (not (p == length waits)) askers-end_out
+    end_left_out : among (without p xs) (length waits) ≡ false
+    end_left_out = among-without p xs (length waits) ∙ and_left (among xs (length waits)) (not (p == length waits)) end_out
 
-    askers-ef2 : first ≡ get_or (set next before behind) (length waits) 0
-    askers-ef2 = ap (λ z. z) ef ∙ ap (λ z. get_or (set next before behind) z first) ee ∙ read_same (set next before behind) (length waits) first 0 (omega (arith, length-set next before behind, ring.next_len))
+    first_is_next : first ≡ get_or (set next before behind) (length waits) 0
+    first_is_next = ap (λ z. z) ef ∙ ap (λ z. get_or (set next before behind) z first) ee ∙ read_same (set next before behind) (length waits) first 0 (omega (arith, length-set next before behind, ring.next_len))
 
-    pub askers-first_known : first < length previous
-    askers-first_known = subst (λ z. z < length previous) (sym (askers-ef2 ∙ askers-next_is (set next before behind) (set previous behind before) (length waits) (without p xs) (length waits) (askers-cut_links p before behind i eb eh)))
-        (askers-first_or_known (without p xs) (λ q h. ring.known q (and_parts (among xs q) (not (p == q)) (sym (among-without p xs q) ∙ h)).0))
+    pub first_known : first < length previous
+    first_known = subst (λ z. z < length previous) (sym (first_is_next ∙ next_is (set next before behind) (set previous behind before) (length waits) (without p xs) (length waits) (cut_links p before behind i eb eh)))
+        (first_or_known (without p xs) (λ q h. ring.known q (and_parts (among xs q) (not (p == q)) (sym (among-without p xs q) ∙ h)).0))
 
-    pub askers-front_ring : IsLinkedRing (set (set (set next before behind) p first) end p) (set (set (set previous behind before) first p) p end) waits (p ∷ without p xs)
-    askers-front_ring = subst (λ z. IsLinkedRing (set (set (set next before behind) p first) z p) (set (set (set previous behind before) first p) p z) waits (p ∷ without p xs)) (sym ee) record {
+    pub front_ring : IsLinkedRing (set (set (set next before behind) p first) end p) (set (set (set previous behind before) first p) p end) waits (p ∷ without p xs)
+    front_ring = subst (λ z. IsLinkedRing (set (set (set next before behind) p first) z p) (set (set (set previous behind before) first p) p z) waits (p ∷ without p xs)) (sym ee) record {
       next_len = length-set (set (set next before behind) p first) (length waits) p ∙ length-set (set next before behind) p first ∙ length-set next before behind ∙ ring.next_len;
       previous_len = length-set (set (set previous behind before) first p) p (length waits) ∙ length-set (set previous behind before) first p ∙ length-set previous behind before ∙ ring.previous_len;
-      links = link_put_in (set next before behind) (set previous behind before) p (without p xs) (length waits) first askers-ef2
-          (omega (arith, length-set next before behind, ring.next_len, l)) (omega (arith, length-set next before behind, ring.next_len)) (omega (arith, length-set previous behind before, ring.previous_len, l)) (omega (arith, length-set previous behind before, askers-first_known))
-          gone (λ e. omega (arith, l)) (once_without p xs ring.once) askers-out (askers-cut_links p before behind i eb eh);
+      links = link_put_in (set next before behind) (set previous behind before) p (without p xs) (length waits) first first_is_next
+          (omega (arith, length-set next before behind, ring.next_len, l)) (omega (arith, length-set next before behind, ring.next_len)) (omega (arith, length-set previous behind before, ring.previous_len, l)) (omega (arith, length-set previous behind before, first_known))
+          gone (λ e. omega (arith, l)) (once_without p xs ring.once) end_left_out (cut_links p before behind i eb eh);
       once = (gone, once_without p xs ring.once);
       known = λ q h. elim (or_cases (p == q) (among (without p xs) q) h) [
         | inl y ↦ subst (λ z. z < length waits) (eqb-true p q y) l
@@ -288,34 +288,34 @@ module _ (next previous : List ℕ) (waits : List Bool) (xs : List ℕ) (ring : 
 
   -- the front leaves
   module _ (end first second : ℕ) (some : is_empty xs ≡ false) (ee : end ≡ length waits) (ef : first ≡ get_or next end first) where
-    askers-first_is : first ≡ first_or (length waits) xs
-    askers-first_is = ef ∙ ap (λ z. get_or next z first) ee ∙ read_same next (length waits) first 0 (omega (arith, ring.next_len)) ∙ askers-next_is next previous (length waits) xs (length waits) ring.links
+    first_is : first ≡ first_or (length waits) xs
+    first_is = ef ∙ ap (λ z. get_or next z first) ee ∙ read_same next (length waits) first 0 (omega (arith, ring.next_len)) ∙ next_is next previous (length waits) xs (length waits) ring.links
 
-    pub askers-front_there : among xs first ≡ true
-    askers-front_there = by_line xs refl some
+    pub front_there : among xs first ≡ true
+    front_there = by_line xs refl some
       where
         by_line : (ys : List ℕ) → xs ≡ ys → is_empty ys ≡ false → among xs first ≡ true
         by_line [] e n = absurd (cc)
-        by_line (y ∷ ys) e n = subst (λ z. among z first ≡ true) (sym e) (subst (λ z. among (y ∷ ys) z ≡ true) (sym (askers-first_is ∙ ap (first_or (length waits)) e)) (among_self y ys))
+        by_line (y ∷ ys) e n = subst (λ z. among z first ≡ true) (sym e) (subst (λ z. among (y ∷ ys) z ≡ true) (sym (first_is ∙ ap (first_or (length waits)) e)) (among_self y ys))
 
-    pub askers-front_before : end ≡ get_or previous first end
-    askers-front_before = by_line xs refl some
+    pub front_before : end ≡ get_or previous first end
+    front_before = by_line xs refl some
       where
         by_line : (ys : List ℕ) → xs ≡ ys → is_empty ys ≡ false → end ≡ get_or previous first end
         by_line [] e n = absurd (cc)
         by_line (y ∷ ys) e n =
-            let w : first ≡ y = askers-first_is ∙ ap (first_or (length waits)) e in
-            let k : first < length waits = ring.known first askers-front_there in
+            let w : first ≡ y = first_is ∙ ap (first_or (length waits)) e in
+            let k : first < length waits = ring.known first front_there in
             let links : Links next previous (length waits) (y ∷ ys) (length waits) = subst (λ z. Links next previous (length waits) z (length waits)) e ring.links in
             ee ∙ sym links.1 ∙ ap (λ z. get_or previous z 0) (sym w) ∙ read_same previous first 0 end (omega (arith, ring.previous_len))
 
-    pub askers-front_out : without first xs ≡ tail_of xs
-    askers-front_out = by_line xs refl some
+    pub front_out : without first xs ≡ tail_of xs
+    front_out = by_line xs refl some
       where
         by_line : (ys : List ℕ) → xs ≡ ys → is_empty ys ≡ false → without first xs ≡ tail_of xs
         by_line [] e n = absurd (cc)
         by_line (y ∷ ys) e n =
-            let w : first ≡ y = askers-first_is ∙ ap (first_or (length waits)) e in
+            let w : first ≡ y = first_is ∙ ap (first_or (length waits)) e in
             let o : Once (y ∷ ys) = subst Once e ring.once in
             ap₂ without w e ∙ without_hit y y ys (eq-eqb y y refl) ∙ without_absent y ys o.0 ∙ sym (ap tail_of e)
 

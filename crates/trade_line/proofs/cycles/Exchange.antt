@@ -23,49 +23,49 @@ reach_same g k group closed same {a} {b} (there r) h =
     there (subst (λ z. Reach k z b) (sym (same a h)) (reach_same g k group closed same r (closed a h)))
 
 module _ (m : Market) where
-  pub cycles-successor_at : (s : Stage) (p : ℕ) (o : Option ℕ) → wish m s p ≡ o → successor m s p ≡ target m s p o
+  pub successor_at : (s : Stage) (p : ℕ) (o : Option ℕ) → wish m s p ≡ o → successor m s p ≡ target m s p o
   unfolding successor
-  cycles-successor_at s p o e = ap (target m s p) e
+  successor_at s p o e = ap (target m s p) e
 
-  pub cycles-taken_gives : (s : Stage) (k : ℕ → Bool) (r : ℕ) → taken m s k r ≡ true → (q : ℕ) × (q < m.people) × (k q ≡ true) × (wish m s q ≡ Some r)
+  pub taken_gives : (s : Stage) (k : ℕ → Bool) (r : ℕ) → taken m s k r ≡ true → (q : ℕ) × (q < m.people) × (k q ≡ true) × (wish m s q ≡ Some r)
   unfolding taken
-  cycles-taken_gives s k r h =
+  taken_gives s k r h =
       let t : (q : ℕ) × (q < m.people) × ((k q && is_room r (wish m s q)) ≡ true) = some_gives m.people (λ p. k p && is_room r (wish m s p)) h in
       let b : (k t.0 ≡ true) × (is_room r (wish m s t.0) ≡ true) = and_parts (k t.0) (is_room r (wish m s t.0)) t.2 in
       (t.0, t.1, b.0, is_room_gives r (wish m s t.0) b.1)
 
   -- a person in one trade and not in another doesn't point into the other
-  pub cycles-points_past : (s : Stage) (k l : ℕ → Bool) → IsTrade m s k → IsTrade m s l → (p : ℕ) → l p ≡ true → k p ≡ false → k (successor m s p) ≡ false
-  cycles-points_past s k l tk tl p h f =
+  pub points_past : (s : Stage) (k l : ℕ → Bool) → IsTrade m s k → IsTrade m s l → (p : ℕ) → l p ≡ true → k p ≡ false → k (successor m s p) ≡ false
+  points_past s k l tk tl p h f =
       false_from_ne_true (k (successor m s p)) (λ t. both_ways (k p) f (reach_closed (successor m s) k tk.closed (tl.cycle p h) t))
 
-  pub cycles-wish_keeps : (s : Stage) (k l : ℕ → Bool) → IsTrade m s k → IsTrade m s l → (p : ℕ) → l p ≡ true → k p ≡ false → wish m (leave m s k) p ≡ wish m s p
+  pub wish_keeps : (s : Stage) (k l : ℕ → Bool) → IsTrade m s k → IsTrade m s l → (p : ℕ) → l p ≡ true → k p ≡ false → wish m (leave m s k) p ≡ wish m s p
   unfolding wish leave
-  cycles-wish_keeps s k l tk tl p h f =
+  wish_keeps s k l tk tl p h f =
       ap (λ o. or_else o (home m p)) (find_keeps s.rooms (leave m s k).rooms (list_of m p) (λ y t. (and_parts (s.rooms y) (not (taken m s k y)) t).0) stays)
     where
       stays : (x : ℕ) → find s.rooms (list_of m p) ≡ Some x → (leave m s k).rooms x ≡ true
       stays x e =
           let w : wish m s p ≡ Some x = rw e refl in
           let free : taken m s k x ≡ false = false_from_ne_true (taken m s k x) (λ t.
-          let g : (q : ℕ) × (q < m.people) × (k q ≡ true) × (wish m s q ≡ Some x) = cycles-taken_gives s k x t in
-          let same : successor m s g.0 ≡ successor m s p = cycles-successor_at s g.0 (Some x) g.3 ∙ sym (cycles-successor_at s p (Some x) w) in
-          both_ways (k (successor m s p)) (cycles-points_past s k l tk tl p h f) (subst (λ z. k z ≡ true) same (tk.closed g.0 g.2))) in
+          let g : (q : ℕ) × (q < m.people) × (k q ≡ true) × (wish m s q ≡ Some x) = taken_gives s k x t in
+          let same : successor m s g.0 ≡ successor m s p = successor_at s g.0 (Some x) g.3 ∙ sym (successor_at s p (Some x) w) in
+          both_ways (k (successor m s p)) (points_past s k l tk tl p h f) (subst (λ z. k z ≡ true) same (tk.closed g.0 g.2))) in
           and_from (s.rooms x) (not (taken m s k x)) (find_passes s.rooms (list_of m p) x e) (not_from_false (taken m s k x) free)
 
-  pub cycles-first_stays : (s : Stage) (k : ℕ → Bool) → k (first m s) ≡ false → first m (leave m s k) ≡ first m s
+  pub first_stays : (s : Stage) (k : ℕ → Bool) → k (first m s) ≡ false → first m (leave m s k) ≡ first m s
   unfolding first leave
-  cycles-first_stays s k f =
+  first_stays s k f =
       ap (λ o. unwrap_or o 0) (first_keeps m.people s.people (leave m s k).people (λ y t. (and_parts (s.people y) (not (k y)) t).0) (λ x e.
       let fx : k x ≡ false = subst (λ z. k z ≡ false) (ap (λ o. unwrap_or o 0) e) f in
       and_from (s.people x) (not (k x)) (first_passes m.people s.people x e).0 (not_from_false (k x) fx)))
 
-  cycles-holder_keeps : (s : Stage) (k : ℕ → Bool) (r : ℕ) → k (holder m s r) ≡ false → holder m (leave m s k) r ≡ holder m s r
+  holder_keeps : (s : Stage) (k : ℕ → Bool) (r : ℕ) → k (holder m s r) ≡ false → holder m (leave m s k) r ≡ holder m s r
   unfolding holder leave
-  cycles-holder_keeps s k r f = by_tenant (tenant m r) f
+  holder_keeps s k r f = by_tenant (tenant m r) f
     where
       by_tenant : (o : Option ℕ) → k (tenant_or_first m s o) ≡ false → tenant_or_first m (leave m s k) o ≡ tenant_or_first m s o
-      by_tenant None f = cycles-first_stays s k f
+      by_tenant None f = first_stays s k f
       by_tenant (Some t) f =
           elim (cases_Bool (s.people t)) [
             | inl y ↦
@@ -73,23 +73,23 @@ module _ (m : Market) where
                 rw (y, fx) refl
             | inr n ↦
                 let fx : k (first m s) ≡ false = subst (λ z. k z ≡ false) (cond-false (s.people t) t (first m s) n) f in
-                rw n (cycles-first_stays s k fx)
+                rw n (first_stays s k fx)
           ]
 
-  pub cycles-successor_keeps : (s : Stage) (k l : ℕ → Bool) → IsTrade m s k → IsTrade m s l → (p : ℕ) → l p ≡ true → k p ≡ false → successor m (leave m s k) p ≡ successor m s p
-  cycles-successor_keeps s k l tk tl p h f =
-      cycles-successor_at (leave m s k) p (wish m s p) (cycles-wish_keeps s k l tk tl p h f) ∙ by_wish (wish m s p) refl
+  pub successor_keeps : (s : Stage) (k l : ℕ → Bool) → IsTrade m s k → IsTrade m s l → (p : ℕ) → l p ≡ true → k p ≡ false → successor m (leave m s k) p ≡ successor m s p
+  successor_keeps s k l tk tl p h f =
+      successor_at (leave m s k) p (wish m s p) (wish_keeps s k l tk tl p h f) ∙ by_wish (wish m s p) refl
     where
       by_wish : (o : Option ℕ) → wish m s p ≡ o → target m (leave m s k) p o ≡ successor m s p
-      by_wish None e = sym (cycles-successor_at s p None e)
+      by_wish None e = sym (successor_at s p None e)
       by_wish (Some r) e =
-          let w : successor m s p ≡ holder m s r = cycles-successor_at s p (Some r) e in
-          let past : k (holder m s r) ≡ false = subst (λ z. k z ≡ false) w (cycles-points_past s k l tk tl p h f) in
-          cycles-holder_keeps s k r past ∙ sym w
+          let w : successor m s p ≡ holder m s r = successor_at s p (Some r) e in
+          let past : k (holder m s r) ≡ false = subst (λ z. k z ≡ false) w (points_past s k l tk tl p h f) in
+          holder_keeps s k r past ∙ sym w
 
-  pub cycles-trade_left_over : (s : Stage) (k l : ℕ → Bool) → IsTrade m s k → IsTrade m s l → IsTrade m (leave m s k) (minus k l)
+  pub trade_left_over : (s : Stage) (k l : ℕ → Bool) → IsTrade m s k → IsTrade m s l → IsTrade m (leave m s k) (minus k l)
   unfolding leave
-  cycles-trade_left_over s k l tk tl = record {
+  trade_left_over s k l tk tl = record {
     known = λ p h. tl.known p (parts p h).0;
     remain = λ p h. and_from (s.people p) (not (k p)) (tl.remain p (parts p h).0) (parts p h).1;
     closed = λ p h. subst (λ z. minus k l z ≡ true) (sym (same p h)) (stay p h);
@@ -101,8 +101,8 @@ module _ (m : Market) where
       parts p h = and_parts (l p) (not (k p)) h
 
       same : (p : ℕ) → minus k l p ≡ true → successor m (leave m s k) p ≡ successor m s p
-      same p h = cycles-successor_keeps s k l tk tl p (parts p h).0 (not-true (k p) (parts p h).1)
+      same p h = successor_keeps s k l tk tl p (parts p h).0 (not-true (k p) (parts p h).1)
 
       stay : (p : ℕ) → minus k l p ≡ true → minus k l (successor m s p) ≡ true
       stay p h = and_from (l (successor m s p)) (not (k (successor m s p))) (tl.closed p (parts p h).0)
-          (not_from_false (k (successor m s p)) (cycles-points_past s k l tk tl p (parts p h).0 (not-true (k p) (parts p h).1)))
+          (not_from_false (k (successor m s p)) (points_past s k l tk tl p (parts p h).0 (not-true (k p) (parts p h).1)))

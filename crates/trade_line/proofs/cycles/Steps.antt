@@ -11,34 +11,34 @@ use Rattle.trade_line.specs.Inner.Removal.{IsTrade, Leads}
 use Rattle.trade_line.specs.Inner.Removal.Leads.{done, trade}
 use Rattle.trade_line.proofs.searches.Search.{some_gives, some_from, first_finds, first_passes}
 use Rattle.trade_line.proofs.counts.Count.{count_le, count_most, count_some, count_less, pigeonhole, times_reach, times_after, times_sum, times_stays}
-use Rattle.trade_line.proofs.cycles.Unique.{cycles-wishes_lead_to_one}
+use Rattle.trade_line.proofs.cycles.Unique.{wishes_lead_to_one}
 
 module _ (m : Market) where
-  cycles-first_remains : (s : Stage) → IsStageOf m s → (p : ℕ) → s.people p ≡ true → s.people (first m s) ≡ true
+  first_remains : (s : Stage) → IsStageOf m s → (p : ℕ) → s.people p ≡ true → s.people (first m s) ≡ true
   unfolding first
-  cycles-first_remains s known p h =
+  first_remains s known p h =
       let r : (y : ℕ) × (first_below m.people s.people ≡ Some y) = first_finds m.people s.people p (known p h) h in
       subst (λ z. s.people z ≡ true) (sym (ap (λ o. unwrap_or o 0) r.1)) (first_passes m.people s.people r.0 r.1).0
 
-  cycles-holder_remains : (s : Stage) → IsStageOf m s → (p r : ℕ) → s.people p ≡ true → s.people (holder m s r) ≡ true
+  holder_remains : (s : Stage) → IsStageOf m s → (p r : ℕ) → s.people p ≡ true → s.people (holder m s r) ≡ true
   unfolding holder
-  cycles-holder_remains s known p r h = by_tenant (tenant m r)
+  holder_remains s known p r h = by_tenant (tenant m r)
     where
       by_tenant : (o : Option ℕ) → s.people (tenant_or_first m s o) ≡ true
-      by_tenant None = cycles-first_remains s known p h
+      by_tenant None = first_remains s known p h
       by_tenant (Some t) =
           elim (cases_Bool (s.people t)) [
             | inl y ↦ rw y y
-            | inr n ↦ rw n (cycles-first_remains s known p h)
+            | inr n ↦ rw n (first_remains s known p h)
           ]
 
-  pub cycles-successor_remains : (s : Stage) → IsStageOf m s → (p : ℕ) → s.people p ≡ true → s.people (successor m s p) ≡ true
+  pub successor_remains : (s : Stage) → IsStageOf m s → (p : ℕ) → s.people p ≡ true → s.people (successor m s p) ≡ true
   unfolding successor
-  cycles-successor_remains s known p h = by_wish (wish m s p)
+  successor_remains s known p h = by_wish (wish m s p)
     where
       by_wish : (o : Option ℕ) → s.people (target m s p o) ≡ true
       by_wish None = h
-      by_wish (Some r) = cycles-holder_remains s known p r h
+      by_wish (Some r) = holder_remains s known p r h
 
   pub cycles_trade : (s : Stage) → IsStageOf m s → IsTrade m s (is_on_cycle m s)
   unfolding is_on_cycle
@@ -49,7 +49,7 @@ module _ (m : Market) where
         let c : (k : ℕ) × (k < remaining_count m s) × ((iterate (successor m s) (suc k) p == p) ≡ true) = turn p h in
         let e : iterate (successor m s) (suc c.0) (successor m s p) ≡ successor m s p = times_after (successor m s) (suc c.0) p ∙ ap (successor m s) (eqb-true (iterate (successor m s) (suc c.0) p) p c.2) in
         and_from (s.people (successor m s p)) (some_below (remaining_count m s) (λ k. iterate (successor m s) (suc k) (successor m s p) == successor m s p))
-        (cycles-successor_remains s known p (parts p h).0)
+        (successor_remains s known p (parts p h).0)
         (some_from (remaining_count m s) (λ k. iterate (successor m s) (suc k) (successor m s p) == successor m s p) c.0 c.1 (eq-eqb (iterate (successor m s) (suc c.0) (successor m s p)) (successor m s p) e));
     cycle = λ p h.
         let c : (k : ℕ) × (k < remaining_count m s) × ((iterate (successor m s) (suc k) p == p) ≡ true) = turn p h in
@@ -63,11 +63,11 @@ module _ (m : Market) where
       turn p h = some_gives (remaining_count m s) (λ k. iterate (successor m s) (suc k) p == p) (parts p h).1
 
   -- while somebody remains, somebody is on a cycle
-  pub cycles-cycle_exists : (s : Stage) → IsStageOf m s → (p : ℕ) → s.people p ≡ true → (q : ℕ) × (is_on_cycle m s q ≡ true)
+  pub cycle_exists : (s : Stage) → IsStageOf m s → (p : ℕ) → s.people p ≡ true → (q : ℕ) × (is_on_cycle m s q ≡ true)
   unfolding is_on_cycle
-  cycles-cycle_exists s known p h =
+  cycle_exists s known p h =
       let x : ℕ → ℕ = λ i. iterate (successor m s) i p in
-      let inside : (i : ℕ) → s.people (iterate (successor m s) i p) ≡ true = λ i. times_stays (successor m s) s.people (cycles-successor_remains s known) i p h in
+      let inside : (i : ℕ) → s.people (iterate (successor m s) i p) ≡ true = λ i. times_stays (successor m s) s.people (successor_remains s known) i p h in
       let r : (i : ℕ) × (j : ℕ) × (i < j) × (j < suc (remaining_count m s)) × (iterate (successor m s) i p ≡ iterate (successor m s) j p) =
       pigeonhole (remaining_count m s) m.people s.people (λ i. iterate (successor m s) i p) (λ i l. (known (iterate (successor m s) i p) (inside i), inside i)) (le_refl (remaining_count m s)) in
       let d : ℕ = r.1 - suc r.0 in
@@ -80,23 +80,23 @@ module _ (m : Market) where
             (some_from (remaining_count m s) (λ k. iterate (successor m s) (suc k) q == q) d (omega (arith, r.2, r.3)) (eq-eqb (iterate (successor m s) (suc d) q) q e)),
       )
 
-  pub cycles-leads_where_same : (f g : ℕ → Option ℕ) {s : Stage} → Leads m f s → ((p : ℕ) → s.people p ≡ true → f p ≡ g p) → Leads m g s
+  pub leads_where_same : (f g : ℕ → Option ℕ) {s : Stage} → Leads m f s → ((p : ℕ) → s.people p ≡ true → f p ≡ g p) → Leads m g s
   unfolding leave
-  cycles-leads_where_same f g (done none) e = done none
-  cycles-leads_where_same f g {s} (trade k tk fk d) e =
-      trade k tk (λ p h. sym (e p (tk.remain p h)) ∙ fk p h) (cycles-leads_where_same f g d (λ p h. e p (and_parts (s.people p) (not (k p)) h).0))
+  leads_where_same f g (done none) e = done none
+  leads_where_same f g {s} (trade k tk fk d) e =
+      trade k tk (λ p h. sym (e p (tk.remain p h)) ∙ fk p h) (leads_where_same f g d (λ p h. e p (and_parts (s.people p) (not (k p)) h).0))
 
-  pub cycles-leave_known : (s : Stage) (k : ℕ → Bool) → IsStageOf m s → IsStageOf m (leave m s k)
+  pub leave_known : (s : Stage) (k : ℕ → Bool) → IsStageOf m s → IsStageOf m (leave m s k)
   unfolding leave
-  cycles-leave_known s k known p h = known p (and_parts (s.people p) (not (k p)) h).0
+  leave_known s k known p h = known p (and_parts (s.people p) (not (k p)) h).0
 
-  pub cycles-step_fewer : (s : Stage) → IsStageOf m s → (k : ℕ) → remaining_count m s ≤ suc k → remaining_count m (step m s) ≤ k
+  pub step_fewer : (s : Stage) → IsStageOf m s → (k : ℕ) → remaining_count m s ≤ suc k → remaining_count m (step m s) ≤ k
   unfolding leave
-  cycles-step_fewer s known k few =
+  step_fewer s known k few =
       elim (cases_lt 0 (remaining_count m s)) [
         | inl some ↦
             let x : (x : ℕ) × (x < m.people) × (s.people x ≡ true) = count_some m.people s.people some in
-            let q : (q : ℕ) × (is_on_cycle m s q ≡ true) = cycles-cycle_exists s known x.0 x.2 in
+            let q : (q : ℕ) × (is_on_cycle m s q ≡ true) = cycle_exists s known x.0 x.2 in
             let t : IsTrade m s (is_on_cycle m s) = cycles_trade s known in
             let less : count_below m.people (λ p. s.people p && not (is_on_cycle m s p)) < count_below m.people s.people =
             count_less m.people (λ p. s.people p && not (is_on_cycle m s p)) s.people q.0 (λ y h. (and_parts (s.people y) (not (is_on_cycle m s y)) h).0) (t.known q.0 q.1) (t.remain q.0 q.1)
@@ -108,29 +108,29 @@ module _ (m : Market) where
             omega arith
       ]
 
-  pub cycles-within_leads : (k : ℕ) (s : Stage) → IsStageOf m s → remaining_count m s ≤ k → Leads m (gets_within m k s) s
+  pub within_leads : (k : ℕ) (s : Stage) → IsStageOf m s → remaining_count m s ≤ k → Leads m (gets_within m k s) s
   unfolding gets_within leave
-  cycles-within_leads zero s known few =
+  within_leads zero s known few =
       done (λ p. false_from_ne_true (s.people p) (λ h.
       let l : count_below m.people (λ _. false) < count_below m.people s.people = count_less m.people (λ _. false) s.people p (λ y f. absurd (both_ways false refl f)) (known p h) h refl in
       omega arith))
-  cycles-within_leads (suc k) s known few =
+  within_leads (suc k) s known few =
       let t : IsTrade m s (is_on_cycle m s) = cycles_trade s known in
-      let d : Leads m (gets_within m k (step m s)) (step m s) = cycles-within_leads k (step m s) (cycles-leave_known s (is_on_cycle m s) known) (cycles-step_fewer s known k few) in
+      let d : Leads m (gets_within m k (step m s)) (step m s) = within_leads k (step m s) (leave_known s (is_on_cycle m s) known) (step_fewer s known k few) in
       trade (is_on_cycle m s) t
       (λ p h. cond-true (is_on_cycle m s p) (wish m s p) (gets_within m k (step m s) p) h)
-      (cycles-leads_where_same (gets_within m k (step m s)) (gets_within m (suc k) s) d
+      (leads_where_same (gets_within m k (step m s)) (gets_within m (suc k) s) d
       (λ p h. sym (cond-false (is_on_cycle m s p) (wish m s p) (gets_within m k (step m s) p) (not-true (is_on_cycle m s p) (and_parts (s.people p) (not (is_on_cycle m s p)) h).1))))
 
-  pub cycles-start_known : IsStageOf m (start m)
+  pub start_known : IsStageOf m (start m)
   unfolding start
-  cycles-start_known p h = ltb-true p m.people h
+  start_known p h = ltb-true p m.people h
 
-  pub cycles-gets_leads : Leads m (gets m) (start m)
+  pub gets_leads : Leads m (gets m) (start m)
   unfolding gets start
-  cycles-gets_leads = cycles-within_leads m.people (start m) cycles-start_known (count_most m.people (start m).people)
+  gets_leads = within_leads m.people (start m) start_known (count_most m.people (start m).people)
 
   -- the result of any removals from the start is that of the simultaneous steps
-  pub cycles-leads_gets : (f : ℕ → Option ℕ) → Leads m f (start m) → (p : ℕ) → p < m.people → f p ≡ gets m p
+  pub leads_gets : (f : ℕ → Option ℕ) → Leads m f (start m) → (p : ℕ) → p < m.people → f p ≡ gets m p
   unfolding start
-  cycles-leads_gets f d p h = cycles-wishes_lead_to_one m f (gets m) d cycles-gets_leads p (lt-ltb p m.people h)
+  leads_gets f d p h = wishes_lead_to_one m f (gets m) d gets_leads p (lt-ltb p m.people h)

@@ -32,8 +32,8 @@ some_within None P r h e = absurd (cc)
 some_within (Some x) P r h e = let z : x ≡ r = cc in subst P z h
 
 module _ (people rooms : ℕ) (homes : List (Option ℕ)) (lists : List (Vec ℕ Global)) where
-  pub markets-indexed_from : length homes ≡ people → length lists ≡ people → All (λ h. IfSome h (λ r. r < rooms)) homes → All (λ v. All (λ r. r < rooms) v.items) lists → IsIndexed (market_of people rooms homes lists)
-  markets-indexed_from he le hs ls = record {
+  pub indexed_from : length homes ≡ people → length lists ≡ people → All (λ h. IfSome h (λ r. r < rooms)) homes → All (λ v. All (λ r. r < rooms) v.items) lists → IsIndexed (market_of people rooms homes lists)
+  indexed_from he le hs ls = record {
     homes_len = he;
     lists_len = length-map lists (λ v. v.items) ∙ le;
     homes_known = λ p r l e. some_within (get_or homes p None) (λ r. r < rooms) r (hs p None (omega arith)) e;
@@ -46,12 +46,12 @@ module _ (people rooms : ℕ) (homes : List (Option ℕ)) (lists : List (Vec ℕ
           let at : p < length lists = subst (λ z. p < length z) (sym e) l in
           subst (All (λ r. r < rooms)) (sym (list_at lists p v at)) (ls p v at)
 
-  pub markets-indexed_homes : IsIndexed (market_of people rooms homes lists) → All (λ h. IfSome h (λ r. r < rooms)) homes
-  markets-indexed_homes ok k d l =
+  pub indexed_homes : IsIndexed (market_of people rooms homes lists) → All (λ h. IfSome h (λ r. r < rooms)) homes
+  indexed_homes ok k d l =
       if_some (get_or homes k d) (λ r. r < rooms) (λ r e. ok.homes_known k r (let z : length homes ≡ people = ok.homes_len in omega arith) (read_same homes k None d l ∙ e))
 
-  pub markets-indexed_lists : IsIndexed (market_of people rooms homes lists) → All (λ v. All (λ r. r < rooms) v.items) lists
-  markets-indexed_lists ok k d l =
+  pub indexed_lists : IsIndexed (market_of people rooms homes lists) → All (λ v. All (λ r. r < rooms) v.items) lists
+  indexed_lists ok k d l =
       let z : length (map (λ v. v.items) lists) ≡ people = ok.lists_len in
       let y : length (map (λ v. v.items) lists) ≡ length lists = length-map lists (λ v. v.items) in
       subst (All (λ r. r < rooms)) (list_at lists k d l) (ok.lists_known k (omega arith))
@@ -61,12 +61,12 @@ module _ (homes : List (Option ℕ)) where
   abbrev lives : ℕ → ℕ → Bool
   lives r p = is_room r (get_or homes p None)
 
-  markets-none_twice : (x : Option ℕ) → or_else x None ≡ x
-  markets-none_twice None = refl
-  markets-none_twice (Some y) = refl
+  none_twice : (x : Option ℕ) → or_else x None ≡ x
+  none_twice None = refl
+  none_twice (Some y) = refl
 
-  markets-more_differ : (n : ℕ) → ((p q r : ℕ) → p < n → q < n → get_or homes p None ≡ Some r → get_or homes q None ≡ Some r → p ≡ q) → ((p r : ℕ) → p < n → get_or homes p None ≡ Some r → get_or homes n None ≡ Some r → ⊥) → (p q r : ℕ) → p < n + 1 → q < n + 1 → get_or homes p None ≡ Some r → get_or homes q None ≡ Some r → p ≡ q
-  markets-more_differ n d none p q r lp lq ep eq =
+  more_differ : (n : ℕ) → ((p q r : ℕ) → p < n → q < n → get_or homes p None ≡ Some r → get_or homes q None ≡ Some r → p ≡ q) → ((p r : ℕ) → p < n → get_or homes p None ≡ Some r → get_or homes n None ≡ Some r → ⊥) → (p q r : ℕ) → p < n + 1 → q < n + 1 → get_or homes p None ≡ Some r → get_or homes q None ≡ Some r → p ≡ q
+  more_differ n d none p q r lp lq ep eq =
       elim (cases_lt p n) [
         | inl pn ↦ elim (cases_lt q n) [
           | inl qn ↦ d p q r pn qn ep eq
@@ -78,16 +78,16 @@ module _ (homes : List (Option ℕ)) where
         ]
       ]
 
-  pub markets-housed_none : (tenants : List (Option ℕ)) (n : ℕ) → AreHoused homes tenants n → get_or homes n None ≡ None → AreHoused homes tenants (n + 1)
-  markets-housed_none tenants n h e = record {
-    housed = λ r l. h.housed r l ∙ sym (rw (add-one, e) (markets-none_twice (first_below n (lives r))));
-    differ = markets-more_differ n h.differ (λ p r l ep en. absurd (let z : None ≡ Some r = sym e ∙ en in cc));
+  pub housed_none : (tenants : List (Option ℕ)) (n : ℕ) → AreHoused homes tenants n → get_or homes n None ≡ None → AreHoused homes tenants (n + 1)
+  housed_none tenants n h e = record {
+    housed = λ r l. h.housed r l ∙ sym (rw (add-one, e) (none_twice (first_below n (lives r))));
+    differ = more_differ n h.differ (λ p r l ep en. absurd (let z : None ≡ Some r = sym e ∙ en in cc));
   }
 
-  pub markets-housed_some : (tenants : List (Option ℕ)) (n room : ℕ) → AreHoused homes tenants n → get_or homes n None ≡ Some room → room < length tenants → get_or tenants room None ≡ None → AreHoused homes (set tenants room (Some n)) (n + 1)
-  markets-housed_some tenants n room h e l free = record {
+  pub housed_some : (tenants : List (Option ℕ)) (n room : ℕ) → AreHoused homes tenants n → get_or homes n None ≡ Some room → room < length tenants → get_or tenants room None ≡ None → AreHoused homes (set tenants room (Some n)) (n + 1)
+  housed_some tenants n room h e l free = record {
     housed = housed;
-    differ = markets-more_differ n h.differ (λ p r lp ep en.
+    differ = more_differ n h.differ (λ p r lp ep en.
         let z : Some room ≡ Some r = sym e ∙ en in
         let zz : r ≡ room = cc in
         let found : (y : ℕ) × (first_below n (lives room) ≡ Some y) = first_finds n (lives room) p lp (is_room_from room (get_or homes p None) (ep ∙ ap Some zz)) in
@@ -104,12 +104,12 @@ module _ (homes : List (Option ℕ)) where
                 ap (λ z. get_or (set tenants room (Some n)) z None) q ∙ get_or-set_same tenants room (Some n) None l ∙ sym (rw (add-one, none, here) refl)
             | inr d ↦
                 let away : is_room r (get_or homes n None) ≡ false = ap (is_room r) e ∙ ne_eqb room r (λ x. d (sym x)) in
-                get_or-set_other tenants room r (Some n) None d ∙ h.housed r (subst (λ z. r < z) (length-set tenants room (Some n)) rl) ∙ sym (rw (add-one, away) (markets-none_twice (first_below n (lives r))))
+                get_or-set_other tenants room r (Some n) None d ∙ h.housed r (subst (λ z. r < z) (length-set tenants room (Some n)) rl) ∙ sym (rw (add-one, away) (none_twice (first_below n (lives r))))
           ]
 
   -- an earlier person already has that home
-  pub markets-housed_shared : (tenants : List (Option ℕ)) (n room : ℕ) → AreHoused homes tenants n → get_or homes n None ≡ Some room → room < length tenants → is_some (get_or tenants room None) ≡ true → (p : ℕ) × (p < n) × (get_or homes p None ≡ Some room)
-  markets-housed_shared tenants n room h e l some = by_found (get_or tenants room None) refl some
+  pub housed_shared : (tenants : List (Option ℕ)) (n room : ℕ) → AreHoused homes tenants n → get_or homes n None ≡ Some room → room < length tenants → is_some (get_or tenants room None) ≡ true → (p : ℕ) × (p < n) × (get_or homes p None ≡ Some room)
+  housed_shared tenants n room h e l some = by_found (get_or tenants room None) refl some
     where
       by_found : (o : Option ℕ) → get_or tenants room None ≡ o → is_some o ≡ true → (p : ℕ) × (p < n) × (get_or homes p None ≡ Some room)
       by_found None f s = absurd (both_ways false refl s)
@@ -118,8 +118,8 @@ module _ (homes : List (Option ℕ)) where
           (y, was.1, is_room_gives room (get_or homes y None) was.0)
 
 module _ (m : Market) where
-  pub markets-distinct_more : (last new : List ℕ) (n : ℕ) → AreDistinct m last n → AllPairs ◌≢◌ (list_of m n) → length new ≡ length last → ((r : ℕ) → r < length last → (get_or new r 0 ≡ get_or last r 0) ⊎ (get_or new r 0 ≡ n)) → AreDistinct m new (n + 1)
-  markets-distinct_more last new n a pairs same kept = record {
+  pub distinct_more : (last new : List ℕ) (n : ℕ) → AreDistinct m last n → AllPairs ◌≢◌ (list_of m n) → length new ≡ length last → ((r : ℕ) → r < length last → (get_or new r 0 ≡ get_or last r 0) ⊎ (get_or new r 0 ≡ n)) → AreDistinct m new (n + 1)
+  distinct_more last new n a pairs same kept = record {
     same_len = same ∙ a.same_len;
     distinct = λ p l. elim (cases_lt p n) [
       | inl pn ↦ a.distinct p pn

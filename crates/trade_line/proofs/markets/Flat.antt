@@ -8,8 +8,8 @@ use Rattle.std.proofs.Math.Seq.{take-suc}
 use Rattle.trade_line.specs.Inner.Flat.{flat_list, flat_lists, AreFlat}
 
 module _ (entries starts : List ℕ) (lists : List (List ℕ)) (flat : AreFlat entries starts lists) where
-  pub markets-flat_lists_are : flat_lists entries starts ≡ lists
-  markets-flat_lists_are =
+  pub flat_lists_are : flat_lists entries starts ≡ lists
+  flat_lists_are =
       let n : pred (length starts) ≡ length lists = omega (arith, flat.starts_len) in
       ap (λ k. map (flat_list entries starts) (range_with_len 0 k)) n
       ∙ sym (fill_by_all (flat_list entries starts) lists (length lists) [] refl (λ k l. sym (flat.lists_are k l)))
@@ -82,4 +82,4 @@ flat_whole entries starts lists n h flat = subst (AreFlat entries starts) (take_
 
 pub flat_self : (entries starts : List ℕ) (lists : List (List ℕ)) → AreFlat entries starts lists
     → AreFlat entries starts (flat_lists entries starts)
-flat_self entries starts lists flat = subst (AreFlat entries starts) (sym (markets-flat_lists_are entries starts lists flat)) flat
+flat_self entries starts lists flat = subst (AreFlat entries starts) (sym (flat_lists_are entries starts lists flat)) flat

@@ -39,55 +39,55 @@ pub some_more : (n : ℕ) (q : ℕ → Bool) → some_below n q ≡ false → q 
 some_more n q none not_here = rw (add-one, none, not_here) refl
 
 module _ (m : Market) where
-  pub searches-known_marks : (s : Remaining) → AreMarks m s → IsStageOf m (remains s)
-  searches-known_marks s searches-marks p h =
+  pub known_marks : (s : Remaining) → AreMarks m s → IsStageOf m (remains s)
+  known_marks s marks p h =
       elim (cases_lt p m.people) [
         | inl l ↦ l
-        | inr n ↦ absurd (both_ways (get_or s.people.items p false) (get_or_past s.people.items p false (omega (arith, searches-marks.people_len))) h)
+        | inr n ↦ absurd (both_ways (get_or s.people.items p false) (get_or_past s.people.items p false (omega (arith, marks.people_len))) h)
       ]
 
-  pub searches-first_is : (s : Stage) (i : ℕ) → i < m.people → first_below i s.people ≡ None → s.people i ≡ true → i ≡ first m s
+  pub first_is : (s : Stage) (i : ℕ) → i < m.people → first_below i s.people ≡ None → s.people i ≡ true → i ≡ first m s
   unfolding first
-  searches-first_is s i l none ok = sym (ap (λ o. unwrap_or o 0) (first_at m.people i s.people l none ok))
+  first_is s i l none ok = sym (ap (λ o. unwrap_or o 0) (first_at m.people i s.people l none ok))
 
-  pub searches-first_none : (s : Stage) → first_below m.people s.people ≡ None → 0 ≡ first m s
+  pub first_none : (s : Stage) → first_below m.people s.people ≡ None → 0 ≡ first m s
   unfolding first
-  searches-first_none s none = sym (ap (λ o. unwrap_or o 0) none)
+  first_none s none = sym (ap (λ o. unwrap_or o 0) none)
 
-  pub searches-points_none : (s : Stage) (p : ℕ) → wish m s p ≡ None → p ≡ successor m s p
+  pub points_none : (s : Stage) (p : ℕ) → wish m s p ≡ None → p ≡ successor m s p
   unfolding successor
-  searches-points_none s p e = sym (ap (target m s p) e)
+  points_none s p e = sym (ap (target m s p) e)
 
-  pub searches-points_tenant : (s : Stage) (p r t : ℕ) → wish m s p ≡ Some r → tenant m r ≡ Some t → s.people t ≡ true → t ≡ successor m s p
+  pub points_tenant : (s : Stage) (p r t : ℕ) → wish m s p ≡ Some r → tenant m r ≡ Some t → s.people t ≡ true → t ≡ successor m s p
   unfolding successor holder
-  searches-points_tenant s p r t e ht here = sym (ap (target m s p) e ∙ ap (tenant_or_first m s) ht ∙ cond-true (s.people t) t (first m s) here)
+  points_tenant s p r t e ht here = sym (ap (target m s p) e ∙ ap (tenant_or_first m s) ht ∙ cond-true (s.people t) t (first m s) here)
 
-  pub searches-points_served : (s : Stage) (p r t : ℕ) → wish m s p ≡ Some r → tenant m r ≡ Some t → s.people t ≡ false → first m s ≡ successor m s p
+  pub points_served : (s : Stage) (p r t : ℕ) → wish m s p ≡ Some r → tenant m r ≡ Some t → s.people t ≡ false → first m s ≡ successor m s p
   unfolding successor holder
-  searches-points_served s p r t e ht gone = sym (ap (target m s p) e ∙ ap (tenant_or_first m s) ht ∙ cond-false (s.people t) t (first m s) gone)
+  points_served s p r t e ht gone = sym (ap (target m s p) e ∙ ap (tenant_or_first m s) ht ∙ cond-false (s.people t) t (first m s) gone)
 
-  pub searches-points_vacant : (s : Stage) (p r : ℕ) → wish m s p ≡ Some r → tenant m r ≡ None → first m s ≡ successor m s p
+  pub points_vacant : (s : Stage) (p r : ℕ) → wish m s p ≡ Some r → tenant m r ≡ None → first m s ≡ successor m s p
   unfolding successor holder
-  searches-points_vacant s p r e none = sym (ap (target m s p) e ∙ ap (tenant_or_first m s) none)
+  points_vacant s p r e none = sym (ap (target m s p) e ∙ ap (tenant_or_first m s) none)
 
-  pub searches-cycle_gone : (s : Stage) (p : ℕ) → s.people p ≡ false → is_on_cycle m s p ≡ false
+  pub cycle_gone : (s : Stage) (p : ℕ) → s.people p ≡ false → is_on_cycle m s p ≡ false
   unfolding is_on_cycle
-  searches-cycle_gone s p gone = ap (λ b. b && some_below (remaining_count m s) (λ k. iterate (successor m s) (suc k) p == p)) gone
+  cycle_gone s p gone = ap (λ b. b && some_below (remaining_count m s) (λ k. iterate (successor m s) (suc k) p == p)) gone
 
-  pub searches-cycle_none : (s : Stage) (p : ℕ) → s.people p ≡ true → some_below (remaining_count m s) (λ k. iterate (successor m s) (suc k) p == p) ≡ false → is_on_cycle m s p ≡ false
+  pub cycle_none : (s : Stage) (p : ℕ) → s.people p ≡ true → some_below (remaining_count m s) (λ k. iterate (successor m s) (suc k) p == p) ≡ false → is_on_cycle m s p ≡ false
   unfolding is_on_cycle
-  searches-cycle_none s p here none = ap (λ b. b && some_below (remaining_count m s) (λ k. iterate (successor m s) (suc k) p == p)) here ∙ none
+  cycle_none s p here none = ap (λ b. b && some_below (remaining_count m s) (λ k. iterate (successor m s) (suc k) p == p)) here ∙ none
 
-  pub searches-cycle_found : (s : Stage) (p k : ℕ) → s.people p ≡ true → k < remaining_count m s → successor m s (iterate (successor m s) k p) ≡ p → is_on_cycle m s p ≡ true
+  pub cycle_found : (s : Stage) (p k : ℕ) → s.people p ≡ true → k < remaining_count m s → successor m s (iterate (successor m s) k p) ≡ p → is_on_cycle m s p ≡ true
   unfolding is_on_cycle
-  searches-cycle_found s p k here l back =
+  cycle_found s p k here l back =
       and_from (s.people p) (some_below (remaining_count m s) (λ k. iterate (successor m s) (suc k) p == p)) here
       (some_from (remaining_count m s) (λ k. iterate (successor m s) (suc k) p == p) k l (eq-eqb (iterate (successor m s) (suc k) p) p (times_after (successor m s) k p ∙ back)))
 
 module _ (m : Market) (s : Stage) (old : List (Option ℕ)) where
   module _ (given : List (Option ℕ)) (people rooms : List Bool) (n : ℕ) (t : Stepping m s old given people rooms n) where
-    pub searches-stepping_stays : is_on_cycle m s n ≡ false → Stepping m s old given people rooms (n + 1)
-    searches-stepping_stays off = record {
+    pub stepping_stays : is_on_cycle m s n ≡ false → Stepping m s old given people rooms (n + 1)
+    stepping_stays off = record {
       people_len = t.people_len;
       rooms_len = t.rooms_len;
       given_len = t.given_len;
@@ -104,8 +104,8 @@ module _ (m : Market) (s : Stage) (old : List (Option ℕ)) where
       kept = λ p l. t.kept p (omega arith);
     }
 
-    pub searches-stepping_leaves : n < m.people → is_on_cycle m s n ≡ true → ((x : ℕ) → wish m s n ≡ Some x → x < m.rooms) → Stepping m s old (set given n (wish m s n)) (set people n false) (close rooms (wish m s n)) (n + 1)
-    searches-stepping_leaves nl on known = record {
+    pub stepping_leaves : n < m.people → is_on_cycle m s n ≡ true → ((x : ℕ) → wish m s n ≡ Some x → x < m.rooms) → Stepping m s old (set given n (wish m s n)) (set people n false) (close rooms (wish m s n)) (n + 1)
+    stepping_leaves nl on known = record {
       people_len = length-set people n false ∙ t.people_len;
       rooms_len = length-close rooms (wish m s n) ∙ t.rooms_len;
       given_len = length-set given n (wish m s n) ∙ t.given_len;
@@ -125,9 +125,9 @@ module _ (m : Market) (s : Stage) (old : List (Option ℕ)) where
       kept = λ p l. let d : p ≡ n → ⊥ = λ e. omega arith in get_or-set_other given n p (wish m s n) None d ∙ t.kept p (omega arith);
     }
 
-  pub searches-stepping_end : (given : List (Option ℕ)) (people rooms : List Bool) → Stepping m s old given people rooms m.people → marked_stage people rooms ≡ step m s
+  pub stepping_end : (given : List (Option ℕ)) (people rooms : List Bool) → Stepping m s old given people rooms m.people → marked_stage people rooms ≡ step m s
   unfolding leave taken
-  searches-stepping_end given people rooms t = same_stage (marked_stage people rooms) (step m s) by_people t.rooms_left
+  stepping_end given people rooms t = same_stage (marked_stage people rooms) (step m s) by_people t.rooms_left
     where
       by_people : (p : ℕ) → get_or people p false ≡ (s.people p && not (is_on_cycle m s p))
       by_people p =
@@ -139,34 +139,34 @@ module _ (m : Market) (s : Stage) (old : List (Option ℕ)) where
                 past ∙ sym (ap (λ b. b && not (is_on_cycle m s p)) gone)
           ]
 
-searches-marks : (n k : ℕ) → n ≡ k → (i : ℕ) → get_or (replicate n true) i false ≡ ltb i k
-searches-marks n k e i =
+marks : (n k : ℕ) → n ≡ k → (i : ℕ) → get_or (replicate n true) i false ≡ ltb i k
+marks n k e i =
     elim (cases_lt i k) [
       | inl l ↦ get_or-replicate n i true false (omega arith) ∙ sym (lt-ltb i k l)
       | inr ge ↦ get_or_past (replicate n true) i false (let z : length (replicate n true) ≡ n = length-replicate n true in omega arith) ∙ sym (le-ltb i k ge)
     ]
 
 module _ (m : Market) where
-  pub searches-stepped_start : (n rooms : ℕ) → n ≡ m.people → rooms ≡ m.rooms → Stepped m (marked_stage (replicate n true) (replicate rooms true)) (replicate n None) m.people
+  pub stepped_start : (n rooms : ℕ) → n ≡ m.people → rooms ≡ m.rooms → Stepped m (marked_stage (replicate n true) (replicate rooms true)) (replicate n None) m.people
   unfolding gets start
-  searches-stepped_start n rooms e f = record {
+  stepped_start n rooms e f = record {
     gone = λ p l h. absurd (both_ways (get_or (replicate n true) p false) h (get_or-replicate n p true false (omega arith)));
     there = λ p l h. ap (λ z. gets_within m m.people z p) (sym same);
     nothing = λ p l h. get_or-replicate n p None None (omega arith);
   }
     where
       same : marked_stage (replicate n true) (replicate rooms true) ≡ start m
-      same = same_stage (marked_stage (replicate n true) (replicate rooms true)) (start m) (λ p. searches-marks n m.people e p) (λ r. searches-marks rooms m.rooms f r)
+      same = same_stage (marked_stage (replicate n true) (replicate rooms true)) (start m) (λ p. marks n m.people e p) (λ r. marks rooms m.rooms f r)
 
-  pub searches-stepped_more : (s : Stage) (given new : List (Option ℕ)) (k : ℕ) → Stepped m s given (suc k) → Gives m s given new → Stepped m (step m s) new k
+  pub stepped_more : (s : Stage) (given new : List (Option ℕ)) (k : ℕ) → Stepped m s given (suc k) → Gives m s given new → Stepped m (step m s) new k
   unfolding gets_within leave
-  searches-stepped_more s given new k t gives = record {
+  stepped_more s given new k t gives = record {
     gone = λ p l h. elim (cases_Bool (s.people p)) [
       | inl here ↦ elim (cases_Bool (is_on_cycle m s p)) [
         | inl on ↦ t.there p l here ∙ cond-true (is_on_cycle m s p) (wish m s p) (gets_within m k (step m s) p) on ∙ sym (gives p l ∙ cond-true (is_on_cycle m s p) (wish m s p) (get_or given p None) on)
         | inr off ↦ absurd (both_ways (s.people p && not (is_on_cycle m s p)) h (rw (here, off) refl))
       ]
-      | inr away ↦ t.gone p l away ∙ sym (gives p l ∙ cond-false (is_on_cycle m s p) (wish m s p) (get_or given p None) (searches-cycle_gone m s p away))
+      | inr away ↦ t.gone p l away ∙ sym (gives p l ∙ cond-false (is_on_cycle m s p) (wish m s p) (get_or given p None) (cycle_gone m s p away))
     ];
     there = λ p l h. t.there p l (here p h) ∙ cond-false (is_on_cycle m s p) (wish m s p) (gets_within m k (step m s) p) (off p h);
     nothing = λ p l h. gives p l ∙ cond-false (is_on_cycle m s p) (wish m s p) (get_or given p None) (off p h) ∙ t.nothing p l (here p h);
@@ -178,9 +178,9 @@ module _ (m : Market) where
       off : (p : ℕ) → (s.people p && not (is_on_cycle m s p)) ≡ true → is_on_cycle m s p ≡ false
       off p h = not-true (is_on_cycle m s p) (and_parts (s.people p) (not (is_on_cycle m s p)) h).1
 
-  pub searches-stepped_end : (s : Stage) (given : List (Option ℕ)) → Stepped m s given 0 → length given ≡ m.people → given ≡ ttc m
+  pub stepped_end : (s : Stage) (given : List (Option ℕ)) → Stepped m s given 0 → length given ≡ m.people → given ≡ ttc m
   unfolding ttc gets_within
-  searches-stepped_end s given t l = fill_by_all (gets m) given m.people None l (λ p pl. elim (cases_Bool (s.people p)) [
+  stepped_end s given t l = fill_by_all (gets m) given m.people None l (λ p pl. elim (cases_Bool (s.people p)) [
     | inl here ↦ t.nothing p pl here ∙ sym (t.there p pl here)
     | inr away ↦ sym (t.gone p pl away)
   ])

@@ -8,9 +8,9 @@ use Rattle.trade_line.specs.Inner.Turn.{IsConsistent}
 use Rattle.trade_line.specs.Inner.Reads.{reads, skipped}
 use Rattle.trade_line.specs.Inner.Looks.{cursor, CursorAt, StaysAt, AreCursors}
 use Rattle.trade_line.proofs.counts.Looks.{skipped_most, found_at, none_at, find_on}
-use Rattle.trade_line.proofs.welfare.Ranks.{welfare-rank_home}
+use Rattle.trade_line.proofs.welfare.Ranks.{rank_home}
 use Rattle.trade_line.proofs.turns.States.{read_same}
-use Rattle.trade_line.proofs.turns.Cursors.{turns-stays_at, turns-marked_cursors}
+use Rattle.trade_line.proofs.turns.Cursors.{stays_at, marked_cursors}
 
 module _ (m : Market) where
   -- what an ask finds, and what it costs
@@ -23,18 +23,18 @@ module _ (m : Market) where
     pub none : o ≡ None → (place ≡ length (list_of m a)) × (read ≡ passed)
     pub ends : o ≡ None → CursorAt m (set c a place) a (home m a)
 
-  pub turns-ask_finds : (s v : State) (a : ℕ) (c : List ℕ) (remaining : List Bool) (list : List ℕ) (from place read : ℕ) (o : Option ℕ)
+  pub ask_finds : (s v : State) (a : ℕ) (c : List ℕ) (remaining : List Bool) (list : List ℕ) (from place read : ℕ) (o : Option ℕ)
       → IsConsistent m s → front_of s.line ≡ Some a → v.line ≡ s.line → v.asked ≡ set s.asked a true
       → v.remaining ≡ s.remaining → v.given ≡ s.given → AreCursors m s c
       → a < m.people → remaining ≡ v.remaining → list ≡ list_of m a → from ≡ get_or c a from → o ≡ find (λ r. get_or remaining r false) (drop from list) → place ≡ from + skipped (λ r. get_or remaining r false) (drop from list) → read ≡ reads (λ r. get_or remaining r false) (drop from list) → AskFinds v a c place read o
-  turns-ask_finds s v a c remaining list from place read o st e x y z u tr known re le fe oe pe de = record {
+  ask_finds s v a c remaining list from place read o st e x y z u tr known re le fe oe pe de = record {
     passed = n;
     place_is = passes;
     cursors = cursors;
     found = find_on q xs at past ∙ sym oe2;
     some = λ w ow. (
         let f : (n < length rest) × (get_or rest n 0 ≡ w) × (reads q rest ≡ suc n) = found_at q rest w (sym oe2 ∙ ow) in (
-          turns-stays_at m st.fits.market (set c a place) a place w known (omega (arith, f.0, passes, len)) (ap (λ k. get_or xs k 0) passes ∙ sym (get_or-drop at xs n 0) ∙ f.1) moved,
+          stays_at m st.fits.market (set c a place) a place w known (omega (arith, f.0, passes, len)) (ap (λ k. get_or xs k 0) passes ∙ sym (get_or-drop at xs n 0) ∙ f.1) moved,
           de2 ∙ f.2,
         ));
     none = λ on. (
@@ -42,7 +42,7 @@ module _ (m : Market) where
         (omega (arith, f.0, passes, len), de2 ∙ f.1 ∙ sym f.0));
     ends = λ on. (
         let f : (n ≡ length rest) × (reads q rest ≡ length rest) = none_at q rest (sym oe2 ∙ on) in
-        omega (arith, welfare-rank_home m st.fits.market a known, f.0, passes, len, moved));
+        omega (arith, rank_home m st.fits.market a known, f.0, passes, len, moved));
   }
     where
       q : ℕ → Bool
@@ -89,4 +89,4 @@ module _ (m : Market) where
       past k l = ap (λ b. get_or b (get_or (list_of m a) k 0) false) z ∙ tr.gone a k known l
 
       cursors : AreCursors m v (set c a place)
-      cursors = turns-marked_cursors m s v a place c (set c a place) st e x y z u tr refl passes (omega (arith, passes, len, most))
+      cursors = marked_cursors m s v a place c (set c a place) st e x y z u tr refl passes (omega (arith, passes, len, most))

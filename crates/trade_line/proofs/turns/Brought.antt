@@ -15,16 +15,16 @@ use Rattle.trade_line.specs.Inner.Turn.{Asks, Onward, asked_in}
 use Rattle.trade_line.proofs.counts.Count.{count_less}
 use Rattle.trade_line.proofs.cycles.Unique.{same_stage}
 use Rattle.trade_line.proofs.askers.Lines.{among-without, once_without, without-append, length-without, ascends_without}
-use Rattle.trade_line.proofs.turns.Turns.{marked, brought, turns-marked_stays, turns-marked_unasked, tenant_home}
+use Rattle.trade_line.proofs.turns.Turns.{marked, brought, marked_stays, marked_unasked, tenant_home}
 
 module _ (m : Market) where
   -- removing a tenant who has not asked from the line removes the tenant from those who have not asked
-  pub turns-line_without : (s : State) (a t : ℕ) (ask : Asks m a s) → has_asked s t ≡ false → without t s.line ≡ (a ∷ ask.behind) ++ without t ask.fresh
-  turns-line_without s a t ask new = ap (without t) ask.split ∙ without-append t (a ∷ ask.behind) ask.fresh (false_from_ne_true (among (a ∷ ask.behind) t) (λ y. both_ways (has_asked s t) new (ask.waiting_asked t y)))
+  pub line_without : (s : State) (a t : ℕ) (ask : Asks m a s) → has_asked s t ≡ false → without t s.line ≡ (a ∷ ask.behind) ++ without t ask.fresh
+  line_without s a t ask new = ap (without t) ask.split ∙ without-append t (a ∷ ask.behind) ask.fresh (false_from_ne_true (among (a ∷ ask.behind) t) (λ y. both_ways (has_asked s t) new (ask.waiting_asked t y)))
 
   -- the tenant of the room comes to the front
-  pub turns-bring_onward : (s : State) (a room t : ℕ) → Asks m a s → wish m (stage_at s) a ≡ Some room → tenant m room ≡ Some t → among s.line t ≡ true → has_asked s t ≡ false → Onward m s (brought s t)
-  turns-bring_onward s a room t ask w e i new = record {
+  pub bring_onward : (s : State) (a room t : ℕ) → Asks m a s → wish m (stage_at s) a ≡ Some room → tenant m room ≡ Some t → among s.line t ≡ true → has_asked s t ≡ false → Onward m s (brought s t)
+  bring_onward s a room t ask w e i new = record {
     consistent = record {
       fits = record {
         market = ask.fits.market;
@@ -35,10 +35,10 @@ module _ (m : Market) where
       queue = record {
         waiting = t ∷ a ∷ ask.behind;
         fresh = without t ask.fresh;
-        split = ap (λ z. t ∷ z) (turns-line_without s a t ask new);
+        split = ap (λ z. t ∷ z) (line_without s a t ask new);
         waiting_asked = λ p h. elim (or_cases (t == p) (among (a ∷ ask.behind) p) h) [
           | inl y ↦ subst (λ z. has_asked (marked s t) z ≡ true) (eqb-true t p y) (get_or-set_same s.asked t true false t_below)
-          | inr y ↦ turns-marked_stays m s t p t_below (ask.waiting_asked p y)
+          | inr y ↦ marked_stays m s t p t_below (ask.waiting_asked p y)
         ];
         fresh_unasked = λ p h.
             (let b : (among ask.fresh p ≡ true) × (not (t == p) ≡ true) = and_parts (among ask.fresh p) (not (t == p)) (sym (among-without t ask.fresh p) ∙ h) in
@@ -54,7 +54,7 @@ module _ (m : Market) where
         let len : suc (length (without t s.line)) ≡ length s.line = length-without t s.line ask.once i in
         let less : count_below m.people (λ p. is_tenant m p && not (has_asked (marked s t) p)) < count_below m.people (λ p. is_tenant m p && not (has_asked s p)) =
         count_less m.people (λ p. is_tenant m p && not (has_asked (marked s t) p)) (λ p. is_tenant m p && not (has_asked s p)) t
-        (turns-marked_unasked m s t t_below)
+        (marked_unasked m s t t_below)
         t_home.0 (and_from (is_tenant m t) (not (has_asked s t)) (ap is_some t_home.1) (not_from_false (has_asked s t) new))
         (and_right (is_tenant m t) (not (has_asked (marked s t) t)) (ap not (get_or-set_same s.asked t true false t_below))) in
         omega arith);
@@ -76,10 +76,10 @@ module _ (m : Market) where
           let len : suc (length (without t s.line)) ≡ length s.line = length-without t s.line ask.once i in
           let a1 : asked_in s.asked s.line ≡ suc (length ask.behind) = asked_split s.asked s.line (a ∷ ask.behind) ask.fresh ask.split ask.waiting_asked ask.fresh_unasked in
           let a2 : asked_in (set s.asked t true) (t ∷ without t s.line) ≡ suc (suc (length ask.behind)) =
-          asked_split (set s.asked t true) (t ∷ without t s.line) (t ∷ a ∷ ask.behind) (without t ask.fresh) (ap (λ z. t ∷ z) (turns-line_without s a t ask new))
+          asked_split (set s.asked t true) (t ∷ without t s.line) (t ∷ a ∷ ask.behind) (without t ask.fresh) (ap (λ z. t ∷ z) (line_without s a t ask new))
           (λ p h. elim (or_cases (t == p) (among (a ∷ ask.behind) p) h) [
             | inl y ↦ subst (λ z. has_asked (marked s t) z ≡ true) (eqb-true t p y) (get_or-set_same s.asked t true false t_below)
-            | inr y ↦ turns-marked_stays m s t p t_below (ask.waiting_asked p y)
+            | inr y ↦ marked_stays m s t p t_below (ask.waiting_asked p y)
           ])
           (λ p h.
           (let b : (among ask.fresh p ≡ true) × (not (t == p) ≡ true) = and_parts (among ask.fresh p) (not (t == p)) (sym (among-without t ask.fresh p) ∙ h) in

@@ -15,10 +15,10 @@ use Rattle.trade_line.specs.Inner.Turn.{Asks, Onward, asked_in}
 use Rattle.trade_line.specs.Inner.Loop.{Ring, Closing, Closed}
 use Rattle.trade_line.specs.Inner.Removal.Leads.{trade}
 use Rattle.trade_line.proofs.searches.Search.{clash}
-use Rattle.trade_line.proofs.cycles.Exchange.{cycles-successor_at, cycles-taken_gives}
-use Rattle.trade_line.proofs.cycles.Chain.{among_last, cycles-home_holder, cycles-ring_trade, cycles-waits_behind}
-use Rattle.trade_line.proofs.askers.Lines.{among_self, among_more, among-append, among_left, among_right, among_cases, once_right, once_apart, last_push, askers-leave_none, askers-front_leaves, askers-waits_on, askers-waits_front, askers-waits_back, askers-waits_pair, askers-wish_known}
-use Rattle.trade_line.proofs.turns.Turns.{granted, turns-granted_fits, tenant_home}
+use Rattle.trade_line.proofs.cycles.Exchange.{successor_at, taken_gives}
+use Rattle.trade_line.proofs.cycles.Chain.{among_last, home_holder, ring_trade, waits_behind}
+use Rattle.trade_line.proofs.askers.Lines.{among_self, among_more, among-append, among_left, among_right, among_cases, once_right, once_apart, last_push, leave_none, front_leaves, waits_on, waits_front, waits_back, waits_pair, wish_known}
+use Rattle.trade_line.proofs.turns.Turns.{granted, granted_fits, tenant_home}
 
 split_at : (a : ℕ) (xs : List ℕ) (t : ℕ) → among (a ∷ xs) t ≡ true → (ds : List ℕ) × (after : List ℕ) × (xs ≡ ds ++ after) × (last_of a ds ≡ t)
 split_at a [] t h = ([], [], refl, eqb-true a t (sym (or-false (a == t)) ∙ h))
@@ -37,8 +37,8 @@ last_split a xs [] h os q =
 last_split a xs (y ∷ ys) h os q = ap (last_of a) (ap tail_of q) ∙ last_push a ys h os
 
 module _ (m : Market) where
-  pub turns-ring_at : (s : State) (a room t : ℕ) → Asks m a s → wish m (stage_at s) a ≡ Some room → among s.line t ≡ true → has_asked s t ≡ true → Ring m t room s
-  turns-ring_at s a room t ask w i y =
+  pub ring_at : (s : State) (a room t : ℕ) → Asks m a s → wish m (stage_at s) a ≡ Some room → among s.line t ≡ true → has_asked s t ≡ true → Ring m t room s
+  ring_at s a room t ask w i y =
       let inside : among (a ∷ ask.behind) t ≡ true = elim (among_cases (a ∷ ask.behind) ask.fresh t (subst (λ z. among z t ≡ true) ask.split i)) [
         | inl b ↦ b
         | inr b ↦ clash (has_asked s t) y (ask.fresh_unasked t b)
@@ -46,20 +46,20 @@ module _ (m : Market) where
       let d : (ds : List ℕ) × (after : List ℕ) × (ask.behind ≡ ds ++ after) × (last_of a ds ≡ t) = split_at a ask.behind t inside in
       record { person = a; asks = ask; others = d.0; after = d.1; behind_split = d.2; ends = d.3; first_wish = w }
 
-  pub turns-ring_line : (t room : ℕ) (s : State) (ring : Ring m t room s) → s.line ≡ (ring.person ∷ ring.others) ++ (ring.after ++ ring.asks.fresh)
-  turns-ring_line t room s ring =
+  pub ring_line : (t room : ℕ) (s : State) (ring : Ring m t room s) → s.line ≡ (ring.person ∷ ring.others) ++ (ring.after ++ ring.asks.fresh)
+  ring_line t room s ring =
       ring.asks.split ∙ ap (λ z. ring.person ∷ (z ++ ring.asks.fresh)) ring.behind_split ∙ ap (λ z. ring.person ∷ z) (append_assoc ring.others ring.after ring.asks.fresh)
 
-  pub turns-closing_start : (t room : ℕ) (s : State) → Ring m t room s → Closing m t room s s (Some room)
-  turns-closing_start t room s ring = record {
+  pub closing_start : (t room : ℕ) (s : State) → Ring m t room s → Closing m t room s s (Some room)
+  closing_start t room s ring = record {
     ring = ring;
     past = [];
     here = ring.person;
     others = ring.others;
     ring_split = refl;
-    line_split = turns-ring_line t room s ring;
+    line_split = ring_line t room s ring;
     next_is = sym ring.first_wish;
-    stage = askers-leave_none m (stage_at s);
+    stage = leave_none m (stage_at s);
     given_past = λ p h. absurd (both_ways false refl h);
     given_kept = λ p h. refl;
     asked_kept = refl;
@@ -67,67 +67,67 @@ module _ (m : Market) where
   }
 
   module _ (tenant room : ℕ) (s t : State) (next : Option ℕ) (c : Closing m tenant room s t next) where
-    turns-others_after : List ℕ
-    turns-others_after = c.others ++ (c.ring.after ++ c.ring.asks.fresh)
+    others_after : List ℕ
+    others_after = c.others ++ (c.ring.after ++ c.ring.asks.fresh)
 
-    turns-whole : s.line ≡ c.past ++ t.line
-    turns-whole =
-        turns-ring_line tenant room s c.ring
+    line_is_past_first : s.line ≡ c.past ++ t.line
+    line_is_past_first =
+        ring_line tenant room s c.ring
         ∙ ap (λ z. z ++ (c.ring.after ++ c.ring.asks.fresh)) c.ring_split
         ∙ append_assoc c.past (c.here ∷ c.others) (c.ring.after ++ c.ring.asks.fresh)
         ∙ ap (λ z. c.past ++ z) (sym c.line_split)
 
-    turns-here_in : among t.line c.here ≡ true
-    turns-here_in = subst (λ z. among z c.here ≡ true) (sym c.line_split) (among_self c.here (c.others ++ (c.ring.after ++ c.ring.asks.fresh)))
+    here_in : among t.line c.here ≡ true
+    here_in = subst (λ z. among z c.here ≡ true) (sym c.line_split) (among_self c.here (c.others ++ (c.ring.after ++ c.ring.asks.fresh)))
 
-    pub turns-here_known : c.here < m.people
-    turns-here_known = c.ring.asks.known c.here (subst (λ z. among z c.here ≡ true) (sym turns-whole) (among_right c.past t.line c.here turns-here_in))
+    pub here_known : c.here < m.people
+    here_known = c.ring.asks.known c.here (subst (λ z. among z c.here ≡ true) (sym line_is_past_first) (among_right c.past t.line c.here here_in))
 
-    turns-apart : Once (c.past ++ t.line)
-    turns-apart = subst Once turns-whole c.ring.asks.once
+    apart : Once (c.past ++ t.line)
+    apart = subst Once line_is_past_first c.ring.asks.once
 
-    turns-here_once : among (c.others ++ (c.ring.after ++ c.ring.asks.fresh)) c.here ≡ false
-    turns-here_once = (subst Once c.line_split (once_right c.past t.line turns-apart)).0
+    here_once : among (c.others ++ (c.ring.after ++ c.ring.asks.fresh)) c.here ≡ false
+    here_once = (subst Once c.line_split (once_right c.past t.line apart)).0
 
-    turns-here_new : among c.past c.here ≡ false
-    turns-here_new = false_from_ne_true (among c.past c.here) (λ y. both_ways (among t.line c.here) (once_apart c.past t.line turns-apart c.here y) turns-here_in)
+    here_new : among c.past c.here ≡ false
+    here_new = false_from_ne_true (among c.past c.here) (λ y. both_ways (among t.line c.here) (once_apart c.past t.line apart c.here y) here_in)
 
-    pub turns-next_known : (x : ℕ) → next ≡ Some x → x < length t.remaining
-    turns-next_known x e = let l : x < m.rooms = askers-wish_known m c.fits.market (stage_at s) c.here x turns-here_known (sym c.next_is ∙ e) in omega (arith, c.fits.remaining_len)
+    pub next_known : (x : ℕ) → next ≡ Some x → x < length t.remaining
+    next_known x e = let l : x < m.rooms = wish_known m c.fits.market (stage_at s) c.here x here_known (sym c.next_is ∙ e) in omega (arith, c.fits.remaining_len)
 
-    pub turns-front_is : (person : ℕ) → front_of t.line ≡ Some person → c.here ≡ person
-    turns-front_is person e =
+    pub front_is : (person : ℕ) → front_of t.line ≡ Some person → c.here ≡ person
+    front_is person e =
         let z : Some c.here ≡ Some person = sym (ap front_of c.line_split) ∙ e in cc
 
-    turns-tail_is : tail_of t.line ≡ c.others ++ (c.ring.after ++ c.ring.asks.fresh)
-    turns-tail_is = ap tail_of c.line_split
+    tail_is : tail_of t.line ≡ c.others ++ (c.ring.after ++ c.ring.asks.fresh)
+    tail_is = ap tail_of c.line_split
 
-    turns-stage_after : stage_at (granted t c.here next) ≡ leave m (stage_at s) (among (c.past ++ c.here ∷ []))
-    turns-stage_after =
-        subst (λ z. stage_of z (close t.remaining next) ≡ leave m (stage_at s) (among (c.past ++ c.here ∷ []))) (sym turns-tail_is)
-        (askers-front_leaves m (stage_at s) c.past c.here (c.others ++ (c.ring.after ++ c.ring.asks.fresh)) t.remaining next
-        (ap (λ z. stage_of z t.remaining) (sym c.line_split) ∙ c.stage) turns-here_once turns-here_known (sym c.next_is) turns-next_known)
+    stage_after : stage_at (granted t c.here next) ≡ leave m (stage_at s) (among (c.past ++ c.here ∷ []))
+    stage_after =
+        subst (λ z. stage_of z (close t.remaining next) ≡ leave m (stage_at s) (among (c.past ++ c.here ∷ []))) (sym tail_is)
+        (front_leaves m (stage_at s) c.past c.here (c.others ++ (c.ring.after ++ c.ring.asks.fresh)) t.remaining next
+        (ap (λ z. stage_of z t.remaining) (sym c.line_split) ∙ c.stage) here_once here_known (sym c.next_is) next_known)
 
-    turns-given_in : (p : ℕ) → among (c.past ++ c.here ∷ []) p ≡ true → given_to (granted t c.here next) p ≡ wish m (stage_at s) p
-    turns-given_in p h =
+    given_in : (p : ℕ) → among (c.past ++ c.here ∷ []) p ≡ true → given_to (granted t c.here next) p ≡ wish m (stage_at s) p
+    given_in p h =
         elim (cases_eq p c.here) [
           | inl e ↦ subst (λ z. get_or (set t.given c.here next) z None ≡ wish m (stage_at s) z) (sym e)
-              (get_or-set_same t.given c.here next None (let l : c.here < m.people = turns-here_known in omega (arith, c.fits.given_len)) ∙ c.next_is)
+              (get_or-set_same t.given c.here next None (let l : c.here < m.people = here_known in omega (arith, c.fits.given_len)) ∙ c.next_is)
           | inr n ↦ get_or-set_other t.given c.here p next None n ∙ c.given_past p
               (elim (among_cases c.past (c.here ∷ []) p h) [ inl y ↦ y | inr y ↦ absurd (n (sym (eqb-true c.here p (sym (or-false (c.here == p)) ∙ y)))) ])
         ]
 
-    turns-given_out : (p : ℕ) → among (c.past ++ c.here ∷ []) p ≡ false → given_to (granted t c.here next) p ≡ given_to s p
-    turns-given_out p h =
+    given_out : (p : ℕ) → among (c.past ++ c.here ∷ []) p ≡ false → given_to (granted t c.here next) p ≡ given_to s p
+    given_out p h =
         let parts : (among c.past p ≡ false) × (among (c.here ∷ []) p ≡ false) = or_parts (among c.past p) (among (c.here ∷ []) p) (sym (among-append c.past (c.here ∷ []) p) ∙ h) in
         get_or-set_other t.given c.here p next None (λ e. both_ways (c.here == p) (sym (or-false (c.here == p)) ∙ parts.1) (eq-eqb c.here p (sym e))) ∙ c.given_kept p parts.0
 
-    turns-ends_at : last_of c.here c.others ≡ tenant
-    turns-ends_at = sym (last_split c.ring.person c.ring.others c.past c.here c.others c.ring_split) ∙ c.ring.ends
+    ends_at : last_of c.here c.others ≡ tenant
+    ends_at = sym (last_split c.ring.person c.ring.others c.past c.here c.others c.ring_split) ∙ c.ring.ends
 
-    turns-more_at : (os : List ℕ) → c.others ≡ os → (c.here ≡ tenant → ⊥) → Closing m tenant room s (granted t c.here next) (home m c.here)
-    turns-more_at [] e ne = absurd (ne (sym (ap (last_of c.here) e) ∙ turns-ends_at))
-    turns-more_at (h ∷ os) e ne =
+    more_at : (os : List ℕ) → c.others ≡ os → (c.here ≡ tenant → ⊥) → Closing m tenant room s (granted t c.here next) (home m c.here)
+    more_at [] e ne = absurd (ne (sym (ap (last_of c.here) e) ∙ ends_at))
+    more_at (h ∷ os) e ne =
         let split : c.ring.person ∷ c.ring.others ≡ c.past ++ (c.here ∷ h ∷ os) = c.ring_split ∙ ap (λ z. c.past ++ (c.here ∷ z)) e in
         let chain : c.ring.person ∷ c.ring.asks.behind ≡ c.past ++ (c.here ∷ h ∷ (os ++ c.ring.after)) =
         ap (λ z. c.ring.person ∷ z) c.ring.behind_split ∙ ap (λ z. z ++ c.ring.after) split ∙ append_assoc c.past (c.here ∷ h ∷ os) c.ring.after in
@@ -137,45 +137,45 @@ module _ (m : Market) where
           here = h;
           others = os;
           ring_split = split ∙ sym (append_assoc c.past (c.here ∷ []) (h ∷ os));
-          line_split = turns-tail_is ∙ ap (λ z. z ++ (c.ring.after ++ c.ring.asks.fresh)) e;
-          next_is = sym (askers-waits_pair m (stage_at s) c.ring.person c.ring.asks.behind c.past c.here h (os ++ c.ring.after) c.ring.asks.waits chain);
-          stage = turns-stage_after;
-          given_past = turns-given_in;
-          given_kept = turns-given_out;
+          line_split = tail_is ∙ ap (λ z. z ++ (c.ring.after ++ c.ring.asks.fresh)) e;
+          next_is = sym (waits_pair m (stage_at s) c.ring.person c.ring.asks.behind c.past c.here h (os ++ c.ring.after) c.ring.asks.waits chain);
+          stage = stage_after;
+          given_past = given_in;
+          given_kept = given_out;
           asked_kept = c.asked_kept;
-          fits = turns-granted_fits m t c.here next c.fits;
+          fits = granted_fits m t c.here next c.fits;
         }
 
-    turns-all_at : (os : List ℕ) → c.others ≡ os → c.here ≡ tenant → Closed m tenant room s (granted t c.here next)
-    turns-all_at (h ∷ os) e eq =
-        let last : last_of h os ≡ c.here = ap (last_of c.here) (sym e) ∙ turns-ends_at ∙ sym eq in
+    all_at : (os : List ℕ) → c.others ≡ os → c.here ≡ tenant → Closed m tenant room s (granted t c.here next)
+    all_at (h ∷ os) e eq =
+        let last : last_of h os ≡ c.here = ap (last_of c.here) (sym e) ∙ ends_at ∙ sym eq in
         let inside : among c.others c.here ≡ true = subst (λ z. among z c.here ≡ true) (sym e) (subst (λ z. among (h ∷ os) z ≡ true) last (among_last h os)) in
-        absurd (both_ways (among (c.others ++ (c.ring.after ++ c.ring.asks.fresh)) c.here) turns-here_once (among_left c.others (c.ring.after ++ c.ring.asks.fresh) c.here inside))
-    turns-all_at [] e eq =
+        absurd (both_ways (among (c.others ++ (c.ring.after ++ c.ring.asks.fresh)) c.here) here_once (among_left c.others (c.ring.after ++ c.ring.asks.fresh) c.here inside))
+    all_at [] e eq =
         let split : c.ring.person ∷ c.ring.others ≡ c.past ++ c.here ∷ [] = c.ring_split ∙ ap (λ z. c.past ++ (c.here ∷ z)) e in
         record {
           ring = c.ring;
-          line_is = turns-tail_is ∙ ap (λ z. z ++ (c.ring.after ++ c.ring.asks.fresh)) e;
-          stage = turns-stage_after ∙ ap (λ z. leave m (stage_at s) (among z)) (sym split);
-          given_ring = λ p h. turns-given_in p (subst (λ z. among z p ≡ true) split h);
-          given_kept = λ p h. turns-given_out p (subst (λ z. among z p ≡ false) split h);
+          line_is = tail_is ∙ ap (λ z. z ++ (c.ring.after ++ c.ring.asks.fresh)) e;
+          stage = stage_after ∙ ap (λ z. leave m (stage_at s) (among z)) (sym split);
+          given_ring = λ p h. given_in p (subst (λ z. among z p ≡ true) split h);
+          given_kept = λ p h. given_out p (subst (λ z. among z p ≡ false) split h);
           asked_kept = c.asked_kept;
-          fits = turns-granted_fits m t c.here next c.fits;
+          fits = granted_fits m t c.here next c.fits;
         }
 
-    pub turns-close_more : (person : ℕ) → front_of t.line ≡ Some person → (person ≡ tenant → ⊥) → Closing m tenant room s (granted t person next) (home m person)
-    turns-close_more person e ne =
-        let z : c.here ≡ person = turns-front_is person e in
-        subst (λ p. Closing m tenant room s (granted t p next) (home m p)) z (turns-more_at c.others refl (λ y. ne (sym z ∙ y)))
+    pub close_more : (person : ℕ) → front_of t.line ≡ Some person → (person ≡ tenant → ⊥) → Closing m tenant room s (granted t person next) (home m person)
+    close_more person e ne =
+        let z : c.here ≡ person = front_is person e in
+        subst (λ p. Closing m tenant room s (granted t p next) (home m p)) z (more_at c.others refl (λ y. ne (sym z ∙ y)))
 
-    pub turns-close_all : (person : ℕ) → front_of t.line ≡ Some person → person ≡ tenant → Closed m tenant room s (granted t person next)
-    turns-close_all person e eq =
-        let z : c.here ≡ person = turns-front_is person e in
-        subst (λ p. Closed m tenant room s (granted t p next)) z (turns-all_at c.others refl (z ∙ eq))
+    pub close_all : (person : ℕ) → front_of t.line ≡ Some person → person ≡ tenant → Closed m tenant room s (granted t person next)
+    close_all person e eq =
+        let z : c.here ≡ person = front_is person e in
+        subst (λ p. Closed m tenant room s (granted t p next)) z (all_at c.others refl (z ∙ eq))
 
   -- the whole loop has left
-  pub turns-closed_onward : (t room : ℕ) (s u : State) → tenant m room ≡ Some t → Closed m t room s u → Onward m s u
-  turns-closed_onward t room s u te c = record {
+  pub closed_onward : (t room : ℕ) (s u : State) → tenant m room ≡ Some t → Closed m t room s u → Onward m s u
+  closed_onward t room s u te c = record {
     consistent = record {
       fits = c.fits;
       queue = record {
@@ -223,7 +223,7 @@ module _ (m : Market) where
       ring = r.person ∷ r.others
 
       line : s.line ≡ ring ++ u.line
-      line = turns-ring_line t room s r ∙ ap (λ z. ring ++ z) (sym c.line_is)
+      line = ring_line t room s r ∙ ap (λ z. ring ++ z) (sym c.line_is)
 
       ring_in : (p : ℕ) → among ring p ≡ true → among s.line p ≡ true
       ring_in p h = subst (λ z. among z p ≡ true) (sym line) (among_left ring u.line p h)
@@ -239,13 +239,13 @@ module _ (m : Market) where
 
       points : successor m (stage_at s) r.person ≡ last_of r.person r.others
       points =
-          cycles-successor_at m (stage_at s) r.person (Some room) r.first_wish
-          ∙ cycles-home_holder m c.fits.market (stage_at s) t room (tenant_home m room t te).0 (tenant_home m room t te).1 t_in
+          successor_at m (stage_at s) r.person (Some room) r.first_wish
+          ∙ home_holder m c.fits.market (stage_at s) t room (tenant_home m room t te).0 (tenant_home m room t te).1 t_in
           ∙ sym r.ends
 
       ring_is : IsTrade m (stage_at s) (among ring)
-      ring_is = cycles-ring_trade m (stage_at s) r.person r.others ring_known ring_in
-          (cycles-waits_behind m c.fits.market (stage_at s) r.person r.others ring_known ring_in (askers-waits_front m (stage_at s) r.person r.others r.after waits)) points
+      ring_is = ring_trade m (stage_at s) r.person r.others ring_known ring_in
+          (waits_behind m c.fits.market (stage_at s) r.person r.others ring_known ring_in (waits_front m (stage_at s) r.person r.others r.after waits)) points
 
       after_in : (p : ℕ) → among r.after p ≡ true → among u.line p ≡ true
       after_in p h = subst (λ z. among z p ≡ true) (sym c.line_is) (among_left r.after r.asks.fresh p h)
@@ -253,16 +253,16 @@ module _ (m : Market) where
       -- nobody in the loop takes the home of a person behind it
       free : (q h : ℕ) → among r.after q ≡ true → home m q ≡ Some h → taken m (stage_at s) (among ring) h ≡ false
       free q h i e = false_from_ne_true (taken m (stage_at s) (among ring) h) (λ y.
-          let g : (x : ℕ) × (x < m.people) × (among ring x ≡ true) × (wish m (stage_at s) x ≡ Some h) = cycles-taken_gives m (stage_at s) (among ring) h y in
+          let g : (x : ℕ) × (x < m.people) × (among ring x ≡ true) × (wish m (stage_at s) x ≡ Some h) = taken_gives m (stage_at s) (among ring) h y in
           let q_in : among s.line q ≡ true = subst (λ z. among z q ≡ true) (sym line) (among_right ring u.line q (after_in q i)) in
-          let to : successor m (stage_at s) g.0 ≡ q = cycles-successor_at m (stage_at s) g.0 (Some h) g.3 ∙ cycles-home_holder m c.fits.market (stage_at s) q h (r.asks.known q q_in) e q_in in
+          let to : successor m (stage_at s) g.0 ≡ q = successor_at m (stage_at s) g.0 (Some h) g.3 ∙ home_holder m c.fits.market (stage_at s) q h (r.asks.known q q_in) e q_in in
           both_ways (among u.line q) (once_apart ring u.line (subst Once line r.asks.once) q (subst (λ z. among ring z ≡ true) to (ring_is.closed g.0 g.2))) (after_in q i))
 
       after_waits : (xs : List ℕ) → r.after ≡ xs → Waits m (leave m (stage_at s) (among ring)) xs
       after_waits [] e = tt
       after_waits (b ∷ ys) e =
-          askers-waits_on m (stage_at s) (among ring) b ys (λ q h i. free q h (subst (λ z. among z q ≡ true) (sym e) i))
-          (askers-waits_back m (stage_at s) r.person r.others b ys (subst (λ z. WaitsBehind m (stage_at s) r.person (r.others ++ z)) e waits))
+          waits_on m (stage_at s) (among ring) b ys (λ q h i. free q h (subst (λ z. among z q ≡ true) (sym e) i))
+          (waits_back m (stage_at s) r.person r.others b ys (subst (λ z. WaitsBehind m (stage_at s) r.person (r.others ++ z)) e waits))
 
       after_least : (xs : List ℕ) → r.after ≡ xs → LastIsLeast xs u.line
       after_least [] e = tt

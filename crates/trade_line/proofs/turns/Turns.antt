@@ -17,9 +17,9 @@ use Rattle.trade_line.specs.Inner.Turn.{IsConsistent, Asks, pending, Onward, ask
 use Rattle.trade_line.specs.Inner.Removal.Leads.{trade}
 use Rattle.trade_line.proofs.searches.Search.{is_room_gives, first_passes, first_finds, first_is_least}
 use Rattle.trade_line.proofs.counts.Count.{count_le, bit_le}
-use Rattle.trade_line.proofs.cycles.Exchange.{cycles-successor_at, cycles-taken_gives}
-use Rattle.trade_line.proofs.cycles.Chain.{among_last, cycles-tenant_at, cycles-home_holder, only, cycles-ring_trade, IsVacant, cycles-head_first}
-use Rattle.trade_line.proofs.askers.Lines.{among_self, among_more, among_left, among_right, above_ascends, ascends_tail, length-close, askers-leave_none, askers-front_leaves, askers-waits_on, askers-wish_known}
+use Rattle.trade_line.proofs.cycles.Exchange.{successor_at, taken_gives}
+use Rattle.trade_line.proofs.cycles.Chain.{among_last, tenant_at, home_holder, only, ring_trade, IsVacant, head_first}
+use Rattle.trade_line.proofs.askers.Lines.{among_self, among_more, among_left, among_right, above_ascends, ascends_tail, length-close, leave_none, front_leaves, waits_on, wish_known}
 
 -- the state after the front of the line left with a room or nothing
 abbrev pub granted : State → ℕ → Option ℕ → State
@@ -39,25 +39,25 @@ tenant_home m r t e =
     (u.1, is_room_gives r (home m t) u.0)
 
 module _ (m : Market) where
-  turns-first_least : (s : Stage) (x : ℕ) → x < m.people → s.people x ≡ true → ((p : ℕ) → s.people p ≡ true → x ≤ p) → first m s ≡ x
+  first_least : (s : Stage) (x : ℕ) → x < m.people → s.people x ≡ true → ((p : ℕ) → s.people p ≡ true → x ≤ p) → first m s ≡ x
   unfolding first
-  turns-first_least s x l h least =
+  first_least s x l h least =
       let r : (y : ℕ) × (first_below m.people s.people ≡ Some y) = first_finds m.people s.people x l h in
       let below : r.0 ≤ x = first_is_least m.people s.people r.0 x r.1 l h in
       let above : x ≤ r.0 = least r.0 (first_passes m.people s.people r.0 r.1).0 in
       let same : r.0 ≡ x = omega arith in
       ap (λ o. unwrap_or o 0) r.1 ∙ same
 
-  pub turns-granted_fits : (s : State) (p : ℕ) (o : Option ℕ) → IsSizedFor m s → IsSizedFor m (granted s p o)
-  turns-granted_fits s p o f = record {
+  pub granted_fits : (s : State) (p : ℕ) (o : Option ℕ) → IsSizedFor m s → IsSizedFor m (granted s p o)
+  granted_fits s p o f = record {
     market = f.market;
     asked_len = f.asked_len;
     remaining_len = length-close s.remaining o ∙ f.remaining_len;
     given_len = length-set s.given p o ∙ f.given_len;
   }
 
-  pub turns-marked_fits : (s : State) (p : ℕ) → IsSizedFor m s → IsSizedFor m (marked s p)
-  turns-marked_fits s p f = record {
+  pub marked_fits : (s : State) (p : ℕ) → IsSizedFor m s → IsSizedFor m (marked s p)
+  marked_fits s p f = record {
     market = f.market;
     asked_len = length-set s.asked p true ∙ f.asked_len;
     remaining_len = f.remaining_len;
@@ -65,28 +65,28 @@ module _ (m : Market) where
   }
 
   -- a marked person stays marked
-  pub turns-marked_stays : (s : State) (a p : ℕ) → a < length s.asked → has_asked s p ≡ true → has_asked (marked s a) p ≡ true
-  turns-marked_stays s a p l h =
+  pub marked_stays : (s : State) (a p : ℕ) → a < length s.asked → has_asked s p ≡ true → has_asked (marked s a) p ≡ true
+  marked_stays s a p l h =
       elim (cases_eq p a) [
         | inl e ↦ rw e (get_or-set_same s.asked a true false l)
         | inr n ↦ get_or-set_other s.asked a p true false n ∙ h
       ]
 
   -- a tenant who hasn't asked had not asked before
-  pub turns-marked_unasked : (s : State) (a : ℕ) → a < length s.asked → (y : ℕ) → (is_tenant m y && not (has_asked (marked s a) y)) ≡ true → (is_tenant m y && not (has_asked s y)) ≡ true
-  turns-marked_unasked s a l y h =
+  pub marked_unasked : (s : State) (a : ℕ) → a < length s.asked → (y : ℕ) → (is_tenant m y && not (has_asked (marked s a) y)) ≡ true → (is_tenant m y && not (has_asked s y)) ≡ true
+  marked_unasked s a l y h =
       let b : (is_tenant m y ≡ true) × (not (has_asked (marked s a) y) ≡ true) = and_parts (is_tenant m y) (not (has_asked (marked s a) y)) h in
-      and_from (is_tenant m y) (not (has_asked s y)) b.0 (not_from_false (has_asked s y) (false_from_ne_true (has_asked s y) (λ t. both_ways (has_asked (marked s a) y) (not-true (has_asked (marked s a) y) b.1) (turns-marked_stays s a y l t))))
+      and_from (is_tenant m y) (not (has_asked s y)) b.0 (not_from_false (has_asked s y) (false_from_ne_true (has_asked s y) (λ t. both_ways (has_asked (marked s a) y) (not-true (has_asked (marked s a) y) b.1) (marked_stays s a y l t))))
 
-  turns-marked_pending : (s : State) (a : ℕ) → a < length s.asked → pending m (marked s a) ≤ pending m s
-  turns-marked_pending s a l =
+  marked_pending : (s : State) (a : ℕ) → a < length s.asked → pending m (marked s a) ≤ pending m s
+  marked_pending s a l =
       let c : count_below m.people (λ p. is_tenant m p && not (has_asked (marked s a) p)) ≤ count_below m.people (λ p. is_tenant m p && not (has_asked s p)) =
-      count_le m.people (λ p. is_tenant m p && not (has_asked (marked s a) p)) (λ p. is_tenant m p && not (has_asked s p)) (turns-marked_unasked s a l) in
+      count_le m.people (λ p. is_tenant m p && not (has_asked (marked s a) p)) (λ p. is_tenant m p && not (has_asked s p)) (marked_unasked s a l) in
       omega arith
 
   -- the front of the line is marked as having asked
-  pub turns-front_asks : (s : State) (a : ℕ) → IsConsistent m s → front_of s.line ≡ Some a → Asks m a (marked s a)
-  turns-front_asks s a st e = by_line s.line refl e
+  pub front_asks : (s : State) (a : ℕ) → IsConsistent m s → front_of s.line ≡ Some a → Asks m a (marked s a)
+  front_asks s a st e = by_line s.line refl e
     where
       q : Queue m s.line s.asked s.remaining
       q = st.queue
@@ -104,7 +104,7 @@ module _ (m : Market) where
           let fe : q.fresh ≡ a ∷ t = sym (sym e ∙ q.split ∙ ap (λ z. z ++ q.fresh) we) in
           let up : AscendsFrom a t = subst Ascends fe q.ascends in
           record {
-            fits = turns-marked_fits s a st.fits;
+            fits = marked_fits s a st.fits;
             behind = [];
             fresh = t;
             split = e;
@@ -125,11 +125,11 @@ module _ (m : Market) where
           let te : t ≡ ws ++ q.fresh = ap tail_of le in
           let wa : q.waiting ≡ a ∷ ws = we ∙ ap (λ z. z ∷ ws) xa in
           record {
-            fits = turns-marked_fits s a st.fits;
+            fits = marked_fits s a st.fits;
             behind = ws;
             fresh = q.fresh;
             split = e ∙ ap (λ z. a ∷ z) te;
-            waiting_asked = λ p h. turns-marked_stays s a p (known_a t e) (q.waiting_asked p (subst (λ z. among z p ≡ true) (sym wa) h));
+            waiting_asked = λ p h. marked_stays s a p (known_a t e) (q.waiting_asked p (subst (λ z. among z p ≡ true) (sym wa) h));
             fresh_unasked = λ p h. unmarked t e p (subst (λ z. among z p ≡ true) (sym te) (among_right ws q.fresh p h)) (q.fresh_unasked p h);
             waits = subst (λ z. Waits m (stage_at s) z) wa q.waits;
             least = subst (λ z. LastIsLeast z s.line) wa q.least;
@@ -144,8 +144,8 @@ module _ (m : Market) where
           let z : x ≡ a = cc in
           by_waiting t (e ∙ ap (λ y. y ∷ t) z) q.waiting refl
 
-  turns-marked_turns : (s : State) (a : ℕ) → IsConsistent m s → front_of s.line ≡ Some a → asked_in (set s.asked a true) s.line ≤ suc (pred (asked_in s.asked s.line))
-  turns-marked_turns s a st e = by_line s.line refl e
+  marked_turns : (s : State) (a : ℕ) → IsConsistent m s → front_of s.line ≡ Some a → asked_in (set s.asked a true) s.line ≤ suc (pred (asked_in s.asked s.line))
+  marked_turns s a st e = by_line s.line refl e
     where
       q : Queue m s.line s.asked s.remaining
       q = st.queue
@@ -174,11 +174,11 @@ module _ (m : Market) where
           let same : asked_in (set s.asked a true) t ≡ asked_in s.asked t = asked_other s.asked a t apart in
           omega (arith, by_waiting t le2 q.waiting refl)
 
-  pub turns-front_onward : (s t : State) (a : ℕ) → IsConsistent m s → front_of s.line ≡ Some a → Onward m (marked s a) t → Onward m s t
-  turns-front_onward s t a st e o = record {
+  pub front_onward : (s t : State) (a : ℕ) → IsConsistent m s → front_of s.line ≡ Some a → Onward m (marked s a) t → Onward m s t
+  front_onward s t a st e o = record {
     consistent = o.consistent;
-    fewer = let l : pending m (marked s a) ≤ pending m s = turns-marked_pending s a (known s.line refl e) in omega (arith, o.fewer);
-    turns = let l : asked_in (set s.asked a true) s.line ≤ suc (pred (asked_in s.asked s.line)) = turns-marked_turns s a st e in omega (arith, o.turns);
+    fewer = let l : pending m (marked s a) ≤ pending m s = marked_pending s a (known s.line refl e) in omega (arith, o.fewer);
+    turns = let l : asked_in (set s.asked a true) s.line ≤ suc (pred (asked_in s.asked s.line)) = marked_turns s a st e in omega (arith, o.turns);
     settles = o.settles;
   }
     where
@@ -191,89 +191,89 @@ module _ (m : Market) where
 
   -- the front of the line leaves with the wish
   module _ (s : State) (a : ℕ) (ask : Asks m a s) (o : Option ℕ) (w : wish m (stage_at s) a ≡ o) where
-    turns-rest : List ℕ
-    turns-rest = ask.behind ++ ask.fresh
+    rest : List ℕ
+    rest = ask.behind ++ ask.fresh
 
-    turns-a_known : a < m.people
-    turns-a_known = ask.known a (subst (λ z. among z a ≡ true) (sym ask.split) (among_self a (ask.behind ++ ask.fresh)))
+    a_known : a < m.people
+    a_known = ask.known a (subst (λ z. among z a ≡ true) (sym ask.split) (among_self a (ask.behind ++ ask.fresh)))
 
-    turns-a_once : among (ask.behind ++ ask.fresh) a ≡ false
-    turns-a_once = (subst Once ask.split ask.once).0
+    a_once : among (ask.behind ++ ask.fresh) a ≡ false
+    a_once = (subst Once ask.split ask.once).0
 
-    turns-room_known : (x : ℕ) → o ≡ Some x → x < length s.remaining
-    turns-room_known x e = let l : x < m.rooms = askers-wish_known m ask.fits.market (stage_at s) a x turns-a_known (w ∙ e) in omega (arith, ask.fits.remaining_len)
+    room_known : (x : ℕ) → o ≡ Some x → x < length s.remaining
+    room_known x e = let l : x < m.rooms = wish_known m ask.fits.market (stage_at s) a x a_known (w ∙ e) in omega (arith, ask.fits.remaining_len)
 
-    pub turns-front_stage : stage_at (granted s a o) ≡ leave m (stage_at s) (among (a ∷ []))
-    turns-front_stage =
+    pub front_stage : stage_at (granted s a o) ≡ leave m (stage_at s) (among (a ∷ []))
+    front_stage =
         subst (λ z. stage_of (tail_of z) (close s.remaining o) ≡ leave m (stage_at s) (among (a ∷ []))) (sym ask.split)
-        (askers-front_leaves m (stage_at s) [] a (ask.behind ++ ask.fresh) s.remaining o (ap (λ z. stage_of z s.remaining) (sym ask.split) ∙ askers-leave_none m (stage_at s)) turns-a_once turns-a_known w turns-room_known)
+        (front_leaves m (stage_at s) [] a (ask.behind ++ ask.fresh) s.remaining o (ap (λ z. stage_of z s.remaining) (sym ask.split) ∙ leave_none m (stage_at s)) a_once a_known w room_known)
 
-    turns-line_after : tail_of s.line ≡ ask.behind ++ ask.fresh
-    turns-line_after = ap tail_of ask.split
+    line_after : tail_of s.line ≡ ask.behind ++ ask.fresh
+    line_after = ap tail_of ask.split
 
-    turns-inside : (p : ℕ) → among (tail_of s.line) p ≡ true → among s.line p ≡ true
-    turns-inside p h = subst (λ z. among z p ≡ true) (sym ask.split) (among_more a (ask.behind ++ ask.fresh) p (subst (λ z. among z p ≡ true) turns-line_after h))
+    inside : (p : ℕ) → among (tail_of s.line) p ≡ true → among s.line p ≡ true
+    inside p h = subst (λ z. among z p ≡ true) (sym ask.split) (among_more a (ask.behind ++ ask.fresh) p (subst (λ z. among z p ≡ true) line_after h))
 
-    pub turns-front_consistent : ((q h : ℕ) → among ask.behind q ≡ true → home m q ≡ Some h → taken m (stage_at s) (among (a ∷ [])) h ≡ false) → IsConsistent m (granted s a o)
-    turns-front_consistent free = record {
-      fits = turns-granted_fits s a o ask.fits;
+    pub front_consistent : ((q h : ℕ) → among ask.behind q ≡ true → home m q ≡ Some h → taken m (stage_at s) (among (a ∷ [])) h ≡ false) → IsConsistent m (granted s a o)
+    front_consistent free = record {
+      fits = granted_fits s a o ask.fits;
       queue = record {
         waiting = ask.behind;
         fresh = ask.fresh;
-        split = turns-line_after;
+        split = line_after;
         waiting_asked = λ p h. ask.waiting_asked p (among_more a ask.behind p h);
         fresh_unasked = ask.fresh_unasked;
-        waits = subst (λ z. Waits m z ask.behind) (sym turns-front_stage) (behind_waits ask.behind ask.waits free);
+        waits = subst (λ z. Waits m z ask.behind) (sym front_stage) (behind_waits ask.behind ask.waits free);
         least = behind_least ask.behind ask.least;
         ascends = ask.ascends;
-        once = subst Once (sym turns-line_after) (subst Once ask.split ask.once).1;
-        known = λ p h. ask.known p (turns-inside p h);
+        once = subst Once (sym line_after) (subst Once ask.split ask.once).1;
+        known = λ p h. ask.known p (inside p h);
       };
     }
       where
         behind_waits : (xs : List ℕ) → WaitsBehind m (stage_at s) a xs → ((q h : ℕ) → among xs q ≡ true → home m q ≡ Some h → taken m (stage_at s) (among (a ∷ [])) h ≡ false) → Waits m (leave m (stage_at s) (among (a ∷ []))) xs
         behind_waits [] ws free = tt
-        behind_waits (b ∷ r) ws free = askers-waits_on m (stage_at s) (among (a ∷ [])) b r free ws.1
+        behind_waits (b ∷ r) ws free = waits_on m (stage_at s) (among (a ∷ [])) b r free ws.1
 
         behind_least : (xs : List ℕ) → ((p : ℕ) → among s.line p ≡ true → last_of a xs ≤ p) → LastIsLeast xs (tail_of s.line)
         behind_least [] l = tt
-        behind_least (b ∷ r) l = λ p h. l p (turns-inside p h)
+        behind_least (b ∷ r) l = λ p h. l p (inside p h)
 
-    pub turns-front_fewer : pending m (granted s a o) < pending m s
-    turns-front_fewer =
+    pub front_fewer : pending m (granted s a o) < pending m s
+    front_fewer =
         let e : length s.line ≡ suc (length (ask.behind ++ ask.fresh)) = ap length ask.split in
-        let e2 : length (tail_of s.line) ≡ length (ask.behind ++ ask.fresh) = ap length turns-line_after in
+        let e2 : length (tail_of s.line) ≡ length (ask.behind ++ ask.fresh) = ap length line_after in
         omega arith
 
-    pub turns-front_turns : pred (asked_in s.asked (tail_of s.line)) + length s.line ≤ suc (pred (asked_in s.asked s.line) + length (tail_of s.line))
-    turns-front_turns =
+    pub front_turns : pred (asked_in s.asked (tail_of s.line)) + length s.line ≤ suc (pred (asked_in s.asked s.line) + length (tail_of s.line))
+    front_turns =
         let e : length s.line ≡ suc (length (ask.behind ++ ask.fresh)) = ap length ask.split in
-        let e2 : length (tail_of s.line) ≡ length (ask.behind ++ ask.fresh) = ap length turns-line_after in
+        let e2 : length (tail_of s.line) ≡ length (ask.behind ++ ask.fresh) = ap length line_after in
         let a1 : asked_in s.asked s.line ≡ suc (length ask.behind) = asked_split s.asked s.line (a ∷ ask.behind) ask.fresh ask.split ask.waiting_asked ask.fresh_unasked in
-        let a2 : asked_in s.asked (tail_of s.line) ≡ length ask.behind = asked_split s.asked (tail_of s.line) ask.behind ask.fresh turns-line_after (λ p h. ask.waiting_asked p (among_more a ask.behind p h)) ask.fresh_unasked in
+        let a2 : asked_in s.asked (tail_of s.line) ≡ length ask.behind = asked_split s.asked (tail_of s.line) ask.behind ask.fresh line_after (λ p h. ask.waiting_asked p (among_more a ask.behind p h)) ask.fresh_unasked in
         omega arith
 
-    pub turns-front_given : (f : ℕ → Option ℕ) → Settles m (tail_of s.line) (close s.remaining o) (set s.given a o) f → f a ≡ o
-    turns-front_given f st =
-        st.served a turns-a_known (subst (λ z. among z a ≡ false) (sym turns-line_after) turns-a_once) ∙ get_or-set_same s.given a o None (let l : a < m.people = turns-a_known in omega (arith, ask.fits.given_len))
+    pub front_given : (f : ℕ → Option ℕ) → Settles m (tail_of s.line) (close s.remaining o) (set s.given a o) f → f a ≡ o
+    front_given f st =
+        st.served a a_known (subst (λ z. among z a ≡ false) (sym line_after) a_once) ∙ get_or-set_same s.given a o None (let l : a < m.people = a_known in omega (arith, ask.fits.given_len))
 
-    pub turns-front_served : (f : ℕ → Option ℕ) → Settles m (tail_of s.line) (close s.remaining o) (set s.given a o) f → (p : ℕ) → p < m.people → among s.line p ≡ false → f p ≡ given_to s p
-    turns-front_served f st p l h =
+    pub front_served : (f : ℕ → Option ℕ) → Settles m (tail_of s.line) (close s.remaining o) (set s.given a o) f → (p : ℕ) → p < m.people → among s.line p ≡ false → f p ≡ given_to s p
+    front_served f st p l h =
         let out : among (a ∷ (ask.behind ++ ask.fresh)) p ≡ false = subst (λ z. among z p ≡ false) ask.split h in
         let parts : ((a == p) ≡ false) × (among (ask.behind ++ ask.fresh) p ≡ false) = or_parts (a == p) (among (ask.behind ++ ask.fresh) p) out in
-        st.served p l (subst (λ z. among z p ≡ false) (sym turns-line_after) parts.1) ∙ get_or-set_other s.given a p o None (λ e. both_ways (a == p) parts.0 (eq-eqb a p (sym e)))
+        st.served p l (subst (λ z. among z p ≡ false) (sym line_after) parts.1) ∙ get_or-set_other s.given a p o None (λ e. both_ways (a == p) parts.0 (eq-eqb a p (sym e)))
 
   -- the front takes the floor
-  pub turns-floor_onward : (s : State) (a : ℕ) → Asks m a s → wish m (stage_at s) a ≡ home m a → Onward m s (granted s a (home m a))
-  turns-floor_onward s a ask w = record {
-    consistent = turns-front_consistent s a ask (home m a) w free;
-    fewer = turns-front_fewer s a ask (home m a) w;
-    turns = turns-front_turns s a ask (home m a) w;
+  pub floor_onward : (s : State) (a : ℕ) → Asks m a s → wish m (stage_at s) a ≡ home m a → Onward m s (granted s a (home m a))
+  floor_onward s a ask w = record {
+    consistent = front_consistent s a ask (home m a) w free;
+    fewer = front_fewer s a ask (home m a) w;
+    turns = front_turns s a ask (home m a) w;
     settles = λ f st. record {
-      served = turns-front_served s a ask (home m a) w f st;
+      served = front_served s a ask (home m a) w f st;
       leads = trade (among (a ∷ [])) self
-          (λ p h. subst (λ z. f z ≡ wish m (stage_at s) z) (eqb-true a p (sym (or-false (a == p)) ∙ h)) (turns-front_given s a ask (home m a) w f st ∙ sym w))
-          (subst (λ z. Leads m f z) (turns-front_stage s a ask (home m a) w) st.leads);
+          (λ p h. subst (λ z. f z ≡ wish m (stage_at s) z) (eqb-true a p (sym (or-false (a == p)) ∙ h)) (front_given s a ask (home m a) w f st ∙ sym w))
+          (subst (λ z. Leads m f z) (front_stage s a ask (home m a) w) st.leads);
     };
   }
     where
@@ -282,34 +282,34 @@ module _ (m : Market) where
 
       free : (q h : ℕ) → among ask.behind q ≡ true → home m q ≡ Some h → taken m (stage_at s) (among (a ∷ [])) h ≡ false
       free q h i e = false_from_ne_true (taken m (stage_at s) (among (a ∷ [])) h) (λ y.
-          let g : (x : ℕ) × (x < m.people) × (among (a ∷ []) x ≡ true) × (wish m (stage_at s) x ≡ Some h) = cycles-taken_gives m (stage_at s) (among (a ∷ [])) h y in
+          let g : (x : ℕ) × (x < m.people) × (among (a ∷ []) x ≡ true) × (wish m (stage_at s) x ≡ Some h) = taken_gives m (stage_at s) (among (a ∷ [])) h y in
           let ax : a ≡ g.0 = eqb-true a g.0 (sym (or-false (a == g.0)) ∙ g.2) in
           let ha : home m a ≡ Some h = sym w ∙ subst (λ z. wish m (stage_at s) z ≡ Some h) (sym ax) g.3 in
           let q_known : q < m.people = ask.known q (subst (λ z. among z q ≡ true) (sym ask.split) (among_more a (ask.behind ++ ask.fresh) q (among_left ask.behind ask.fresh q i))) in
           let qa : q ≡ a = ask.fits.market.homes_differ q a h q_known (ask.known a in_line) e ha in
-          both_ways (among (ask.behind ++ ask.fresh) a) (turns-a_once s a ask (home m a) w) (subst (λ z. among (ask.behind ++ ask.fresh) z ≡ true) qa (among_left ask.behind ask.fresh q i)))
+          both_ways (among (ask.behind ++ ask.fresh) a) (a_once s a ask (home m a) w) (subst (λ z. among (ask.behind ++ ask.fresh) z ≡ true) qa (among_left ask.behind ask.fresh q i)))
 
       points : (o : Option ℕ) → home m a ≡ o → successor m (stage_at s) a ≡ a
-      points None e = cycles-successor_at m (stage_at s) a None (w ∙ e)
-      points (Some h) e = cycles-successor_at m (stage_at s) a (Some h) (w ∙ e) ∙ cycles-home_holder m ask.fits.market (stage_at s) a h (ask.known a in_line) e in_line
+      points None e = successor_at m (stage_at s) a None (w ∙ e)
+      points (Some h) e = successor_at m (stage_at s) a (Some h) (w ∙ e) ∙ home_holder m ask.fits.market (stage_at s) a h (ask.known a in_line) e in_line
 
       one : (p : ℕ) → among (a ∷ []) p ≡ true → among s.line p ≡ true
       one p h = subst (λ z. among s.line z ≡ true) (eqb-true a p (sym (or-false (a == p)) ∙ h)) in_line
 
       self : IsTrade m (stage_at s) (among (a ∷ []))
-      self = cycles-ring_trade m (stage_at s) a [] (λ p h. ask.known p (one p h)) one tt (points (home m a) refl)
+      self = ring_trade m (stage_at s) a [] (λ p h. ask.known p (one p h)) one tt (points (home m a) refl)
 
   -- the front takes a vacant room
-  pub turns-vacant_onward : (s : State) (a v : ℕ) → Asks m a s → wish m (stage_at s) a ≡ Some v → IsVacant m (stage_at s) v → Onward m s (granted s a (Some v))
-  turns-vacant_onward s a v ask w none = record {
-    consistent = turns-front_consistent s a ask (Some v) w free;
-    fewer = turns-front_fewer s a ask (Some v) w;
-    turns = turns-front_turns s a ask (Some v) w;
+  pub vacant_onward : (s : State) (a v : ℕ) → Asks m a s → wish m (stage_at s) a ≡ Some v → IsVacant m (stage_at s) v → Onward m s (granted s a (Some v))
+  vacant_onward s a v ask w none = record {
+    consistent = front_consistent s a ask (Some v) w free;
+    fewer = front_fewer s a ask (Some v) w;
+    turns = front_turns s a ask (Some v) w;
     settles = λ f st. record {
-      served = turns-front_served s a ask (Some v) w f st;
-      leads = cycles-head_first m ask.fits.market (stage_at s) a ask.behind v f (λ p h. ask.known p (chain p h)) chain apart ask.waits is_first w none
-          (turns-front_given s a ask (Some v) w f st ∙ sym w)
-          (subst (λ z. Leads m f z) (turns-front_stage s a ask (Some v) w ∙ ap (leave m (stage_at s)) one) st.leads);
+      served = front_served s a ask (Some v) w f st;
+      leads = head_first m ask.fits.market (stage_at s) a ask.behind v f (λ p h. ask.known p (chain p h)) chain apart ask.waits is_first w none
+          (front_given s a ask (Some v) w f st ∙ sym w)
+          (subst (λ z. Leads m f z) (front_stage s a ask (Some v) w ∙ ap (leave m (stage_at s)) one) st.leads);
     };
   }
     where
@@ -320,16 +320,16 @@ module _ (m : Market) where
       chain p h = subst (λ z. among z p ≡ true) (sym ask.split) (among_left (a ∷ ask.behind) ask.fresh p h)
 
       apart : among ask.behind a ≡ false
-      apart = false_from_ne_true (among ask.behind a) (λ y. both_ways (among (ask.behind ++ ask.fresh) a) (turns-a_once s a ask (Some v) w) (among_left ask.behind ask.fresh a y))
+      apart = false_from_ne_true (among ask.behind a) (λ y. both_ways (among (ask.behind ++ ask.fresh) a) (a_once s a ask (Some v) w) (among_left ask.behind ask.fresh a y))
 
       free : (q h : ℕ) → among ask.behind q ≡ true → home m q ≡ Some h → taken m (stage_at s) (among (a ∷ [])) h ≡ false
       free q h i e = false_from_ne_true (taken m (stage_at s) (among (a ∷ [])) h) (λ y.
-          let g : (x : ℕ) × (x < m.people) × (among (a ∷ []) x ≡ true) × (wish m (stage_at s) x ≡ Some h) = cycles-taken_gives m (stage_at s) (among (a ∷ [])) h y in
+          let g : (x : ℕ) × (x < m.people) × (among (a ∷ []) x ≡ true) × (wish m (stage_at s) x ≡ Some h) = taken_gives m (stage_at s) (among (a ∷ [])) h y in
           let ax : a ≡ g.0 = eqb-true a g.0 (sym (or-false (a == g.0)) ∙ g.2) in
           let z : Some v ≡ Some h = sym w ∙ subst (λ z. wish m (stage_at s) z ≡ Some h) (sym ax) g.3 in
           let vh : v ≡ h = cc in
           let q_in : among s.line q ≡ true = chain q (among_more a ask.behind q i) in
-          both_ways (among s.line q) (none q (subst (λ x. tenant m x ≡ Some q) (sym vh) (cycles-tenant_at m ask.fits.market q h (ask.known q q_in) e))) q_in)
+          both_ways (among s.line q) (none q (subst (λ x. tenant m x ≡ Some q) (sym vh) (tenant_at m ask.fits.market q h (ask.known q q_in) e))) q_in)
 
       is_first : first m (stage_at s) ≡ last_of a ask.behind
-      is_first = turns-first_least (stage_at s) (last_of a ask.behind) (ask.known (last_of a ask.behind) (chain (last_of a ask.behind) (among_last a ask.behind))) (chain (last_of a ask.behind) (among_last a ask.behind)) ask.least
+      is_first = first_least (stage_at s) (last_of a ask.behind) (ask.known (last_of a ask.behind) (chain (last_of a ask.behind) (among_last a ask.behind))) (chain (last_of a ask.behind) (among_last a ask.behind)) ask.least

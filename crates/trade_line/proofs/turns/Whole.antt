@@ -21,7 +21,7 @@ use Rattle.trade_line.specs.Inner.Turn.{asked_in}
 use Rattle.trade_line.specs.Inner.Removal.Leads.{done}
 use Rattle.trade_line.proofs.counts.Count.{count_most, count_le}
 use Rattle.trade_line.proofs.cycles.Unique.{same_stage}
-use Rattle.trade_line.proofs.cycles.Steps.{cycles-leads_gets}
+use Rattle.trade_line.proofs.cycles.Steps.{leads_gets}
 
 pub range_has : (a n p : ℕ) → a ≤ p → p < a + n → among (range_with_len a n) p ≡ true
 range_has a zero p l h = absurd (omega arith)
@@ -58,9 +58,9 @@ all_same (suc n) x zero = refl
 all_same (suc n) x (suc i) = all_same n x i
 
 module _ (m : Market) where
-  turns-start_stage : (s : State) → s.line ≡ range_with_len 0 m.people → s.remaining ≡ replicate m.rooms true → stage_at s ≡ start m
+  start_stage : (s : State) → s.line ≡ range_with_len 0 m.people → s.remaining ≡ replicate m.rooms true → stage_at s ≡ start m
   unfolding start
-  turns-start_stage s le ve = same_stage (stage_at s) (start m) people rooms
+  start_stage s le ve = same_stage (stage_at s) (start m) people rooms
     where
       people : (p : ℕ) → among s.line p ≡ ltb p m.people
       people p = one_truth (among s.line p) (ltb p m.people)
@@ -74,8 +74,8 @@ module _ (m : Market) where
             | inr l ↦ get_or_past s.remaining r false (let e : length s.remaining ≡ m.rooms = ap length ve ∙ length-replicate m.rooms true in omega arith) ∙ sym (le-ltb r m.rooms l)
           ]
 
-  pub turns-underway_start : IsMarket m → (s : State) (c : List ℕ) → s.line ≡ range_with_len 0 m.people → IsFresh s.asked s.remaining s.given c → length s.asked ≡ m.people → length s.remaining ≡ m.rooms → Underway m s 0
-  turns-underway_start ok s c le fresh ae ve = record {
+  pub underway_start : IsMarket m → (s : State) (c : List ℕ) → s.line ≡ range_with_len 0 m.people → IsFresh s.asked s.remaining s.given c → length s.asked ≡ m.people → length s.remaining ≡ m.rooms → Underway m s 0
+  underway_start ok s c le fresh ae ve = record {
     consistent = record {
       fits = record { market = ok; asked_len = ae; remaining_len = ve; given_len = fresh.given_len ∙ ae };
       queue = record {
@@ -91,7 +91,7 @@ module _ (m : Market) where
         known = λ p h. (let r : (0 ≤ p) × (p < 0 + m.people) = range_within 0 m.people p (subst (λ z. among z p ≡ true) le h) in omega (arith, r.1));
       };
     };
-    settles = λ f st. subst (λ z. Leads m f z) (turns-start_stage s le (fresh.all_remain ∙ ap (λ n. replicate n true) ve)) st.leads;
+    settles = λ f st. subst (λ z. Leads m f z) (start_stage s le (fresh.all_remain ∙ ap (λ n. replicate n true) ve)) st.leads;
     turns = (
         let a : length s.line ≡ m.people = ap length le ∙ length-range_with_len 0 m.people in
         let b : count_below m.people (λ p. is_tenant m p && not (get_or s.asked p false)) ≤ tenant_count m =
@@ -104,10 +104,10 @@ module _ (m : Market) where
     tenants_few = count_most m.people (is_tenant m);
   }
 
-  pub turns-underway_end : (s : State) (asks : ℕ) → Underway m s asks → front_of s.line ≡ None → s.given ≡ ttc m
+  pub underway_end : (s : State) (asks : ℕ) → Underway m s asks → front_of s.line ≡ None → s.given ≡ ttc m
   unfolding ttc
-  turns-underway_end s asks u e =
-      fill_by_all (gets m) s.given m.people None u.consistent.fits.given_len (λ k l. cycles-leads_gets m (given_to s) (u.settles (given_to s) ended) k l)
+  underway_end s asks u e =
+      fill_by_all (gets m) s.given m.people None u.consistent.fits.given_len (λ k l. leads_gets m (given_to s) (u.settles (given_to s) ended) k l)
     where
       ended : Settles m s.line s.remaining s.given (given_to s)
       ended = record {
@@ -115,8 +115,8 @@ module _ (m : Market) where
         leads = done (λ p. among_none s.line e p);
       }
 
-  pub turns-underway_asks : (s : State) (asks : ℕ) → Underway m s asks → front_of s.line ≡ None → m.people ≤ asks
-  turns-underway_asks s asks u e = by_line s.line refl e
+  pub underway_asks : (s : State) (asks : ℕ) → Underway m s asks → front_of s.line ≡ None → m.people ≤ asks
+  underway_asks s asks u e = by_line s.line refl e
     where
       by_line : (l : List ℕ) → s.line ≡ l → front_of l ≡ None → m.people ≤ asks
       by_line [] le f = let a : length s.line ≡ 0 = ap length le in omega (arith, u.at_least)

@@ -70,37 +70,37 @@ not_among (x ∷ xs) r h =
     rw ne (not_among xs r (λ k d l. h (suc k) d (omega (arith, l))))
 
 module _ (m : Market) (ok : IsMarket m) where
-  pub welfare-rank_listed : (p x : ℕ) → among (list_of m p) x ≡ true → rank m p (Some x) ≡ place x (list_of m p)
-  welfare-rank_listed p x h = cond-true (among (list_of m p) x) (place x (list_of m p)) (cond (is_room x (home m p)) (length (list_of m p)) (length (list_of m p) + 1)) h
+  pub rank_listed : (p x : ℕ) → among (list_of m p) x ≡ true → rank m p (Some x) ≡ place x (list_of m p)
+  rank_listed p x h = cond-true (among (list_of m p) x) (place x (list_of m p)) (cond (is_room x (home m p)) (length (list_of m p)) (length (list_of m p) + 1)) h
 
-  pub welfare-rank_unlisted : (p x : ℕ) → among (list_of m p) x ≡ false → rank m p (Some x) ≡ cond (is_room x (home m p)) (length (list_of m p)) (length (list_of m p) + 1)
-  welfare-rank_unlisted p x h = cond-false (among (list_of m p) x) (place x (list_of m p)) (cond (is_room x (home m p)) (length (list_of m p)) (length (list_of m p) + 1)) h
+  pub rank_unlisted : (p x : ℕ) → among (list_of m p) x ≡ false → rank m p (Some x) ≡ cond (is_room x (home m p)) (length (list_of m p)) (length (list_of m p) + 1)
+  rank_unlisted p x h = cond-false (among (list_of m p) x) (place x (list_of m p)) (cond (is_room x (home m p)) (length (list_of m p)) (length (list_of m p) + 1)) h
 
-  pub welfare-rank_home : (p : ℕ) → p < m.people → rank m p (home m p) ≡ length (list_of m p)
-  welfare-rank_home p l = by_home (home m p) refl
+  pub rank_home : (p : ℕ) → p < m.people → rank m p (home m p) ≡ length (list_of m p)
+  rank_home p l = by_home (home m p) refl
     where
       by_home : (o : Option ℕ) → home m p ≡ o → rank m p o ≡ length (list_of m p)
       by_home None e = cond-true (is_none (home m p)) (length (list_of m p)) (length (list_of m p) + 1) (ap is_none e)
       by_home (Some h) e =
-          welfare-rank_unlisted p h (not_among (list_of m p) h (ok.own_unlisted p h l e))
+          rank_unlisted p h (not_among (list_of m p) h (ok.own_unlisted p h l e))
           ∙ cond-true (is_room h (home m p)) (length (list_of m p)) (length (list_of m p) + 1) (is_room_from h (home m p) e)
 
   -- nothing available ranks better than the wish
-  pub welfare-wish_is_best : (s : Stage) (p : ℕ) → p < m.people → (x : Option ℕ) → ((r : ℕ) → x ≡ Some r → s.rooms r ≡ true) → rank m p x ≤ rank m p (wish m s p) → x ≡ wish m s p
+  pub wish_is_best : (s : Stage) (p : ℕ) → p < m.people → (x : Option ℕ) → ((r : ℕ) → x ≡ Some r → s.rooms r ≡ true) → rank m p x ≤ rank m p (wish m s p) → x ≡ wish m s p
   unfolding wish
-  welfare-wish_is_best s p l x can le = by_found (find s.rooms (list_of m p)) refl le
+  wish_is_best s p l x can le = by_found (find s.rooms (list_of m p)) refl le
     where
       listed : (r : ℕ) → x ≡ Some r → (y : ℕ) → find s.rooms (list_of m p) ≡ Some y → rank m p x ≤ rank m p (Some y) → among (list_of m p) r ≡ true → x ≡ Some y
       listed r e y f le i =
-          let ry : rank m p (Some y) ≡ place y (list_of m p) = welfare-rank_listed p y (find_among s.rooms (list_of m p) y f) in
-          let rx : rank m p x ≡ place r (list_of m p) = ap (rank m p) e ∙ welfare-rank_listed p r i in
+          let ry : rank m p (Some y) ≡ place y (list_of m p) = rank_listed p y (find_among s.rooms (list_of m p) y f) in
+          let rx : rank m p x ≡ place r (list_of m p) = ap (rank m p) e ∙ rank_listed p r i in
           e ∙ ap Some (find_first s.rooms (list_of m p) y r f (can r e) i (omega arith))
 
       by_found : (o : Option ℕ) → find s.rooms (list_of m p) ≡ o → rank m p x ≤ rank m p (or_else o (home m p)) → x ≡ or_else o (home m p)
       by_found (Some y) f le = by_room x refl
         where
           ry : rank m p (Some y) ≡ place y (list_of m p)
-          ry = welfare-rank_listed p y (find_among s.rooms (list_of m p) y f)
+          ry = rank_listed p y (find_among s.rooms (list_of m p) y f)
 
           py : place y (list_of m p) < length (list_of m p)
           py = place_lt y (list_of m p) (find_among s.rooms (list_of m p) y f)
@@ -116,7 +116,7 @@ module _ (m : Market) (ok : IsMarket m) where
               elim (cases_Bool (among (list_of m p) r)) [
                 | inl i ↦ listed r e y f le i
                 | inr n ↦
-                    let rx : rank m p x ≡ cond (is_room r (home m p)) (length (list_of m p)) (length (list_of m p) + 1) = ap (rank m p) e ∙ welfare-rank_unlisted p r n in
+                    let rx : rank m p x ≡ cond (is_room r (home m p)) (length (list_of m p)) (length (list_of m p) + 1) = ap (rank m p) e ∙ rank_unlisted p r n in
                     elim (cases_Bool (is_room r (home m p))) [
                       | inl t ↦ let rt : cond (is_room r (home m p)) (length (list_of m p)) (length (list_of m p) + 1) ≡ length (list_of m p) = cond-true (is_room r (home m p)) (length (list_of m p)) (length (list_of m p) + 1) t in absurd (omega (arith, py, ry))
                       | inr t ↦ let rt : cond (is_room r (home m p)) (length (list_of m p)) (length (list_of m p) + 1) ≡ length (list_of m p) + 1 = cond-false (is_room r (home m p)) (length (list_of m p)) (length (list_of m p) + 1) t in absurd (omega (arith, py, ry))
@@ -125,7 +125,7 @@ module _ (m : Market) (ok : IsMarket m) where
       by_found None f le = by_room x refl
         where
           rh : rank m p (home m p) ≡ length (list_of m p)
-          rh = welfare-rank_home p l
+          rh = rank_home p l
 
           none_is : (o : Option ℕ) → is_none o ≡ true → None ≡ o
           none_is None h = refl
@@ -143,7 +143,7 @@ module _ (m : Market) (ok : IsMarket m) where
               elim (cases_Bool (among (list_of m p) r)) [
                 | inl i ↦ clash (s.rooms r) (can r e) (find_none s.rooms (list_of m p) f r i)
                 | inr n ↦
-                    let rx : rank m p x ≡ cond (is_room r (home m p)) (length (list_of m p)) (length (list_of m p) + 1) = ap (rank m p) e ∙ welfare-rank_unlisted p r n in
+                    let rx : rank m p x ≡ cond (is_room r (home m p)) (length (list_of m p)) (length (list_of m p) + 1) = ap (rank m p) e ∙ rank_unlisted p r n in
                     elim (cases_Bool (is_room r (home m p))) [
                       | inl t ↦ e ∙ sym (is_room_gives r (home m p) t)
                       | inr t ↦ let rt : cond (is_room r (home m p)) (length (list_of m p)) (length (list_of m p) + 1) ≡ length (list_of m p) + 1 = cond-false (is_room r (home m p)) (length (list_of m p)) (length (list_of m p) + 1) t in absurd (omega (arith, rh))

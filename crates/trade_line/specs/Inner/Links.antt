@@ -2,14 +2,14 @@
 use Rattle.std.specs.Prelude.{◌≡◌, ℕ, zero, suc, ◌<◌, ◌==◌, Bool, true, false, cond, List, [], ◌∷◌, length, slice_index_or}
 use Rattle.trade_line.specs.Member.{among, Once}
 
--- the numbers from a through xs to z are linked: `next` has the one after each, and `previous` the one before
--- it
+-- a, the numbers of xs, and z are linked in this order: `next` leads from each to the one after it, and `previous`
+-- leads back
 abbrev pub Links : List ℕ → List ℕ → ℕ → List ℕ → ℕ → Type 0
 Links next previous a [] z = (slice_index_or next a 0 ≡ z) × (slice_index_or previous z 0 ≡ a)
 Links next previous a (x ∷ xs) z =
     (slice_index_or next a 0 ≡ x) × (slice_index_or previous x 0 ≡ a) × Links next previous x xs z
 
--- at most k numbers along `next` from a, up to the sentinel
+-- the numbers along `next`, from a on and before the sentinel, at most k of them
 abbrev pub along : List ℕ → ℕ → ℕ → ℕ → List ℕ
 along next end zero a = []
 along next end (suc k) a = cond (a == end) [] (a ∷ along next end k (slice_index_or next a 0))

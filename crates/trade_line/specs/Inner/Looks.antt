@@ -15,17 +15,18 @@ cursor c p = slice_index_or c p 0
 abbrev pub CursorAt : Market → List ℕ → ℕ → Option ℕ → Type 0
 CursorAt m c p x = rank m p x ≡ cursor c p
 
--- the same, at an entry of the list and not at its end
+-- the cursor of p is at the entry at which p lists x, before the end of the list
 abbrev pub StaysAt : Market → List ℕ → ℕ → Option ℕ → Type 0
 StaysAt m c p x = (cursor c p < length (list_of m p)) × CursorAt m c p x
 
--- everybody behind a who has asked has the cursor at the home of the person before them
+-- of the people behind a, each one who has asked has the cursor at the home of the person before them
 abbrev pub StayBehind : Market → List Bool → List ℕ → ℕ → List ℕ → Type 0
 StayBehind m asked c a [] = Unit {0}
 StayBehind m asked c a (b ∷ r) =
     (slice_index_or asked b false ≡ true → StaysAt m c b (home m a)) × StayBehind m asked c b r
 
--- the same for a whole line, whose first person waits for nobody
+-- in the line, of the people behind the first, each one who has asked has the cursor at the home of the person before
+-- them
 abbrev pub StayInLine : Market → List Bool → List ℕ → List ℕ → Type 0
 StayInLine m asked c [] = Unit {0}
 StayInLine m asked c (a ∷ r) = StayBehind m asked c a r
@@ -48,12 +49,13 @@ cursor_sum m c = sum_below m.people (cursor c)
 abbrev pub spent : Market → List ℕ → List ℕ → ℕ → ℕ
 spent m line c p = cond (among line p) 0 (cond (nat_lt (cursor c p) (length (list_of m p))) 0 1)
 
--- the number of such people
+-- the number of people who left the line with the cursor at the end of the list
 abbrev pub spent_sum : Market → List ℕ → List ℕ → ℕ
 spent_sum m line c = sum_below m.people (spent m line c)
 
--- a turn in which a asks for the room leads from s to t: nobody joins the line, the cursors stay right if
--- that of a is at the room, and none of those who leave has the cursor at the end of the list
+-- for a turn from s to t in which a asks for the room: nobody joins the line; and if the cursors satisfy `AreCursors`
+-- before the turn and that of a is at the room, then they satisfy it after the turn too, and the cursor of each person
+-- who leaves is before the end of the list
 pub record KeepsCursors (m : Market) (a : ℕ) (room : ℕ) (s t : State) : Type 0 where
   pub inside : (p : ℕ) → among t.line p ≡ true → among s.line p ≡ true
   pub cursors : (c : List ℕ) → AreCursors m s c → StaysAt m c a (Some room) → AreCursors m t c

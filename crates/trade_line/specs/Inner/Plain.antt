@@ -1,4 +1,4 @@
--- The simultaneous steps, as the slow program carries them out.
+-- The simultaneous steps, as `top_trading_cycles` carries them out.
 use Rattle.std.specs.Prelude.{◌≡◌, ℕ, ◌<◌, ◌≤◌, ◌&&◌, not, true, Bool, Option, None, List, length, slice_index_or, false, cond}
 use Rattle.trade_line.specs.Below.{some_below}
 use Rattle.trade_line.specs.Market.{Market, IsMarket, is_room}
@@ -18,7 +18,7 @@ pub record AreMarks (m : Market) (s : Remaining) : Type 0 where
   pub people_len : length s.people.items ≡ m.people
   pub rooms_len : length s.rooms.items ≡ m.rooms
 
--- everybody on a cycle got their wish, and nobody else got anything
+-- everybody on a cycle gets their wish, and everybody else keeps the old entry
 abbrev pub Gives : Market → Stage → List (Option ℕ) → List (Option ℕ) → Type 0
 Gives m s old new = (p : ℕ) → p < m.people
     → slice_index_or new p None ≡ cond (is_on_cycle m s p) (wish m s p) (slice_index_or old p None)

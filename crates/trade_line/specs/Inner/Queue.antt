@@ -5,7 +5,7 @@ use Rattle.trade_line.specs.Market.{Market, home}
 use Rattle.trade_line.specs.Member.{among, Once}
 use Rattle.trade_line.specs.TopTradingCycles.{Stage, wish}
 
--- the list ascends from a on
+-- the list ascends, and all its numbers are above a
 abbrev pub AscendsFrom : ℕ → List ℕ → Type 0
 AscendsFrom a [] = Unit {0}
 AscendsFrom a (b ∷ r) = (a < b) × AscendsFrom b r
@@ -29,12 +29,12 @@ abbrev pub Waits : Market → Stage → List ℕ → Type 0
 Waits m s [] = Unit {0}
 Waits m s (a ∷ r) = WaitsBehind m s a r
 
--- the last of the waiting is first in priority
+-- the last of those who wait is first in priority of the people in line
 abbrev pub LastIsLeast : List ℕ → List ℕ → Type 0
 LastIsLeast [] line = Unit {0}
 LastIsLeast (a ∷ r) line = (p : ℕ) → among line p ≡ true → last_of a r ≤ p
 
--- the people in line and the open rooms
+-- the stage at which the people in line and the rooms marked in `remaining` remain
 abbrev pub stage_of : List ℕ → List Bool → Stage
 stage_of line remaining = record { people = among line; rooms = λ r. slice_index_or remaining r false }
 
@@ -51,8 +51,8 @@ pub record Queue (m : Market) (line : List ℕ) (asked : List Bool) (remaining :
   pub once : Once line
   pub known : (p : ℕ) → among line p ≡ true → p < m.people
 
--- f gives those who were served what they were given, and those in line what a series of removals from here
--- gives
+-- f gives the people who were served what they were given, and gives the people in line what a series of removals from
+-- this stage gives
 pub record Settles (m : Market) (line : List ℕ) (remaining : List Bool) (given : List (Option ℕ)) (f : ℕ → Option ℕ) : Type 0 where
   pub served : (p : ℕ) → p < m.people → among line p ≡ false → f p ≡ slice_index_or given p None
   pub leads : Leads m f (stage_of line remaining)

@@ -8,7 +8,7 @@ pub record IsTenants (m : Market) (tenants : List (Option ℕ)) : Type 0 where
   pub tenants_len : length tenants ≡ m.rooms
   pub tenants_are : (r : ℕ) → r < m.rooms → slice_index_or tenants r None ≡ tenant m r
 
--- the same for the first n people alone, who all have different homes
+-- `tenants` gives, for each room, who of the first n people lives there; no two of these people have the same home
 pub record AreHoused (homes : List (Option ℕ)) (tenants : List (Option ℕ)) (n : ℕ) : Type 0 where
   pub housed : (r : ℕ) → r < length tenants
       → slice_index_or tenants r None ≡ first_below n (λ p. is_room r (slice_index_or homes p None))

@@ -3,7 +3,7 @@ use Rattle.std.proofs.lemmas.Result.{IfOk-weaker}
 use Rattle.std.proofs.lemmas.List.{nil_from_length}
 use Rattle.std.proofs.lemmas.Bool.{eqb-true}
 use Rattle.draw_order.specs.Draw.{IsDrawnOrder, drawn_order}
-use Rattle.draw_order.proofs.draws.Orders.{drawn_by_sort, draws-one_drawn_order}
+use Rattle.draw_order.proofs.draws.Orders.{drawn_by_sort, drawn_orders_agree}
 use Rattle.draw_order.proofs.tickets.order.Goals as goal
 
 pub returns-clause-drawn : goal.returns-clause-drawn
@@ -13,7 +13,7 @@ returns-clause-drawn c =
 
 pub returns-clause-computed : goal.returns-clause-computed
 returns-clause-computed c =
-    IfOk-weaker c.identifiers.result _ _ (λ people drawn. (draws-one_drawn_order c.args.tickets.now).one people.items drawn) (returns-clause-drawn c)
+    IfOk-weaker c.identifiers.result _ _ (λ people drawn. (drawn_orders_agree c.args.tickets.now).one people.items drawn) (returns-clause-drawn c)
 
 pub returns-then-is_empty-clause-computed : goal.returns-then-is_empty-clause-computed
 returns-then-is_empty-clause-computed c =
@@ -23,4 +23,4 @@ returns-then-is_empty-clause-computed c =
 pub returns-then-is_empty-clause-drawn : goal.returns-then-is_empty-clause-drawn
 returns-then-is_empty-clause-drawn c =
     subst (λ people. IsDrawnOrder c.args.tickets.now people)
-    (sym (returns-then-is_empty-clause-computed c)) (draws-one_drawn_order c.args.tickets.now).some
+    (sym (returns-then-is_empty-clause-computed c)) (drawn_orders_agree c.args.tickets.now).some

@@ -13,8 +13,8 @@ returns-in-Err-extend_from_slice-clause-cannot_read g c =
     let came = take c.in-Ok.n c.read.new.buf in
     let joined = length-append {A = ℕ} bytes came in
     let sized = read.bound.1 in
-    let buffer : length c.read.new.buf ≡ length (take c.min-room.result c.reads.chunk) = c.read.auto.buf in
-    let room = length-take c.min-room.result c.reads.chunk in
+    let buffer : length c.read.new.buf ≡ length (take c.min-asked.result c.reads.chunk) = c.read.auto.buf in
+    let room = length-take c.min-asked.result c.reads.chunk in
     let ended = read.ended in
     record {
       asked = omega arith;

@@ -18,7 +18,7 @@ use std::alloc::Global;
 ///
 /// `BadRecord` for the first record that cannot be parsed. If every record can be parsed, `BadRecord` for the first
 /// whose own command the office refuses. `OutOfMemory` if an allocation fails.
-#[tactic(auto, using(crate::proofs::imports::ListChecks::imports_few_entries, crate::proofs::imports::ListChecks::imports_few_changes))]
+#[tactic(auto, using(crate::proofs::imports::ListChecks::few_entries, crate::proofs::imports::ListChecks::few_changes))]
 pub fn choices_added(alloc: Global, office: &Office, bytes: &[u8]) -> Result<Vec<Change>, Refusal>
     ensures added { IfOk result
         (λ changes. AreAdded choices_command office.now bytes.now changes.items) }

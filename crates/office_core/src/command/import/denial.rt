@@ -6,8 +6,8 @@ ghost use Rattle.office_core.specs.Inner.Tries.{denial_of};
 use crate::refusal::Refusal;
 use office_lists::Cause;
 
-/// Converts the refusal of a record's own command to the refusal of the list. `index` is that of the record, counted
-/// from 0. Returns `OutOfMemory` unchanged.
+/// Converts the refusal of a record's own command to the refusal of the list. `index` counts the data records from 0;
+/// the refusal counts the header as record 0. Returns `OutOfMemory` unchanged.
 pub(crate) fn denial_of(index: usize, refusal: &Refusal) -> Refusal
     requires { index < record_limit }
     ensures { result ≡ denial_of (index + 1) refusal.now }

@@ -23,7 +23,7 @@ use std::alloc::Global;
 ///
 /// `BadRecord` for the first record that cannot be parsed. If every record can be parsed, `BadRecord` for the first
 /// whose own command the office refuses. `OutOfMemory` if an allocation fails.
-#[tactic(auto, using(crate::proofs::imports::ListChecks::imports_few_entries, crate::proofs::imports::ListChecks::imports_few_changes))]
+#[tactic(auto, using(crate::proofs::imports::ListChecks::few_entries, crate::proofs::imports::ListChecks::few_changes))]
 pub fn people_added(alloc: Global, office: &Office, bytes: &[u8]) -> Result<Vec<Change>, Refusal>
     ensures added { IfOk result
         (λ changes. AreAdded person_command office.now bytes.now changes.items) }
@@ -34,7 +34,7 @@ pub fn people_added(alloc: Global, office: &Office, bytes: &[u8]) -> Result<Vec<
     each_person_added(alloc, office, people.as_slice())
 }
 
-// Returns a change for each person. Checks each against the office to which all earlier ones were added.
+// Returns a change for each person. Checks each person against the office with all earlier people of the list added.
 fn each_person_added(
     alloc: Global,
     office: &Office,
@@ -81,7 +81,8 @@ fn may_add_person(office: &Office, register: &Register, entry: &PersonEntry) -> 
     Ok(())
 }
 
-// Checks that the home, if there is one, may be given to one more person of the register.
+// Checks that one more person may have this home, if there is one: the room is known and not shut, and nobody in the
+// register lives there.
 fn may_have_home(
     office: &Office,
     register: &Register,

@@ -1,4 +1,4 @@
-//! The people of an office with tables of their keys and homes, which replace scans of the people.
+//! The people of an office, with tables of their keys and homes. A lookup in a table replaces a scan of the people.
 ghost use Rattle.std.specs.Prelude.{◌≡◌, false, IfOk, OnOk};
 ghost use Rattle.std.specs.FinMap as map;
 ghost use Rattle.office_core.specs.Inner.Tries.{HasKeys, IsIndexed, placed};
@@ -34,7 +34,7 @@ impl Register {
     }
 
     /// Adds a person who is not known yet.
-    #[tactic(auto, using(crate::proofs::imports::Indexed::imports_still_indexed))]
+    #[tactic(auto, using(crate::proofs::imports::Indexed::still_indexed))]
     pub(crate) fn add(&mut self, entry: &PersonEntry) -> Result<(), OutOfMemory>
         requires unknown { map.contains_key self.old.people entry.now.person ≡ false }
         requires indexed { IsIndexed self.old }

@@ -18,7 +18,7 @@ use std::alloc::Global;
 ///
 /// `BadRecord` for the first record that cannot be parsed. If every record can be parsed, `BadRecord` for the first
 /// whose own command the office refuses. `OutOfMemory` if an allocation fails.
-#[tactic(auto, using(crate::proofs::imports::ListChecks::imports_few_entries, crate::proofs::imports::ListChecks::imports_few_changes))]
+#[tactic(auto, using(crate::proofs::imports::ListChecks::few_entries, crate::proofs::imports::ListChecks::few_changes))]
 pub fn rooms_added(alloc: Global, office: &Office, bytes: &[u8]) -> Result<Vec<Change>, Refusal>
     ensures added { IfOk result
         (λ changes. AreAdded room_command office.now bytes.now changes.items) }
@@ -29,7 +29,7 @@ pub fn rooms_added(alloc: Global, office: &Office, bytes: &[u8]) -> Result<Vec<C
     each_room_added(alloc, office, rooms.as_slice())
 }
 
-// Returns a change for each room. Checks each against the office to which all earlier ones were added.
+// Returns a change for each room. Checks each room against the office with all earlier rooms of the list added.
 fn each_room_added(
     alloc: Global,
     office: &Office,

@@ -7,7 +7,7 @@ use Rattle.std.proofs.lemmas.Iterator.Consumers.{map_from_collect}
 use Rattle.std.proofs.lemmas.Result.{IfOk-at_ok}
 use Rattle.room_types.specs.declared.moves.Move.{Move}
 use Rattle.room_types.specs.Ascending.{ascending}
-use Rattle.room_types.proofs.arranged.Arrangements.{arranged-one_arrangement, arranged-map-ascending}
+use Rattle.room_types.proofs.arranged.Arrangements.{arrangements_agree, map-ascending}
 use Rattle.office_lists.specs.MoveDay.{move_cmp}
 use Rattle.office_lists.proofs.move_days.MoveDayLists.{move_total}
 use Rattle.office_lists.proofs.move_day.in_moving_order.Goals as goal
@@ -19,6 +19,6 @@ returns-clause-ordered c =
     let weak = ranks_by move_total view in
     let sorted = c.in_ok-sort_by.ensures.sorted _ weak (answers_always _ _ _ (λ f a r q k. search rules)) in
     let stable = c.sort_by.ensures.stable _ weak (answers_always _ _ _ (λ f a r q k. search rules)) in
-    let one = arranged-one_arrangement (on view move_cmp) (on_total view move_total) c.in_ok-rows.rows.items in
+    let one = arrangements_agree (on view move_cmp) (on_total view move_total) c.in_ok-rows.rows.items in
     ap (map view) (one.one c.sort_by.new.self.items (record { same_items = c.sort_by.ensures.permutation; ascends = sorted; ties_stay = stable }))
-    ∙ arranged-map-ascending view move_cmp c.in_ok-rows.rows.items ∙ ap (ascending move_cmp) shows
+    ∙ map-ascending view move_cmp c.in_ok-rows.rows.items ∙ ap (ascending move_cmp) shows

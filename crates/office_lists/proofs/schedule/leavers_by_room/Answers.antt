@@ -4,7 +4,7 @@ use Rattle.std.specs.BTreeMap.{get_by}
 use Rattle.room_types.specs.Texts.{text_cmp, text_eq}
 use Rattle.std.proofs.lemmas.Map.Text.{btree_map_updates_str}
 use Rattle.office_lists.specs.Waves.{leaver}
-use Rattle.office_lists.proofs.move_days.Leavers.{move_days-without_old_room, move_days-known_old_room, move_days-new_old_room}
+use Rattle.office_lists.proofs.move_days.Leavers.{without_old_room, known_old_room, new_old_room}
 use Rattle.office_lists.proofs.schedule.leavers_by_room.Goals as goal
 use Rattle.office_lists.proofs.schedule.leavers_by_room.Goals.{in-Some+then-not-contains_key+in_ok-insert, in-Some+else-not-contains_key, in_default}
 
@@ -22,13 +22,13 @@ loop-i-preserved c = λ room.
           ap (λ m. get_by (λ k. text_cmp room k.now) m) w.by_room-is
           ∙ btree_map_updates_str w.as_str-then-not-contains_key.result.now c.loop-i.by_room w.insert.new.self (Some i) w.in_ok-insert.ensures.updates room
           ∙ (λ j. cond (text_eq (key j) room) (Some i) (before room j))
-          ∙ sym (move_days-new_old_room entries i entry c.loop-i-test.true c.index-entries-i.is room old w.in-Some.is new)
+          ∙ sym (new_old_room entries i entry c.loop-i-test.true c.index-entries-i.is room old w.in-Some.is new)
       | in-Some+else-not-contains_key w ↦
           let old = w.in-Some.room in
           let known : is_some (leaver (take i entries) old) ≡ true = ap is_some (sym (before old)) ∙ ap (λ t. is_some (get_by (λ k. text_cmp t k.now) c.loop-i.by_room)) (sym w.as_str.ensures.text) ∙ sym w.contains_key.ensures ∙ w.if-not-contains_key.false in
           ap (λ m. get_by (λ k. text_cmp room k.now) m) w.by_room-is ∙ before room
-          ∙ sym (move_days-known_old_room entries i entry c.loop-i-test.true c.index-entries-i.is room old w.in-Some.is known)
+          ∙ sym (known_old_room entries i entry c.loop-i-test.true c.index-entries-i.is room old w.in-Some.is known)
       | in_default w ↦
           ap (λ m. get_by (λ k. text_cmp room k.now) m) w.by_room-is ∙ before room
-          ∙ sym (move_days-without_old_room entries i entry c.loop-i-test.true c.index-entries-i.is room w.in_default.is)
+          ∙ sym (without_old_room entries i entry c.loop-i-test.true c.index-entries-i.is room w.in_default.is)
     ]

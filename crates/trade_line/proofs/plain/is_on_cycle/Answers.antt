@@ -4,12 +4,12 @@ use Rattle.trade_line.specs.Below.{some_below}
 use Rattle.trade_line.specs.TopTradingCycles.{successor, remaining_count}
 use Rattle.trade_line.specs.Inner.Plain.{remains}
 use Rattle.trade_line.proofs.counts.Count.{times_after}
-use Rattle.trade_line.proofs.searches.PlainSteps.{read_mark, searches-cycle_gone, searches-cycle_none, searches-cycle_found, some_more}
+use Rattle.trade_line.proofs.searches.PlainSteps.{read_mark, cycle_gone, cycle_none, cycle_found, some_more}
 use Rattle.trade_line.proofs.plain.is_on_cycle.Goals as goal
 
 pub returns-then-not-index : goal.returns-then-not-index
 returns-then-not-index c =
-    sym (searches-cycle_gone c.args.problem.now (remains c.args.stage.now) c.args.person
+    sym (cycle_gone c.args.problem.now (remains c.args.stage.now) c.args.person
     (read_mark c.args.stage.now.people.items c.args.person c.index.result.now (omega (arith, c.requires.person, c.requires.marks.people_len)) c.index.ensures ∙ c.if-not-index.true))
 
 pub loop-turn-init : goal.loop-turn-init
@@ -21,7 +21,7 @@ loop-turn-init c = record {
 
 pub returns-then-at-person : goal.returns-then-at-person
 returns-then-at-person c =
-    sym (searches-cycle_found c.args.problem.now (remains c.args.stage.now) c.args.person c.loop-turn.turn
+    sym (cycle_found c.args.problem.now (remains c.args.stage.now) c.args.person c.loop-turn.turn
     (read_mark c.args.stage.now.people.items c.args.person c.index.result.now (omega (arith, c.requires.person, c.requires.marks.people_len)) c.index.ensures ∙ c.if-not-index.false)
     (omega (arith, c.loop-turn-test.true, c.count-turn-end.ensures))
     (ap (successor c.args.problem.now (remains c.args.stage.now)) (sym c.loop-turn.invariant.reached) ∙ sym c.successor-at.ensures.successor ∙ c.if-at-person.true))
@@ -41,6 +41,6 @@ loop-turn-preserved c =
 pub returns : goal.returns
 returns c =
     let at : c.loop-turn.turn ≡ remaining_count c.args.problem.now (remains c.args.stage.now) = omega (arith, c.loop-turn-test.false, c.loop-turn.auto.turn-end, c.count-turn-end.ensures) in
-    sym (searches-cycle_none c.args.problem.now (remains c.args.stage.now) c.args.person
+    sym (cycle_none c.args.problem.now (remains c.args.stage.now) c.args.person
     (read_mark c.args.stage.now.people.items c.args.person c.index.result.now (omega (arith, c.requires.person, c.requires.marks.people_len)) c.index.ensures ∙ c.if-not-index.false)
     (subst (λ n. some_below n (λ k. iterate (successor c.args.problem.now (remains c.args.stage.now)) (suc k) c.args.person == c.args.person) ≡ false) at c.loop-turn.invariant.not_yet))

@@ -4,7 +4,7 @@ use Rattle.trade_line.specs.Market.{Market}
 use Rattle.trade_line.specs.TopTradingCycles.{gets, ttc}
 use Rattle.trade_line.specs.Inner.Plain.{remains, marked_stage, Stepped}
 use Rattle.std.proofs.lemmas.List.{length-replicate}
-use Rattle.trade_line.proofs.searches.PlainSteps.{searches-stepped_start, searches-stepped_more, searches-stepped_end}
+use Rattle.trade_line.proofs.searches.PlainSteps.{stepped_start, stepped_more, stepped_end}
 use Rattle.trade_line.proofs.plain.top_trading_cycles.Goals as goal
 
 pub loop-turn-init : goal.loop-turn-init
@@ -20,7 +20,7 @@ loop-turn-init c =
           (subst (λ z. Stepped m (remains c.in_ok-stage.stage) z m.people) (sym c.in_ok-given.ensures)
           (subst (λ z. Stepped m (marked_stage z c.in_ok-stage.stage.rooms.items) (replicate m.people None) m.people) (sym c.in_ok-stage.ensures.people)
           (subst (λ z. Stepped m (marked_stage (replicate m.people true) z) (replicate m.people None) m.people) (sym c.in_ok-stage.ensures.rooms)
-          (searches-stepped_start m m.people m.rooms refl refl))));
+          (stepped_start m m.people m.rooms refl refl))));
     }
 
 pub loop-turn-preserved : goal.loop-turn-preserved
@@ -29,7 +29,7 @@ loop-turn-preserved c = record {
   given_len = c.step.ensures.given;
   stepped = λ k e.
       subst (λ z. Stepped c.args.problem.now z c.step.new.given.items k) (sym c.in_ok-next.ensures.next)
-      (searches-stepped_more c.args.problem.now (remains c.loop-turn.stage) c.loop-turn.given.items c.step.new.given.items k (c.loop-turn.invariant.stepped (suc k) (omega (arith, e))) c.in_ok-next.ensures.gives);
+      (stepped_more c.args.problem.now (remains c.loop-turn.stage) c.loop-turn.given.items c.step.new.given.items k (c.loop-turn.invariant.stepped (suc k) (omega (arith, e))) c.in_ok-next.ensures.gives);
 }
 
 pub returns-then-people-eq0-clause-rooms : goal.returns-then-people-eq0-clause-rooms
@@ -41,4 +41,4 @@ returns-then-people-eq0-clause-rooms c =
 pub returns-clause-rooms : goal.returns-clause-rooms
 returns-clause-rooms c =
     let at : 0 + c.loop-turn.turn ≡ c.args.problem.now.people = omega arith in
-    searches-stepped_end c.args.problem.now (remains c.loop-turn.stage) c.loop-turn.given.items (c.loop-turn.invariant.stepped 0 at) c.loop-turn.invariant.given_len
+    stepped_end c.args.problem.now (remains c.loop-turn.stage) c.loop-turn.given.items (c.loop-turn.invariant.stepped 0 at) c.loop-turn.invariant.given_len

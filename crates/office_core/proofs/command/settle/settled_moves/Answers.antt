@@ -1,8 +1,8 @@
 use Rattle.std.proofs.Common.{◌≤◌, sym, subst, ◌∙◌, length}
 use Rattle.office_lists.specs.Waves.{NewRoomsDiffer}
 use Rattle.office_state.specs.Office.Limits.{people_limit}
-use Rattle.office_state.proofs.round_problems.Problem.{round_problems-lawful-IsMarket}
-use Rattle.office_state.proofs.moving_people.Settled.{moving_people-new_rooms_differ, few_relocations}
+use Rattle.office_state.proofs.round_problems.Problem.{lawful-IsMarket}
+use Rattle.office_state.proofs.moving_people.Settled.{new_rooms_differ, few_relocations}
 use Rattle.office_state.proofs.round_phases.Untouched.{published_given}
 use Rattle.office_core.proofs.command.settle.settled_moves.Goals as goal
 
@@ -16,6 +16,6 @@ pub waves-requires-clause-new_rooms_differ : goal.waves-requires-clause-new_room
 waves-requires-clause-new_rooms_differ c =
     let office = c.args.office.now in
     subst (λ ms. NewRoomsDiffer ms) (sym (c.as_slice.ensures.value ∙ c.in_ok-relocations.ensures.relocations))
-    (moving_people-new_rooms_differ office c.requires.lawful.register (round_problems-lawful-IsMarket office c.requires.lawful)
+    (new_rooms_differ office c.requires.lawful.register (lawful-IsMarket office c.requires.lawful)
     (c.requires.lawful.results.given (published_given office.phase
     c.requires.published)))

@@ -5,7 +5,7 @@ use Rattle.office_schema.specs.tables.Tables.{HoldsOfficeIn}
 use Rattle.office_db.specs.loading.Finding.{AreDeclared, names_round}
 use Rattle.office_db.specs.loading.Layout.{layout_in}
 use Rattle.office_db.proofs.found_offices.Finding.{laid_allowed, same_layout}
-use Rattle.office_db.proofs.found_offices.LayoutTests.{known_begins_office, found_offices-names_round}
+use Rattle.office_db.proofs.found_offices.LayoutTests.{known_begins_office, office_names_round}
 use Rattle.office_db.proofs.found_offices.Versions.{none_some, own_layout, own_round}
 use Rattle.office_db.proofs.loaded.WholeRows.{laid_if_sound}
 use Rattle.office_db.proofs.loading.finding.find.Goals as goal
@@ -62,7 +62,7 @@ returns-in-Err-clause-unread g c none =
 pub returns-then-not-names_round-clause-other : goal.returns-then-not-names_round-clause-other
 returns-then-not-names_round-clause-other g c clean version front other =
     let start = state g.S.Store c.args.conn.now in
-    absurd (true≢false (sym (found_offices-names_round start.now.schema front) ∙ ap names_round (sym c.schema.ensures.value) ∙ sym c.names_round.ensures ∙ c.if-not-names_round.true))
+    absurd (true≢false (sym (office_names_round start.now.schema front) ∙ ap names_round (sym c.schema.ensures.value) ∙ sym c.names_round.ensures ∙ c.if-not-names_round.true))
 
 pub returns-in-Err-clause-allowed : goal.returns-in-Err-clause-allowed
 returns-in-Err-clause-allowed g c =

@@ -7,7 +7,7 @@ use Rattle.office_schema.specs.tables.Tables.{HoldsOfficeIn}
 use Rattle.office_schema.proofs.statements.Steps.{intact_before}
 use Rattle.office_db.specs.loading.Finding.{HoldsVersion, HoldsOtherVersion}
 use Rattle.office_db.specs.declared.loading.finding.FindFault.TheVariants.{OtherVersion}
-use Rattle.office_db.proofs.found_offices.Versions.{none_some, one_version, found_offices-own_version, same_some}
+use Rattle.office_db.proofs.found_offices.Versions.{none_some, one_version, layout_states_version, same_some}
 use Rattle.office_db.proofs.loaded.VersionMeanings.{same_begins_office}
 use Rattle.office_db.proofs.loading.finding.read.Goals as goal
 
@@ -16,7 +16,7 @@ returns-in-Ok-Some-clause-found g c clean own office lawful well_formed holds =
     let start = state g.S.Store c.args.conn.now in
     let layout = c.args.layout in
     let other = (rw c.in-Ok-Some.field-0-is at c.in-Ok-Some.ensures.other) clean (same_begins_office layout start.now.schema holds.schema) in
-    let held = subst (λ n. HoldsVersion start.now (pos n)) own (found_offices-own_version layout start.now office holds) in
+    let held = subst (λ n. HoldsVersion start.now (pos n)) own (layout_states_version layout start.now office holds) in
     absurd (other.1 (one_version start.now c.in-Ok-Some.version (pos own_version) other.0 held))
 
 pub returns-in-Ok-Some-clause-cause : goal.returns-in-Ok-Some-clause-cause
@@ -37,7 +37,7 @@ returns-then-version-ne3-clause-cause g c clean has =
       version = λ version other. none_some version (returned version other);
       none = λ office lawful well_formed holds. none_some (pos (version_of layout))
           (returned (pos (version_of layout)) (
-            found_offices-own_version layout start.now office holds,
+            layout_states_version layout start.now office holds,
             λ same. let own : version_of layout ≡ own_version = cc in c.if-version-ne3.true (c.version.ensures ∙ own),
           ));
     }

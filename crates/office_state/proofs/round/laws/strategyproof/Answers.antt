@@ -1,5 +1,5 @@
-use Rattle.office_state.proofs.round_outcomes.Lists.{round_outcomes-by_list, round_outcomes-own_list_best}
+use Rattle.office_state.proofs.round_outcomes.Lists.{by_list, own_list_best}
 use Rattle.office_state.proofs.round.laws.strategyproof.Goals as goal
 
 pub returns : goal.returns
-returns c = record { best = round_outcomes-own_list_best; by_another = round_outcomes-by_list }
+returns c = record { best = own_list_best; by_another = by_list }

@@ -8,12 +8,12 @@ use Rattle.trade_line.specs.OtherList.{with_list, IsListFor}
 use Rattle.trade_line.specs.Rank.{rank}
 use Rattle.trade_line.specs.TopTradingCycles.{gets}
 use Rattle.trade_line.proofs.welfare.Manipulation.{list_proof}
-use Rattle.trade_line.proofs.welfare.OtherLists.{welfare-with_list_market}
+use Rattle.trade_line.proofs.welfare.OtherLists.{with_list_market}
 use Rattle.office_state.specs.Round.{round_market, round_people, round_list, number_in}
 use Rattle.office_state.proofs.round_problems.People.{participant_number}
-use Rattle.office_state.proofs.round_problems.Problem.{codes_differ, round_problems-fits, list-same, sole_list_fault}
+use Rattle.office_state.proofs.round_problems.Problem.{codes_differ, fits, list-same, sole_list_fault}
 use Rattle.office_state.proofs.round.other_list.result_by.Goals as goal
-use Rattle.office_state.proofs.round_outcomes.Ranks.{round_outcomes-result_by-numbered, round_outcomes-no_gain-named}
+use Rattle.office_state.proofs.round_outcomes.Ranks.{result_by-numbered, no_gain-named}
 
 pub unreachable-requires : goal.unreachable-requires
 unreachable-requires c =
@@ -44,7 +44,7 @@ returns-in-Ok-clause-room c =
     c.as_slice.ensures.rooms in
     let apart : AllPairs ◌≢◌ codes = codes_differ codes c.as_slice.ensures.choices.1 in
     let may : IsListFor (round_market office) c.in-Some.number (round_list office person codes) =
-    round_problems-fits office person c.in-Some.number codes numbered apart in
+    fits office person c.in-Some.number codes numbered apart in
     let same : gets (with_list c.in_ok-round.round.problem c.in-Some.number c.in_ok-list.list.items)
     c.in-Some.number ≡ gets (with_list (round_market office) c.in-Some.number
     (round_list office person codes)) c.in-Some.number =
@@ -54,7 +54,7 @@ returns-in-Ok-clause-room c =
     c.in-Some.number = c.in-Ok.ensures.room ∙ same in
     IfOk-weaker c.room_named.result _ _ (λ named is.
     is ∙ (λ i. option_and_then (slice_get ((c.deref-in-Ok.ensures.value ∙ about.rooms) i)) (room i))
-    ∙ sym (round_outcomes-result_by-numbered office ok person c.in-Some.number numbered codes))
+    ∙ sym (result_by-numbered office ok person c.in-Some.number numbered codes))
     c.room_named.ensures
 
 pub returns-in-Ok-clause-no_gain : goal.returns-in-Ok-clause-no_gain
@@ -74,16 +74,16 @@ returns-in-Ok-clause-no_gain c =
     c.as_slice.ensures.rooms in
     let apart : AllPairs ◌≢◌ codes = codes_differ codes c.as_slice.ensures.choices.1 in
     let may : IsListFor (round_market office) c.in-Some.number (round_list office person codes) =
-    round_problems-fits office person c.in-Some.number codes numbered apart in
+    fits office person c.in-Some.number codes numbered apart in
     let m : Market = round_market office in
     let n : ℕ = c.in-Some.number in
     let no_gain : rank m n (gets m n) ≤ rank m n
     (gets (with_list m n (round_list office person codes)) n) =
     list_proof m ok n (round_list office person codes) may.0.0
-    (welfare-with_list_market m ok n (round_list office person codes) may) in
+    (with_list_market m ok n (round_list office person codes) may) in
     IfOk-weaker c.room_named.result _ _ (λ named is.
-    round_outcomes-no_gain-named office ok person n numbered codes may no_gain named
-    (is ∙ round_outcomes-result_by-numbered office ok person n numbered codes)) (returns-in-Ok-clause-room c)
+    no_gain-named office ok person n numbered codes may no_gain named
+    (is ∙ result_by-numbered office ok person n numbered codes)) (returns-in-Ok-clause-room c)
 
 pub out_of_memory-requires : goal.out_of_memory-requires
 out_of_memory-requires c =
@@ -102,7 +102,7 @@ out_of_memory-requires c =
     c.as_slice.ensures.rooms in
     let apart : AllPairs ◌≢◌ codes = codes_differ codes c.as_slice.ensures.choices.1 in
     let may : IsListFor (round_market office) c.in-Some.number (round_list office person codes) =
-    round_problems-fits office person c.in-Some.number codes numbered apart in
+    fits office person c.in-Some.number codes numbered apart in
     sole_list_fault c.in_ok-round.round.problem c.in-Some.number c.in_ok-list.list.items
     (subst (λ m. IsListFor m c.in-Some.number c.in_ok-list.list.items) (sym about.market)
     (subst (λ l. IsListFor (round_market office) c.in-Some.number l) (sym list) may))

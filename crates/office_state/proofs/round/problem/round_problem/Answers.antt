@@ -6,7 +6,7 @@ use Rattle.trade_line.specs.Market.{IsMarket}
 use Rattle.trade_line.specs.Problem.{market_of}
 use Rattle.office_state.specs.Office.{choices_of}
 use Rattle.office_state.specs.Round.{round_market, number_in}
-use Rattle.office_state.proofs.round_problems.Problem.{round_problems-market-IsMarket, market-same, sole_fault}
+use Rattle.office_state.proofs.round_problems.Problem.{market-IsMarket, market-same, sole_fault}
 use Rattle.office_state.proofs.round.problem.round_problem.Goals as goal
 
 pub out_of_memory-requires : goal.out_of_memory-requires
@@ -25,7 +25,7 @@ out_of_memory-requires c =
     (c.len-2.ensures ∙ sym c.deref.ensures.len) c.in_ok-numbers.ensures c.in_ok-homes.ensures
     c.in_ok-lists.ensures.lists in
     let ok : IsMarket (round_market c.args.office.now) =
-    round_problems-market-IsMarket c.args.office.now c.requires
+    market-IsMarket c.args.office.now c.requires
     (subst (λ people. All (λ p. first_repeated [] (choices_of c.args.office.now p) ≡ None) people)
     (c.deref-3.ensures.value ∙ c.in_ok-people.ensures.people) c.in_ok-lists.ensures.differ) in
     sole_fault (market_of c.len.result c.len-2.result c.in_ok-homes.homes.items
@@ -57,6 +57,6 @@ returns-in-Ok-clause-problem c =
 
 pub returns-in-Ok-clause-well_formed : goal.returns-in-Ok-clause-well_formed
 returns-in-Ok-clause-well_formed c =
-    round_problems-market-IsMarket c.args.office.now c.requires
+    market-IsMarket c.args.office.now c.requires
     (subst (λ people. All (λ p. first_repeated [] (choices_of c.args.office.now p) ≡ None) people)
     (c.deref-3.ensures.value ∙ c.in_ok-people.ensures.people) c.in_ok-lists.ensures.differ)

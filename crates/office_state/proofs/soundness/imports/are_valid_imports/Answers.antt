@@ -1,6 +1,6 @@
 use Rattle.std.proofs.Common.{arith}
 use Rattle.std.proofs.lemmas.Bool.Decides.{Decides-at}
-use Rattle.office_state.proofs.sound_offices.InvariantTests.{as_well, sound_offices-short-decides}
+use Rattle.office_state.proofs.sound_offices.InvariantTests.{as_well, short-decides}
 use Rattle.office_state.proofs.soundness.imports.are_valid_imports.Goals as goal
 
 pub returns : goal.returns
@@ -13,4 +13,4 @@ returns c =
       counted = short.counted;
     })
     (λ k. record { short = k.short; counted = k.counted })
-    (Decides-at _ _ c.are_imports_short.ensures (sound_offices-short-decides lists))
+    (Decides-at _ _ c.are_imports_short.ensures (short-decides lists))

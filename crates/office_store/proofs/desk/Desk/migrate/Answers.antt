@@ -2,7 +2,7 @@ use Rattle.std.proofs.Common.{Err, Some, inl, inr, sym, ap, ◌∙◌, subst}
 use Rattle.office_store.specs.Desk.{Shows}
 use Rattle.office_store.specs.Migrating.{migrating_fault}
 use Rattle.office_schema.specs.tables.Layouts.{version_of}
-use Rattle.office_store.proofs.desks.Migrated.{shows_migrated, desks-there}
+use Rattle.office_store.proofs.desks.Migrated.{shows_migrated, only_there}
 use Rattle.office_store.proofs.desk.Desk.migrate.Goals as goal
 
 pub returns-in-Ok-clause-shows : goal.returns-in-Ok-clause-shows
@@ -40,4 +40,4 @@ returns-in-Err-clause-taken g c layout office first used clean =
 
 pub returns-in-Err-clause-rows : goal.returns-in-Err-clause-rows
 returns-in-Err-clause-rows g c there clean =
-    c.in-Err.ensures.rows (ap Err (desks-there c.in-Err.fault (sym c.migrating_fault.ensures ∙ there))) clean
+    c.in-Err.ensures.rows (ap Err (only_there c.in-Err.fault (sym c.migrating_fault.ensures ∙ there))) clean

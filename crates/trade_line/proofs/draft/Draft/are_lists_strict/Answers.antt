@@ -4,7 +4,7 @@ use Rattle.std.proofs.lemmas.List.{length-map}
 use Rattle.trade_line.specs.Market.{list_of}
 use Rattle.trade_line.specs.Inner.Draft.{drafted}
 use Rattle.trade_line.specs.Inner.Marks.{AreDistinct}
-use Rattle.trade_line.proofs.markets.Drafts.{items_of, read_list, markets-distinct_more, slice_written_back}
+use Rattle.trade_line.proofs.markets.Drafts.{items_of, read_list, distinct_more, slice_written_back}
 use Rattle.trade_line.proofs.draft.Draft.are_lists_strict.Goals as goal
 
 pub is_distinct-requires-clause-known : goal.is_distinct-requires-clause-known
@@ -34,6 +34,6 @@ loop-person-preserved c =
     let same : length c.is_distinct.new.last ≡ length c.loop-person.last.items = omega (arith, c.is_distinct.auto.last, ap length c.deref_mut.ensures.value) in
     subst (λ z. AreDistinct (drafted c.args.self.now) z (c.loop-person.person + 1))
     (sym (slice_written_back c.loop-person.last.len c.is_distinct.new.last c.loop-person.last.items (omega (arith, c.loop-person.last.ok.0)) (omega (arith, c.loop-person.last.ok.0))))
-    (markets-distinct_more (drafted c.args.self.now) c.loop-person.last.items c.is_distinct.new.last c.loop-person.person c.loop-person.invariant
+    (distinct_more (drafted c.args.self.now) c.loop-person.last.items c.is_distinct.new.last c.loop-person.person c.loop-person.invariant
     (subst (AllPairs ◌≢◌) (sym list_is) (c.is_distinct.ensures.distinct.0 c.if-not-is_distinct.false)) same
     (subst (λ z. (r : ℕ) → r < length z → (get_or c.is_distinct.new.last r 0 ≡ get_or z r 0) ⊎ (get_or c.is_distinct.new.last r 0 ≡ c.loop-person.person)) c.deref_mut.ensures.value c.is_distinct.ensures.last))

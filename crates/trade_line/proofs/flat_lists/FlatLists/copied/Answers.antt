@@ -1,7 +1,7 @@
 use Rattle.std.proofs.Common.{◌≡◌, ◌<◌, ◌≤◌, [], length, map, get_or, ◌∙◌, arith, refl}
 use Rattle.std.proofs.lemmas.List.{length-map}
 use Rattle.trade_line.proofs.markets.Drafts.{items_of, read_list}
-use Rattle.trade_line.proofs.markets.Flat.{flat_next, flat_whole, flat_self, markets-flat_lists_are}
+use Rattle.trade_line.proofs.markets.Flat.{flat_next, flat_whole, flat_self, flat_lists_are}
 use Rattle.trade_line.proofs.flat_lists.FlatLists.copied.Goals as goal
 
 pub loop-list-preserved : goal.loop-list-preserved
@@ -20,4 +20,4 @@ invariant_of-result c =
 pub returns : goal.returns
 returns c =
     let all : length (map items_of c.args.lists.now) ≤ c.loop-list.list-index = omega (arith, c.loop-list-test.false, length-map c.args.lists.now items_of) in
-    markets-flat_lists_are _ _ (map items_of c.args.lists.now) (flat_whole _ _ (map items_of c.args.lists.now) c.loop-list.list-index all c.loop-list.invariant)
+    flat_lists_are _ _ (map items_of c.args.lists.now) (flat_whole _ _ (map items_of c.args.lists.now) c.loop-list.list-index all c.loop-list.invariant)

@@ -1,5 +1,5 @@
 use Rattle.std.proofs.Common.{◌≡◌, ◌<◌, ◌≤◌, [], length, get_or, set, sym, ap, ◌∙◌, subst, arith, get_or-set_same, get_or-set_other, length-set}
-use Rattle.trade_line.proofs.markets.Flat.{flat_next, flat_whole, flat_self, markets-flat_lists_are}
+use Rattle.trade_line.proofs.markets.Flat.{flat_next, flat_whole, flat_self, flat_lists_are}
 use Rattle.trade_line.proofs.flat_lists.FlatLists.with_list.Goals as goal
 use Rattle.trade_line.proofs.flat_lists.FlatLists.with_list.Goals.{then-other-person, else-other-person}
 
@@ -26,4 +26,4 @@ pub returns : goal.returns
 returns c =
     let lists = set c.args.self.now c.args.person c.args.list.now in
     let all : length (set c.args.self.now c.args.person c.args.list.now) ≤ c.loop-other.other = omega (arith, c.loop-other-test.false, c.len-other-end.ensures, length-set c.args.self.now c.args.person c.args.list.now) in
-    markets-flat_lists_are _ _ lists (flat_whole _ _ lists c.loop-other.other all c.loop-other.invariant)
+    flat_lists_are _ _ lists (flat_whole _ _ lists c.loop-other.other all c.loop-other.invariant)

@@ -4,8 +4,8 @@ use Rattle.std.specs.Cmp.{nat_cmp_total}
 use Rattle.std.specs.FinMap as map
 use Rattle.std.proofs.lemmas.Result.{on_ok_weaker, on_err_weaker}
 use Rattle.office_state.specs.Office.Moves.{with_move}
-use Rattle.room_types.proofs.maps.Trees.{maps-get-tree}
-use Rattle.office_state.proofs.offices.Moves.{offices-move-written, offices-move-unwritten}
+use Rattle.room_types.proofs.maps.Trees.{get-tree}
+use Rattle.office_state.proofs.offices.Moves.{move-written, move-unwritten}
 use Rattle.office_state.proofs.offices.Moves.{move-begun}
 use Rattle.office_state.proofs.office.moves.Rounds+RoundMoves.add.Goals as goal
 
@@ -13,7 +13,7 @@ pub returns-in-Some-clause-ok : goal.returns-in-Some-clause-ok
 returns-in-Some-clause-ok c =
     let moves = c.in-Some.moves.now.by_person in
     on_ok_weaker c.insert.result (λ m.
-    offices-move-written c.self.inside.tree
+    move-written c.self.inside.tree
     (c.get_mut.follows.lender (record { by_person = c.insert.new.self })) c.args.moved.now.round
     c.in-Some.moves.now c.in-Some.ensures.value c.insert.new.self
     (c.get_mut.follows.holds (record { by_person = c.insert.new.self })).3 c.args.moved.now refl
@@ -28,7 +28,7 @@ returns-in-Some-clause-ok c =
 pub returns-in-Some-clause-err : goal.returns-in-Some-clause-err
 returns-in-Some-clause-err c =
     on_err_weaker c.insert.result (λ m.
-    offices-move-unwritten c.self.inside.tree
+    move-unwritten c.self.inside.tree
     (c.get_mut.follows.lender (record { by_person = c.insert.new.self })) c.args.moved.now.round
     c.in-Some.moves.now c.in-Some.ensures.value c.insert.new.self
     (c.get_mut.follows.holds (record { by_person = c.insert.new.self })).3 m
@@ -39,7 +39,7 @@ returns-in-None-clause-ok c =
     on_ok_weaker c.begin.result (λ m.
     let none : map.get c.args.self.now c.args.moved.now.round ≡ None =
     ap (λ kept. map.get kept c.args.moved.now.round) (sym c.self.view_is)
-    ∙ maps-get-tree nat_cmp_total c.self.inside.tree c.args.moved.now.round
+    ∙ get-tree nat_cmp_total c.self.inside.tree c.args.moved.now.round
     ∙ sym c.in-None.ensures.value in
     m
     ∙ ap (λ tree. map.insert (map.from_entries {R = nat_cmp} tree.entries) c.args.moved.now.round

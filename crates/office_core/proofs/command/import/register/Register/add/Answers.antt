@@ -1,4 +1,4 @@
-use Rattle.office_core.proofs.imports.Indexed.{imports_still_indexed}
+use Rattle.office_core.proofs.imports.Indexed.{still_indexed}
 use Rattle.office_core.proofs.command.import.register.Register.add.Goals as goal
 
 pub returns-clause-indexed : goal.returns-clause-indexed
@@ -13,7 +13,7 @@ returns-clause-indexed c =
       c.in_ok-copy_optional.ensures.copy,
       c.in_ok-copy-4.ensures,
     )
-    (imports_still_indexed c.args.self.now.people c.args.self.now.keys c.args.self.now.tenants
+    (still_indexed c.args.self.now.people c.args.self.now.keys c.args.self.now.tenants
     c.args.entry.now.person (record {
       name = c.args.entry.now.name;
       key = c.args.entry.now.key;

@@ -1,0 +1,372 @@
+use Rattle.std.proofs.Common.{◌≡◌, true, false, true≢false, pos, IsSome, sym, ap, ap₂, ◌∙◌, subst, inl, inr}
+use Rattle.std.specs.Option.{is_some}
+use Rattle.std.proofs.lemmas.Result.{err_from_is_err_and}
+use Rattle.sqlite.specs.Effect.{Database}
+use Rattle.sqlite.specs.Held.{state}
+use Rattle.office_schema.specs.cells.WellFormed.{IsWellFormed}
+use Rattle.office_schema.specs.rows.Tables.{rows_at}
+use Rattle.office_schema.specs.tables.Layouts.{schema_of, version_of}
+use Rattle.office_schema.specs.tables.Tables.{HoldsOfficeIn}
+use Rattle.office_schema.proofs.statements.Steps.{intact_before}
+use Rattle.office_db.specs.loading.Finding.{AreDeclared, AreWhole, HoldsVersion, names_round}
+use Rattle.office_db.specs.loading.FirstTables.{BeginsOffice, begins_office}
+use Rattle.office_db.specs.loading.Layout.{layout_in}
+use Rattle.office_db.specs.loading.Numbers.{IsLaidOut}
+use Rattle.office_db.proofs.found_offices.Finding.{same_layout}
+use Rattle.office_db.proofs.found_offices.Versions.{none_some, own_round}
+use Rattle.office_db.proofs.found_offices.Versions.{layout_states_version, same_some}
+use Rattle.office_db.proofs.loaded.VersionMeanings.{same_begins_office}
+use Rattle.office_db.proofs.loaded.WholeRows.{laid_if_sound}
+use Rattle.office_migration.specs.Causes.{AreEarlierRows, AreNoEarlierRows, BeginsAt, HoldsEarlier, IsVersionFault, HoldsEarlierFirst}
+use Rattle.office_migration.specs.First.{first_layout}
+use Rattle.office_migration.specs.declared.migrating.MigrateFault.TheVariants.{AlreadyThere}
+use Rattle.office_migration.specs.Names.{uses_missing_name, takes_name}
+use Rattle.office_migration.specs.Versions.{IsOfVersion}
+use Rattle.office_migration.proofs.earlier.Causes.{none_in_layout, none_of_other, only_unavailable}
+use Rattle.office_migration.proofs.earlier.Causes.{may_return, name_allowed, name_cause}
+use Rattle.office_migration.proofs.earlier.Causes.{name_returned, read_as_none}
+use Rattle.office_migration.proofs.earlier.Causes.{pos_injective, takes_none}
+use Rattle.office_migration.proofs.earlier.Causes.{first_states_version, takes_used}
+use Rattle.office_migration.proofs.earlier.First.{layout_begins_office}
+use Rattle.office_db.proofs.found_offices.LayoutTests.{office_names_round}
+use Rattle.office_migration.proofs.migrating.migrate.Goals as goal
+
+pub returns-then-not-names_round-clause-accepts :
+    goal.returns-then-not-names_round-clause-accepts
+returns-then-not-names_round-clause-accepts g c clean layout office h =
+    absurd (true≢false (sym (own_round layout) ∙ ap names_round (sym h.rows.schema)
+    ∙ ap names_round (sym c.schema.ensures.value) ∙ sym c.names_round.ensures ∙ c.if-not-names_round.true))
+
+pub returns-then-not-names_round-clause-other :
+    goal.returns-then-not-names_round-clause-other
+returns-then-not-names_round-clause-other g c clean version states later =
+    let start = state g.S.Store c.args.conn.now in
+    absurd (true≢false (sym (office_names_round start.now.schema states.0) ∙ ap names_round (sym c.schema.ensures.value)
+    ∙ sym c.names_round.ensures ∙ c.if-not-names_round.true))
+
+pub returns-in_err-version-clause-cause : goal.returns-in_err-version-clause-cause
+returns-in_err-version-clause-cause g c =
+    let p = err_from_is_err_and c.from_residual.result c.from_residual.ensures.1 in
+    let first_tables = subst (λ s. AreDeclared s → BeginsOffice s) c.schema-2.ensures.value
+    (c.begins_office.ensures.whole c.if-not-begins_office.false) in
+    rw (p.1, p.2) (λ clean declared. c.in_err-version.ensures.cause clean (first_tables declared))
+
+pub returns-in_err-version-clause-accepts : goal.returns-in_err-version-clause-accepts
+returns-in_err-version-clause-accepts g c clean layout office h =
+    let start = state g.S.Store c.args.conn.now in
+    let p = err_from_is_err_and c.from_residual.result c.from_residual.ensures.1 in
+    let first_tables = same_begins_office layout start.now.schema h.rows.schema in
+    let returned = c.in_err-version.ensures.returned clean first_tables (pos (version_of layout))
+    (layout_states_version layout start.now office h.rows) in
+    rw (p.1, p.2) (only_unavailable
+    (version_of layout) c.in_err-version.field-0.0 h.earlier c.in_err-version.ensures.number returned)
+
+pub returns-in_err-version-clause-other : goal.returns-in_err-version-clause-other
+returns-in_err-version-clause-other g c clean version states later =
+    let p = err_from_is_err_and c.from_residual.result c.from_residual.ensures.1 in
+    rw (p.1, p.2) (c.in_err-version.ensures.returned clean states.0 version states.1)
+
+pub returns-then-takes_name-clause-accepts : goal.returns-then-takes_name-clause-accepts
+returns-then-takes_name-clause-accepts g c clean layout office h =
+    let start = state g.S.Store c.args.conn.now in
+    let clean_one = c.refused_for_name.ensures.reads.follows.clean clean in
+    let first_tables = same_begins_office layout start.now.schema h.rows.schema in
+    let version = pos_injective _ _
+    (c.in_ok-version.ensures.returned clean_one first_tables (pos (version_of layout))
+    (layout_states_version layout start.now office h.rows)) in
+    let free = takes_none layout c.schema-3.result.now _ _ c.in_ok-version.version h.earlier
+    (c.schema-3.ensures.value ∙ h.rows.schema) c.of-declared.ensures.grade c.of-declared.ensures.going version in
+    absurd (true≢false (sym c.if-takes_name.true ∙ c.takes_name.ensures ∙ free))
+
+pub returns-then-version-clause-cause : goal.returns-then-version-clause-cause
+returns-then-version-clause-cause g c clean declared =
+    let start = state g.S.Store c.args.conn.now in
+    let first_tables = subst (λ s. AreDeclared s → BeginsOffice s) c.schema-2.ensures.value
+    (c.begins_office.ensures.whole c.if-not-begins_office.false) declared in
+    let has = subst (λ s. AreDeclared s → s ≡ schema_of c.in-Some.layout) c.schema-3.ensures.value
+    (rw c.in-Some.is at c.of-declared.ensures.whole) declared in
+    let free = subst (λ s. uses_missing_name c.in_ok-version.version s ≡ false) c.schema-3.ensures.value
+    (ap₂ (λ g n. takes_name g n c.in_ok-version.version) (sym c.of-declared.ensures.grade) (sym c.of-declared.ensures.going)
+    ∙ sym c.takes_name.ensures ∙ c.if-takes_name.false) in
+    inr (none_of_other start.now first_tables c.in_ok-version.version c.in_ok-version.ensures.earlier
+    (c.in_ok-version.ensures.held clean first_tables) c.in-Some.layout has free
+    (λ same. c.if-version.true (c.version.ensures ∙ same)))
+
+pub returns-then-version-clause-accepts : goal.returns-then-version-clause-accepts
+returns-then-version-clause-accepts g c clean layout office h =
+    let start = state g.S.Store c.args.conn.now in
+    let first_tables = same_begins_office layout start.now.schema h.rows.schema in
+    let version = pos_injective _ _
+    (c.in_ok-version.ensures.returned clean first_tables (pos (version_of layout))
+    (layout_states_version layout start.now office h.rows)) in
+    let laid = ap layout_in (sym c.schema-3.ensures.value) ∙ sym c.of-declared.ensures.layout ∙ c.in-Some.is in
+    let same = same_layout layout c.in-Some.layout start.now h.rows.schema laid in
+    absurd (c.if-version.true (c.version.ensures ∙ ap version_of same ∙ version))
+
+pub returns-in-Ok-Some-clause-migrated : goal.returns-in-Ok-Some-clause-migrated
+returns-in-Ok-Some-clause-migrated g c clean declared layout is wide =
+    let start = state g.S.Store c.args.conn.now in
+    let one = state g.S.Store c.earlier_version.new.conn in
+    let two = state g.S.Store c.renewed_office.new.conn in
+    let at_one = intact_before one two c.renewed_office.ensures.follows
+    (clean, c.in-Ok-Some.ensures.is_open clean) in
+    let same = c.earlier_version.ensures.reads.same at_one in
+    let found = c.in-Some.layout in
+    let office = c.in-Ok-Some.office in
+    let laid = ap layout_in (sym c.schema-3.ensures.value) ∙ sym c.of-declared.ensures.layout ∙ c.in-Some.is in
+    let layouts = same_some found layout (sym laid ∙ is) in
+    let has = subst (λ s. AreDeclared s → s ≡ schema_of found) c.schema-3.ensures.value
+    (rw c.in-Some.is at c.of-declared.ensures.whole) declared in
+    let sound = (c.schema-3.ensures.live (c.earlier_version.ensures.reads.follows.was_open at_one.0 at_one.1)).0 in
+    let whole = laid_if_sound found start.now sound has (subst (λ l. AreWhole l start.now.trees) (sym layouts) wide) in
+    let here = subst (λ (d : Database). IsLaidOut found d) (sym same) whole in
+    let done = (rw c.in-Ok-Some.field-0-is at c.in-Ok-Some.ensures.renewed) clean here in
+    let kind = rw c.in-Ok-Some.field-0-is at c.in-Ok-Some.ensures.kind in
+    let held = subst (λ (d : Database). HoldsOfficeIn found d office) same done.0 in (
+      subst (λ l. IsOfVersion (version_of l) office) layouts kind,
+      subst (λ l. HoldsOfficeIn l start.now office) layouts held,
+      subst (λ l. IsWellFormed (rows_at (version_of l) office)) layouts done.1,
+      done.2,
+    )
+
+pub returns-in-Ok-Some-clause-stated : goal.returns-in-Ok-Some-clause-stated
+returns-in-Ok-Some-clause-stated g c clean first_tables layout is =
+    let start = state g.S.Store c.args.conn.now in
+    let one = state g.S.Store c.earlier_version.new.conn in
+    let two = state g.S.Store c.renewed_office.new.conn in
+    let at_one = intact_before one two c.renewed_office.ensures.follows
+    (clean, c.in-Ok-Some.ensures.is_open clean) in
+    let laid = ap layout_in (sym c.schema-3.ensures.value) ∙ sym c.of-declared.ensures.layout ∙ c.in-Some.is in
+    let same = ap version_of (same_some c.in-Some.layout layout (sym laid ∙ is)) in
+    let version : version_of c.in-Some.layout ≡ c.in_ok-version.version = cc in
+    subst (λ v. HoldsVersion start.now (pos v)) (sym version ∙ same) (c.in_ok-version.ensures.held at_one.0 first_tables)
+
+pub returns-in-Ok-Some-clause-accepts : goal.returns-in-Ok-Some-clause-accepts
+returns-in-Ok-Some-clause-accepts g c clean layout office h =
+    let start = state g.S.Store c.args.conn.now in
+    let one = state g.S.Store c.earlier_version.new.conn in
+    let two = state g.S.Store c.renewed_office.new.conn in
+    let at_one = intact_before one two c.renewed_office.ensures.follows
+    (clean, c.in-Ok-Some.ensures.is_open clean) in
+    let same = c.earlier_version.ensures.reads.same at_one in
+    let laid = ap layout_in (sym c.schema-3.ensures.value) ∙ sym c.of-declared.ensures.layout ∙ c.in-Some.is in
+    let layouts = same_layout layout c.in-Some.layout start.now h.rows.schema laid in
+    let here = subst (λ l. HoldsEarlier l one.now office) (sym layouts)
+    (subst (λ (d : Database). HoldsEarlier layout d office) (sym same) h) in
+    let done = (rw c.in-Ok-Some.field-0-is at c.in-Ok-Some.ensures.found) clean office here.lawful here.well_formed here.kind
+    here.rows in
+    (same_some c.in-Ok-Some.office office done.0, done.1)
+
+pub returns-in-Ok-None-clause-cause : goal.returns-in-Ok-None-clause-cause
+returns-in-Ok-None-clause-cause g c clean declared =
+    let start = state g.S.Store c.args.conn.now in
+    let one = state g.S.Store c.earlier_version.new.conn in
+    let two = state g.S.Store c.renewed_office.new.conn in
+    let at_one = intact_before one two c.renewed_office.ensures.follows
+    (clean, c.in-Ok-None.ensures.is_open clean) in
+    let same = c.earlier_version.ensures.reads.same at_one in
+    let first_tables = subst (λ s. AreDeclared s → BeginsOffice s) c.schema-2.ensures.value
+    (c.begins_office.ensures.whole c.if-not-begins_office.false) declared in
+    let has = subst (λ s. AreDeclared s → s ≡ schema_of c.in-Some.layout) c.schema-3.ensures.value
+    (rw c.in-Some.is at c.of-declared.ensures.whole) declared in
+    let free = subst (λ s. uses_missing_name c.in_ok-version.version s ≡ false) c.schema-3.ensures.value
+    (ap₂ (λ g n. takes_name g n c.in_ok-version.version) (sym c.of-declared.ensures.grade) (sym c.of-declared.ensures.going)
+    ∙ sym c.takes_name.ensures ∙ c.if-takes_name.false) in
+    inr (none_in_layout start.now first_tables c.in_ok-version.version c.in_ok-version.ensures.earlier
+    (c.in_ok-version.ensures.held at_one.0 first_tables) c.in-Some.layout has free (λ office h.
+    let here = subst (λ (d : Database). HoldsEarlier c.in-Some.layout d office) (sym same) h in
+    none_some office
+    ((rw c.in-Ok-None.field-0-is at c.in-Ok-None.ensures.found) clean office here.lawful here.well_formed here.kind
+    here.rows).0))
+
+pub returns-in-Ok-None-clause-accepts : goal.returns-in-Ok-None-clause-accepts
+returns-in-Ok-None-clause-accepts g c clean layout office h =
+    let start = state g.S.Store c.args.conn.now in
+    let one = state g.S.Store c.earlier_version.new.conn in
+    let two = state g.S.Store c.renewed_office.new.conn in
+    let at_one = intact_before one two c.renewed_office.ensures.follows
+    (clean, c.in-Ok-None.ensures.is_open clean) in
+    let same = c.earlier_version.ensures.reads.same at_one in
+    let laid = ap layout_in (sym c.schema-3.ensures.value) ∙ sym c.of-declared.ensures.layout ∙ c.in-Some.is in
+    let layouts = same_layout layout c.in-Some.layout start.now h.rows.schema laid in
+    let here = subst (λ l. HoldsEarlier l one.now office) (sym layouts)
+    (subst (λ (d : Database). HoldsEarlier layout d office) (sym same) h) in
+    absurd (none_some office
+    ((rw c.in-Ok-None.field-0-is at c.in-Ok-None.ensures.found) clean office here.lawful here.well_formed here.kind
+    here.rows).0)
+
+pub returns-then-not-names_round-clause-taken :
+    goal.returns-then-not-names_round-clause-taken
+returns-then-not-names_round-clause-taken g c clean layout office h used =
+    let start = state g.S.Store c.args.conn.now in
+    absurd (true≢false (sym (office_names_round start.now.schema h.first_tables) ∙ ap names_round (sym c.schema.ensures.value)
+    ∙ sym c.names_round.ensures ∙ c.if-not-names_round.true))
+
+pub returns-in_err-version-clause-taken : goal.returns-in_err-version-clause-taken
+returns-in_err-version-clause-taken g c clean layout office h used =
+    let start = state g.S.Store c.args.conn.now in
+    let p = err_from_is_err_and c.from_residual.result c.from_residual.ensures.1 in
+    let returned = c.in_err-version.ensures.returned clean h.first_tables (pos (version_of layout))
+    (first_states_version layout start.now office h) in
+    rw (p.1, p.2) (inl (only_unavailable
+    (version_of layout) c.in_err-version.field-0.0 h.earlier c.in_err-version.ensures.number returned))
+
+pub returns-then-version-clause-taken : goal.returns-then-version-clause-taken
+returns-then-version-clause-taken g c clean layout office h used =
+    let start = state g.S.Store c.args.conn.now in
+    let version = pos_injective _ _
+    (c.in_ok-version.ensures.returned clean h.first_tables (pos (version_of layout))
+    (first_states_version layout start.now office h)) in
+    let here = subst (λ s. uses_missing_name (version_of layout) s ≡ true) (sym c.schema-3.ensures.value) used in
+    let takes = takes_used c.schema-3.result.now _ _ c.in_ok-version.version
+    (version_of layout) c.of-declared.ensures.grade c.of-declared.ensures.going version here in
+    absurd (true≢false (sym takes ∙ sym c.takes_name.ensures ∙ c.if-takes_name.false))
+
+pub returns-in-Ok-Some-clause-taken : goal.returns-in-Ok-Some-clause-taken
+returns-in-Ok-Some-clause-taken g c clean layout office h used =
+    let start = state g.S.Store c.args.conn.now in
+    let one = state g.S.Store c.earlier_version.new.conn in
+    let two = state g.S.Store c.renewed_office.new.conn in
+    let at_one = intact_before one two c.renewed_office.ensures.follows
+    (clean, c.in-Ok-Some.ensures.is_open clean) in
+    let version = pos_injective _ _
+    (c.in_ok-version.ensures.returned at_one.0 h.first_tables (pos (version_of layout))
+    (first_states_version layout start.now office h)) in
+    let here = subst (λ s. uses_missing_name (version_of layout) s ≡ true) (sym c.schema-3.ensures.value) used in
+    let takes = takes_used c.schema-3.result.now _ _ c.in_ok-version.version
+    (version_of layout) c.of-declared.ensures.grade c.of-declared.ensures.going version here in
+    absurd (true≢false (sym takes ∙ sym c.takes_name.ensures ∙ c.if-takes_name.false))
+
+pub returns-in-Ok-None-clause-taken : goal.returns-in-Ok-None-clause-taken
+returns-in-Ok-None-clause-taken g c clean layout office h used =
+    let start = state g.S.Store c.args.conn.now in
+    let one = state g.S.Store c.earlier_version.new.conn in
+    let two = state g.S.Store c.renewed_office.new.conn in
+    let at_one = intact_before one two c.renewed_office.ensures.follows
+    (clean, c.in-Ok-None.ensures.is_open clean) in
+    let version = pos_injective _ _
+    (c.in_ok-version.ensures.returned at_one.0 h.first_tables (pos (version_of layout))
+    (first_states_version layout start.now office h)) in
+    let here = subst (λ s. uses_missing_name (version_of layout) s ≡ true) (sym c.schema-3.ensures.value) used in
+    let takes = takes_used c.schema-3.result.now _ _ c.in_ok-version.version
+    (version_of layout) c.of-declared.ensures.grade c.of-declared.ensures.going version here in
+    absurd (true≢false (sym takes ∙ sym c.takes_name.ensures ∙ c.if-takes_name.false))
+
+-- ---- where the name of a missing table is taken
+
+pub returns-then-takes_name-clause-cause : goal.returns-then-takes_name-clause-cause
+returns-then-takes_name-clause-cause g c clean declared =
+    let start = state g.S.Store c.args.conn.now in
+    let clean_one = c.refused_for_name.ensures.reads.follows.clean clean in
+    let same = c.earlier_version.ensures.reads.same (clean_one, c.in_ok-version.ensures.is_open clean_one) in
+    let first_tables = subst (λ s. AreDeclared s → BeginsOffice s) c.schema-2.ensures.value
+    (c.begins_office.ensures.whole c.if-not-begins_office.false) declared in
+    let taken = subst (λ s. uses_missing_name c.in_ok-version.version s ≡ true) c.schema-3.ensures.value
+    (ap₂ (λ g n. takes_name g n c.in_ok-version.version) (sym c.of-declared.ensures.grade) (sym c.of-declared.ensures.going)
+    ∙ sym c.takes_name.ensures ∙ c.if-takes_name.true) in
+    name_cause start.now first_tables c.in_ok-version.version c.in_ok-version.ensures.earlier
+    (c.in_ok-version.ensures.held clean_one first_tables) c.refused_for_name.result c.refused_for_name.ensures.kind taken
+    (λ is. subst (λ (d : Database). BeginsAt c.in_ok-version.version d.schema) same (c.refused_for_name.ensures.known is
+    (subst (λ (d : Database). AreDeclared d.schema) (sym same) declared)))
+    (λ is. subst (AreNoEarlierRows c.in_ok-version.version) same (c.refused_for_name.ensures.none is clean))
+    (λ is. subst (AreEarlierRows c.in_ok-version.version) same (c.refused_for_name.ensures.rows is clean))
+
+pub returns-then-takes_name-clause-allowed : goal.returns-then-takes_name-clause-allowed
+returns-then-takes_name-clause-allowed g c =
+    let start = state g.S.Store c.args.conn.now in
+    let taken = subst (λ s. uses_missing_name c.in_ok-version.version s ≡ true) c.schema-3.ensures.value
+    (ap₂ (λ g n. takes_name g n c.in_ok-version.version) (sym c.of-declared.ensures.grade) (sym c.of-declared.ensures.going)
+    ∙ sym c.takes_name.ensures ∙ c.if-takes_name.true) in
+    let first_tables = subst (λ s. begins_office s ≡ true) c.schema-2.ensures.value
+    (sym c.begins_office.ensures.tested ∙ c.if-not-begins_office.false) in
+    name_allowed start.now.schema c.in_ok-version.version c.refused_for_name.result c.refused_for_name.ensures.kind
+    c.in_ok-version.ensures.earlier first_tables taken
+
+pub returns-then-takes_name-clause-undone : goal.returns-then-takes_name-clause-undone
+returns-then-takes_name-clause-undone g c intact =
+    let one = state g.S.Store c.earlier_version.new.conn in
+    let two = state g.S.Store c.refused_for_name.new.conn in
+    let at_one = intact_before one two c.refused_for_name.ensures.reads.follows intact in
+    c.refused_for_name.ensures.reads.same intact ∙ c.earlier_version.ensures.reads.same at_one
+
+pub returns-then-takes_name-clause-taken : goal.returns-then-takes_name-clause-taken
+returns-then-takes_name-clause-taken g c clean layout office h used =
+    let start = state g.S.Store c.args.conn.now in
+    let clean_one = c.refused_for_name.ensures.reads.follows.clean clean in
+    let same = c.earlier_version.ensures.reads.same (clean_one, c.in_ok-version.ensures.is_open clean_one) in
+    let version = pos_injective _ _
+    (c.in_ok-version.ensures.returned clean_one h.first_tables (pos (version_of layout)) (first_states_version layout start.now office h)) in
+    c.refused_for_name.ensures.returned clean layout office version
+    (subst (λ (d : Database). HoldsEarlierFirst layout d office) (sym same) h)
+
+pub returns-then-takes_name-clause-rows : goal.returns-then-takes_name-clause-rows
+returns-then-takes_name-clause-rows g c is clean version earlier holds layout same begins whole =
+    let start = state g.S.Store c.args.conn.now in
+    let there : c.refused_for_name.result ≡ AlreadyThere = cc in
+    let clean_one = c.refused_for_name.ensures.reads.follows.clean clean in
+    let unchanged = c.earlier_version.ensures.reads.same (clean_one, c.in_ok-version.ensures.is_open clean_one) in
+    let first_tables = layout_begins_office layout start.now.schema begins in
+    let one = pos_injective _ _ (c.in_ok-version.ensures.returned clean_one first_tables (pos version) holds) in
+    subst (AreEarlierRows c.in_ok-version.version) unchanged (c.refused_for_name.ensures.rows there clean) layout
+    (same ∙ one) begins whole
+
+pub returns-in_err-version-clause-rows : goal.returns-in_err-version-clause-rows
+returns-in_err-version-clause-rows g c =
+    let p = err_from_is_err_and c.from_residual.result c.from_residual.ensures.1 in
+    rw (p.1, p.2) (λ is clean version earlier holds.
+    let there : c.in_err-version.field-0.0 ≡ AlreadyThere = cc in
+    absurd (subst IsVersionFault there c.in_err-version.ensures.number))
+
+-- ---- where the first three tables are an office's, whatever follows them
+
+pub returns-then-not-names_round-clause-returned :
+    goal.returns-then-not-names_round-clause-returned
+returns-then-not-names_round-clause-returned g c clean first_tables =
+    let start = state g.S.Store c.args.conn.now in
+    absurd (true≢false (sym (office_names_round start.now.schema first_tables) ∙ ap names_round (sym c.schema.ensures.value)
+    ∙ sym c.names_round.ensures ∙ c.if-not-names_round.true))
+
+pub returns-in_err-version-clause-returned : goal.returns-in_err-version-clause-returned
+returns-in_err-version-clause-returned g c =
+    let start = state g.S.Store c.args.conn.now in
+    let p = err_from_is_err_and c.from_residual.result c.from_residual.ensures.1 in
+    rw (p.1, p.2) (λ clean first_tables. may_return start.now c.in_err-version.field-0.0 first_tables
+    (c.in_err-version.ensures.cause clean first_tables))
+
+pub returns-then-takes_name-clause-returned : goal.returns-then-takes_name-clause-returned
+returns-then-takes_name-clause-returned g c clean first_tables =
+    let start = state g.S.Store c.args.conn.now in
+    let version = c.in_ok-version.version in
+    let clean_one = c.refused_for_name.ensures.reads.follows.clean clean in
+    let same = c.earlier_version.ensures.reads.same (clean_one, c.in_ok-version.ensures.is_open clean_one) in
+    let taken = subst (λ s. uses_missing_name version s ≡ true) c.schema-3.ensures.value
+    (ap₂ (λ g n. takes_name g n version) (sym c.of-declared.ensures.grade) (sym c.of-declared.ensures.going)
+    ∙ sym c.takes_name.ensures ∙ c.if-takes_name.true) in
+    name_returned start.now first_tables version c.in_ok-version.ensures.earlier
+    (c.in_ok-version.ensures.held clean_one first_tables) c.refused_for_name.result c.refused_for_name.ensures.kind taken
+    (λ is. subst (λ (d : Database). IsSome (first_layout version d.schema)) same (c.refused_for_name.ensures.named is))
+    (λ is. subst (AreEarlierRows version) same (c.refused_for_name.ensures.rows is clean))
+
+pub returns-then-version-clause-returned : goal.returns-then-version-clause-returned
+returns-then-version-clause-returned g c clean first_tables =
+    let start = state g.S.Store c.args.conn.now in
+    let laid = ap layout_in (sym c.schema-3.ensures.value) ∙ sym c.of-declared.ensures.layout ∙ c.in-Some.is in
+    let free = subst (λ s. uses_missing_name c.in_ok-version.version s ≡ false) c.schema-3.ensures.value
+    (ap₂ (λ g n. takes_name g n c.in_ok-version.version) (sym c.of-declared.ensures.grade) (sym c.of-declared.ensures.going)
+    ∙ sym c.takes_name.ensures ∙ c.if-takes_name.false) in
+    read_as_none start.now first_tables c.in_ok-version.version c.in_ok-version.ensures.earlier
+    (c.in_ok-version.ensures.held clean first_tables) (inr (ap is_some laid, free))
+
+pub returns-in-Ok-None-clause-returned : goal.returns-in-Ok-None-clause-returned
+returns-in-Ok-None-clause-returned g c clean first_tables =
+    let start = state g.S.Store c.args.conn.now in
+    let one = state g.S.Store c.earlier_version.new.conn in
+    let two = state g.S.Store c.renewed_office.new.conn in
+    let at_one = intact_before one two c.renewed_office.ensures.follows
+    (clean, c.in-Ok-None.ensures.is_open clean) in
+    let laid = ap layout_in (sym c.schema-3.ensures.value) ∙ sym c.of-declared.ensures.layout ∙ c.in-Some.is in
+    let free = subst (λ s. uses_missing_name c.in_ok-version.version s ≡ false) c.schema-3.ensures.value
+    (ap₂ (λ g n. takes_name g n c.in_ok-version.version) (sym c.of-declared.ensures.grade) (sym c.of-declared.ensures.going)
+    ∙ sym c.takes_name.ensures ∙ c.if-takes_name.false) in
+    read_as_none start.now first_tables c.in_ok-version.version c.in_ok-version.ensures.earlier
+    (c.in_ok-version.ensures.held at_one.0 first_tables) (inr (ap is_some laid, free))

@@ -1,0 +1,115 @@
+//! Recreates the tables of another layout in the layout of this program.
+ghost use Rattle.std.specs.Prelude.{◌≡◌, false, None, Some, IfOk, IsTrue, OnErr, OnOk};
+ghost use Rattle.std.specs.Option.{IfSome};
+ghost use Rattle.sqlite.specs.Held.{state};
+ghost use Rattle.sqlite.specs.State.{HasCleanDisk};
+ghost use Rattle.office_state.specs.Office.Invariants.{IsLawful};
+ghost use Rattle.office_state.specs.declared.office.Office.{Office as Books};
+ghost use Rattle.office_schema.specs.rows.Tables.{Tables, own_version, rows_at};
+ghost use Rattle.office_schema.specs.cells.WellFormed.{IsWellFormed};
+ghost use Rattle.office_db.specs.loading.Numbers.{IsLaidOut};
+ghost use Rattle.office_schema.specs.tables.Edits.{with_version};
+ghost use Rattle.office_schema.specs.tables.Layouts.{version_of};
+ghost use Rattle.office_schema.specs.tables.Refilling.{Migrates};
+ghost use Rattle.office_schema.specs.tables.Steps.{Follows, IsIntact};
+ghost use Rattle.office_schema.specs.tables.Tables.{HasTables, HasTablesIn, HoldsOffice, HoldsOfficeIn};
+ghost use Rattle.office_migration.specs.Versions.{IsOfVersion};
+
+use crate::versions::is_of_version;
+use office_db::loading::{held, read_records};
+use office_schema::rows::OfficeRecords;
+use office_schema::tables::layouts::Layout;
+use office_schema::tables::refilling::migrate_tables;
+use office_state::Office;
+use sqlite::{Alter, Connection, Error, ErrorCode};
+use std::alloc::Global;
+
+/// Recreates the tables of this layout in the layout of this program, in one transaction. Returns the lawful office
+/// that they hold. Returns `None`, and changes nothing, if they hold no lawful office of their version. Reads the rows
+/// twice: to test them, and to write them again.
+pub fn renewed_office<S: Alter>(
+    alloc: Global,
+    conn: &mut Connection<S>,
+    layout: Layout,
+) -> Result<Option<Office>, Error>
+    requires { conn.old.in_transaction ≡ false }
+    ensures outside { conn.new.in_transaction ≡ false }
+    ensures follows { Follows (state S.Store conn.old) (state S.Store conn.new) }
+    ensures is_open { OnOk result (HasCleanDisk (state S.Store conn.new)
+        → IsTrue (state S.Store conn.new).is_open) }
+    ensures lawful { IfOk result (λ found. IfSome found (λ office. IsLawful office)) }
+    ensures kind { IfOk result (λ found. IfSome found (IsOfVersion (version_of layout))) }
+    ensures renewed { IfOk result (λ found. HasCleanDisk (state S.Store conn.new)
+        → IsLaidOut layout (state S.Store conn.old).now → IfSome found (λ office.
+        HoldsOfficeIn layout (state S.Store conn.old).now office
+        × IsWellFormed (rows_at (version_of layout) office)
+        × HoldsOffice (state S.Store conn.new).now office)) }
+    ensures found { IfOk result (λ found. HasCleanDisk (state S.Store conn.new) → (office : Books)
+        → IsLawful office → IsWellFormed (rows_at (version_of layout) office)
+        → IsOfVersion (version_of layout) office
+        → HoldsOfficeIn layout (state S.Store conn.old).now office
+        → (found ≡ Some office) × HoldsOffice (state S.Store conn.new).now office) }
+    ensures none { IfOk result (λ found. found ≡ None → IsIntact (state S.Store conn.new)
+        → (state S.Store conn.new).now ≡ (state S.Store conn.old).now) }
+    ensures undone { OnErr result (IsIntact (state S.Store conn.new)
+        → (state S.Store conn.new).now ≡ (state S.Store conn.old).now) }
+{
+    let Some(office) = held(alloc, conn, layout)? else {
+        return Ok(None);
+    };
+    if !is_of_version(&office, layout.version()) {
+        return Ok(None);
+    }
+    renew_read(alloc, conn, layout)?;
+    Ok(Some(office))
+}
+
+// Reads the rows, and writes them into recreated tables.
+fn renew_read<S: Alter>(
+    alloc: Global,
+    conn: &mut Connection<S>,
+    layout: Layout,
+) -> Result<(), Error>
+    requires { conn.old.in_transaction ≡ false }
+    ensures outside { conn.new.in_transaction ≡ false }
+    ensures follows { Follows (state S.Store conn.old) (state S.Store conn.new) }
+    ensures is_open { OnOk result (HasCleanDisk (state S.Store conn.new)
+        → IsTrue (state S.Store conn.new).is_open) }
+    ensures renewed { OnOk result (HasCleanDisk (state S.Store conn.new) → (tables : Tables)
+        → HasTablesIn layout (state S.Store conn.old).now tables → IsWellFormed tables
+        → HasTables (state S.Store conn.new).now (with_version own_version tables)) }
+    ensures undone { OnErr result (IsIntact (state S.Store conn.new)
+        → (state S.Store conn.new).now ≡ (state S.Store conn.old).now) }
+{
+    let Some(records) = read_records(alloc, conn, layout)? else {
+        return Err(Error::SqliteFailure(ErrorCode::DatabaseCorrupt));
+    };
+    renew(alloc, conn, layout, &records)?;
+    Ok(())
+}
+
+// Recreates the tables with these rows, in one transaction.
+fn renew<S: Alter>(
+    alloc: Global,
+    conn: &mut Connection<S>,
+    layout: Layout,
+    records: &OfficeRecords,
+) -> Result<(), Error>
+    requires { conn.old.in_transaction ≡ false }
+    ensures outside { conn.new.in_transaction ≡ false }
+    ensures follows { Follows (state S.Store conn.old) (state S.Store conn.new) }
+    ensures made { OnOk result
+        (Migrates layout records.now (state S.Store conn.old) (state S.Store conn.new)) }
+    ensures is_open { OnOk result (HasCleanDisk (state S.Store conn.new)
+        → IsTrue (state S.Store conn.new).is_open) }
+    ensures undone { OnErr result (IsIntact (state S.Store conn.new)
+        → (state S.Store conn.new).now ≡ (state S.Store conn.old).now) }
+{
+    // The proof needs these two lines: outside a transaction, an open connection shows what is committed.
+    let outside = conn.is_autocommit();
+    prove!(outside);
+    let mut tx = conn.transaction();
+    migrate_tables(alloc, &mut tx, layout, records)?;
+    tx.commit()?;
+    Ok(())
+}

@@ -1,0 +1,87 @@
+//! Tables of an earlier version that lack a table whose name is taken.
+ghost use Rattle.std.specs.Prelude.{◌≡◌, ◌⊎◌, false, IsSome};
+ghost use Rattle.std.specs.Option.{IfSome};
+ghost use Rattle.sqlite.specs.Held.{state};
+ghost use Rattle.sqlite.specs.State.{HasCleanDisk};
+ghost use Rattle.office_state.specs.declared.office.Office.{Office as Books};
+ghost use Rattle.office_schema.specs.tables.Layouts.{version_of};
+ghost use Rattle.office_schema.specs.declared.tables.layouts.Layout.{Layout as AnyLayout};
+ghost use Rattle.office_db.specs.loading.Finding.{AreDeclared};
+ghost use Rattle.office_db.specs.loading.FirstTables.{Begins};
+ghost use Rattle.office_db.specs.loading.Reading.{OnlyReads};
+ghost use Rattle.office_migration.specs.Causes.{AreEarlierRows, AreNoEarlierRows, BeginsAt, IsNameFault, HoldsEarlierFirst};
+ghost use Rattle.office_migration.specs.First.{first_layout};
+ghost use Rattle.office_migration.specs.Versions.{IsEarlier};
+
+use crate::migrating::MigrateFault;
+use crate::versions::is_of_version;
+use office_db::loading::first_tables::begins_with;
+use office_db::loading::held;
+use office_schema::tables::layouts::Layout;
+use sqlite::{Alter, Connection};
+use sqlite_schema::schema::Schema;
+use std::alloc::Global;
+
+/// Returns why tables of this version are refused if something has the name of a table that they lack. Changes no
+/// table. The fault is `NotAnOffice` if the database begins with the tables of a layout of this version, and they do
+/// not hold the rows of an office of this version. It is `Unavailable` if the database fails or memory runs out.
+/// Otherwise it is `AlreadyThere`.
+pub fn refused_for_name<S: Alter>(
+    alloc: Global,
+    conn: &mut Connection<S>,
+    version: u16,
+) -> MigrateFault
+    requires outside { conn.old.in_transaction ≡ false }
+    requires earlier { IsEarlier version }
+    ensures outside { conn.new.in_transaction ≡ false }
+    ensures reads { OnlyReads (state S.Store conn.old) (state S.Store conn.new) }
+    ensures kind { IsNameFault result }
+    ensures none { result ≡ MigrateFault.NotAnOffice → HasCleanDisk (state S.Store conn.new)
+        → AreNoEarlierRows version (state S.Store conn.old).now }
+    ensures known { result ≡ MigrateFault.NotAnOffice → AreDeclared (state S.Store conn.old).now.schema
+        → BeginsAt version (state S.Store conn.old).now.schema }
+    ensures named { result ≡ MigrateFault.NotAnOffice
+        → IsSome (first_layout version (state S.Store conn.old).now.schema) }
+    ensures rows { result ≡ MigrateFault.AlreadyThere → HasCleanDisk (state S.Store conn.new)
+        → AreEarlierRows version (state S.Store conn.old).now }
+    ensures returned { HasCleanDisk (state S.Store conn.new) → (layout : AnyLayout) → (office : Books)
+        → version_of layout ≡ version
+        → HoldsEarlierFirst layout (state S.Store conn.old).now office
+        → (result ≡ MigrateFault.Unavailable) ⊎ (result ≡ MigrateFault.AlreadyThere) }
+{
+    let Some(layout) = first_layout(conn.schema(), version) else {
+        return MigrateFault::AlreadyThere;
+    };
+    match held(alloc, conn, layout) {
+        Ok(Some(office)) => {
+            if is_of_version(&office, version) {
+                return MigrateFault::AlreadyThere;
+            }
+            MigrateFault::NotAnOffice
+        }
+        Ok(None) => MigrateFault::NotAnOffice,
+        Err(_) => MigrateFault::Unavailable,
+    }
+}
+
+// Returns the layout of this version whose tables the schema begins with, if there is one.
+fn first_layout(schema: &Schema, version: u16) -> Option<Layout>
+    requires { IsEarlier version }
+    ensures tested { result ≡ first_layout version schema.now }
+    ensures whole { IfSome result (λ layout. AreDeclared schema.now → Begins layout schema.now) }
+    ensures version { IfSome result (λ layout. version_of layout ≡ version) }
+{
+    if version < 2 {
+        if begins_with(schema, Layout::DocumentedFirst) {
+            return Some(Layout::DocumentedFirst);
+        }
+        if begins_with(schema, Layout::EarlierFirst) {
+            return Some(Layout::EarlierFirst);
+        }
+        return None;
+    }
+    if begins_with(schema, Layout::DocumentedSecond) {
+        return Some(Layout::DocumentedSecond);
+    }
+    None
+}
