@@ -8,8 +8,9 @@ use Rattle.office_cli.specs.ListAccess.{ImportsPath, ListAccess}
 use Rattle.office_cli.specs.Actions.{Action}
 use Rattle.office_cli.specs.Actions.Action.{does, imports, exports, serves}
 use Rattle.office_state.specs.declared.office.Office.{Office}
-use Rattle.office_store.specs.exports.Ending.{PutsCount, PutsPrefix}
+use Rattle.office_store.specs.exports.Ending.{EndsBetween, PutsCount, PutsPrefix, has_failed, sent_of}
 use Rattle.office_store.specs.exports.Exports.{exported}
+use Rattle.office_store.specs.declared.exports.ending.ExportEnd.{ExportEnd}
 use Rattle.office_lines.specs.Printing.{Prints}
 use Rattle.office_lines.specs.SingleLines.{DoesWords}
 use Rattle.office_lists.specs.Exports.{export_bytes, header_of}
@@ -44,12 +45,13 @@ abbrev pub SendsExport : List ℕ → ℕ → Output → Output → Type 0
 SendsExport bytes status out out' =
     Prints bytes 0 status out out' ⊎ ((status ≡ 3) × (out'.flushes ≡ out.flushes) × EndsEarly bytes out out')
 
--- Whatever the disk did, a header and records are printed like a text, with status 0. Or some number of bytes was written, no
--- flush followed, and the status is 3.
+-- Whatever the disk did, a header and records are printed like a text, with status 0. Or the export ended early, with whole
+-- records unless a write failed, no flush followed, and the status is 3.
 abbrev pub EndsExport : ExportKind → ℕ → Output → Output → Type 0
 EndsExport kind status out out' =
     ((records : List Record) × Prints (export_bytes (header_of kind ∷ records)) 0 status out out')
-    ⊎ ((status ≡ 3) × (out'.flushes ≡ out.flushes) × (sent : ℕ) × PutsCount out out' sent)
+    ⊎ ((status ≡ 3) × (out'.flushes ≡ out.flushes) × (end : ExportEnd) × PutsCount out out' (sent_of end)
+    × EndsBetween kind out out' end × (out'.failed ≡ has_failed out.failed end))
 
 module _ {S : Type 0} (g : Ghosts S) where
   -- The desk handles the words as a line. If the disk returned what was written to it, the office that the desk represents

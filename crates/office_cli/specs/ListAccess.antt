@@ -33,7 +33,7 @@ pub record IsUnread {R : Type 0} (source : Watched R) : Type 0 where
 
 module _ {H L : Type 0} (handles : H → Request → Answer → H → Type 0) (list_access : ListAccess L) where
   -- The path was opened once, and its list imported. The number of reads is bounded, and none comes after a read failed or found
-  -- the end. The list was closed after that, with no further call on it.
+  -- the end. The list was closed as the last read left it.
   pub record ImportsOpened (lists : L) (old : H) (kind : ListKind) (label path : Text) (status : ℕ) (lists' : L) (new : H) (out out' : Output) : Type 0 where
     pub source : Watched list_access.Reader
     pub source' : Watched list_access.Reader

@@ -124,9 +124,9 @@ pub fn carry_out_over<'a, S: Start, R: Read, W: Write, E: Write>(
 }
 
 /// Carries out these words, the arguments after the program's name, over any office files, lists and ports, and returns
-/// the exit status. A subcommand on an office file opens the file once. If that succeeds, it also closes the file; in
-/// between, only calls of `Desk` use the connection. Only `import` opens a list, and opens it once. If that succeeds,
-/// it closes the list after the import, with no further call on it.
+/// the exit status. A subcommand on an office file opens the file once. If that succeeds, it also closes the file,
+/// outside a transaction, as the subcommand left it. Only `import` opens a list, and opens it once. If that succeeds, it
+/// closes the list, as its last read left it.
 pub fn carry_out_from<
     'a,
     B: Alter,

@@ -23,8 +23,8 @@ use std::io::{Read, Write};
 pub const LIST_LIMIT: usize = BYTE_LIMIT + 1;
 
 /// Imports the list at the path `list` under this label, at this desk. Opens the list once. If that succeeds, closes it
-/// after the import, with no further call on it. If the list cannot be opened or read, or an allocation for its bytes
-/// fails, prints `unavailable`. Returns the exit status.
+/// as its last read left it. If the list cannot be opened or read, or an allocation for its bytes fails, prints
+/// `unavailable`. Returns the exit status.
 pub fn import_at<S: Alter, L: Lists, W: Write>(
     alloc: Global,
     desk: &mut Desk<S>,

@@ -33,11 +33,13 @@ module _ {S : Type 0} (g : Ghosts S) where
       layout_in (state g connection).now.schema ≡ Some Own → IsIntact (state g desk.conn)
       → (state g desk.conn).now ≡ (state g connection).now
 
-  -- The database of a connection is refused with this fault, and leaves the other connection. The schema allows the fault,
-  -- whatever the disk does (`allowed`). If the tables are declared as those of an office and the disk returned what was
-  -- written, the tables give the cause (`cause`). If the row of table `round` holds another version, the fault is that version
-  -- or `Unavailable` (`other`). If the other connection is intact, the tables are unchanged (`undone`).
+  -- The database of a connection is refused with this fault, and leaves the other connection, which is in no transaction. The
+  -- schema allows the fault, whatever the disk does (`allowed`). If the tables are declared as those of an office and the disk
+  -- returned what was written, the tables give the cause (`cause`). If the first three tables are an office's and the row of
+  -- table `round` holds another version, the fault is that version or `Unavailable` (`other`). If the other connection is
+  -- intact, the tables are unchanged (`undone`).
   pub record RefusesFound (connection refused : Held S) (fault : DeskFault) : Type 0 where
+    pub outside : refused.in_transaction ≡ false
     pub follows : Follows (state g connection) (state g refused)
     pub undone : IsIntact (state g refused) → (state g refused).now ≡ (state g connection).now
     pub unread : begins_office (state g connection).now.schema ≡ false → refused ≡ connection
@@ -51,8 +53,8 @@ module _ {S : Type 0} (g : Ghosts S) where
 module _ {F S : Type 0} (access : FileAccess F S) where
   -- The desk uses the database that was opened, which has exactly the tables of an office of the version of this program. It
   -- caches an office. It shows the office that was found, and leaves tables in the layout of this program unchanged, each under
-  -- its own premises (`shows`, `unchanged`). If the row of table `round` holds another version, the disk did not return what
-  -- was written (`other`).
+  -- its own premises (`shows`, `unchanged`). If the first three tables are an office's and the row of table `round` holds
+  -- another version, the disk did not return what was written (`other`).
   pub record OpensFound (files : F) (path : List ℕ) (desk : DeskState S) (files' : F) : Type 0 where
     pub connection : Held S
     pub opened : access.finds files path connection files'

@@ -1,5 +1,5 @@
 -- An office that is created in a file, and why none is created.
-use Rattle.std.specs.Prelude.{◌≡◌, ◌≢◌, ◌⊎◌, ℕ, List, IfErr, Result}
+use Rattle.std.specs.Prelude.{◌≡◌, ◌≢◌, ◌⊎◌, ℕ, List, IfErr, Result, false}
 use Rattle.sqlite.specs.Held.{Held, state}
 use Rattle.sqlite_trees.specs.declared.store.Store.{Ghosts}
 use Rattle.office_db.specs.creation.Names.{NameIsTaken}
@@ -11,10 +11,11 @@ use Rattle.office_schema.specs.tables.Schema.{no_schema}
 use Rattle.office_schema.specs.tables.Steps.{Follows, IsIntact}
 
 module _ {S : Type 0} (g : Ghosts S) where
-  -- The database of a connection is refused with this fault, and leaves the other connection. The fault is `AlreadyThere` if
-  -- and only if a name is taken. Then, and if the schema has anything else, no statement ran. If the other connection is
+  -- The database of a connection is refused with this fault, and leaves the other connection, which is in no transaction. The
+  -- fault is `AlreadyThere` if and only if a name is taken. Then, and if the schema has anything else, no statement ran. If the other connection is
   -- intact, the tables are unchanged (`undone`).
   pub record RefusesNew (connection refused : Held S) (fault : DeskFault) : Type 0 where
+    pub outside : refused.in_transaction ≡ false
     pub follows : Follows (state g connection) (state g refused)
     pub undone : IsIntact (state g refused) → (state g refused).now ≡ (state g connection).now
     pub cause : (fault ≡ Unavailable) ⊎ ((fault ≡ AlreadyThere) × NameIsTaken (state g connection).now)

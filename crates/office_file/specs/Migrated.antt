@@ -30,14 +30,16 @@ module _ {S : Type 0} (g : Ghosts S) where
       → (office : Office) × IsOfVersion (version_of layout) office × HoldsOfficeIn layout (state g connection).now office
       × Shows g desk office
 
-  -- The database of a connection is refused with this fault, and leaves the other connection. The schema allows the fault,
-  -- whatever the disk does (`allowed`). If the tables are declared as those of an office and the disk returned what was
-  -- written, the tables give the cause (`cause`); if the first three are an office's, they allow the fault, whatever follows
-  -- them (`returned`). If the database begins with the rows of an office of an earlier version and the name of a table that it
-  -- lacks is taken, the fault is `AlreadyThere` or `Unavailable` (`taken`). It is `AlreadyThere` only if the first rows are
-  -- those of an office (`rows`). If the row of table `round` holds a version that is not an earlier one, the fault is that
-  -- version or `Unavailable` (`other`). If the other connection is intact, the tables are unchanged (`undone`).
+  -- The database of a connection is refused with this fault, and leaves the other connection, which is in no transaction. The
+  -- schema allows the fault, whatever the disk does (`allowed`). If the tables are declared as those of an office and the disk
+  -- returned what was written, the tables give the cause (`cause`); if the first three are an office's, they allow the fault,
+  -- whatever follows them (`returned`). If the database begins with the rows of an office of an earlier version and the name of
+  -- a table that it lacks is taken, the fault is `AlreadyThere` or `Unavailable` (`taken`). It is `AlreadyThere` only if the
+  -- first rows are those of an office (`rows`). If the first three tables are an office's and the row of table `round` holds a
+  -- version that is not an earlier one, the fault is that version or `Unavailable` (`other`). If the other connection is
+  -- intact, the tables are unchanged (`undone`).
   pub record RefusesMigration (connection refused : Held S) (fault : DeskFault) : Type 0 where
+    pub outside : refused.in_transaction ≡ false
     pub follows : Follows (state g connection) (state g refused)
     pub undone : IsIntact (state g refused) → (state g refused).now ≡ (state g connection).now
     pub unread : begins_office (state g connection).now.schema ≡ false → refused ≡ connection

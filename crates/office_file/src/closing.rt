@@ -1,12 +1,13 @@
 //! Closes desks over files.
-ghost use Rattle.std.specs.Prelude.{◌≡◌, IfOk, OnErr};
+ghost use Rattle.std.specs.Prelude.{◌≡◌, false, IfOk, OnErr};
 
 use crate::files::Closes;
 use office_store::{Desk, DeskFault};
 use sqlite::{Alter, Connection};
 
-/// Closes the connection of the desk. Does nothing if `desk` is an error.
+/// Closes the connection of the desk, which is in no transaction. Does nothing if `desk` is an error.
 pub fn close<B: Alter, F: Closes<Connection<B>>>(files: &mut F, desk: Result<Desk<B>, DeskFault>)
+    ensures outside { IfOk desk (λ desk. desk.conn.in_transaction ≡ false) }
     ensures closed { IfOk desk (λ desk. F.closes files.old desk.conn files.new) }
     ensures none { OnErr desk (files.new ≡ files.old) }
 {

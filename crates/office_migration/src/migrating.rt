@@ -47,15 +47,16 @@ pub enum MigrateFault {
 }
 
 /// Recreates the tables of an earlier version in the version of this program, in one transaction. Returns the office
-/// that they hold: it has no leavers, and no grades that it did not have before.
+/// that they hold: it has no leavers, and no grades that it did not have before. Presupposes that each table with one
+/// of the ten names is declared as that table of an office.
 ///
 /// # Errors
 ///
 /// The first of these that applies:
 ///
 /// - `NotAnOffice` if nothing has the name of table `round`.
-/// - `Unavailable` if the first three tables are not those of an office, or if there is a view (a table that the engine
-///   does not understand counts as one). No statement has run then.
+/// - `Unavailable` if the first three tables do not have the names and places of an office's, or if there is a view (a
+///   table that the engine does not understand counts as one). No statement has run then.
 /// - `NotAnOffice` if table `round` does not have exactly one row, `Unavailable` if the version in its row is not an
 ///   integer, or `OtherVersion` if that integer is neither 1 nor 2.
 /// - If something has the name of a table that the version in that row lacks: `NotAnOffice` if the tables of a layout

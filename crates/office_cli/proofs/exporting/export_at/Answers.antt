@@ -22,7 +22,7 @@ returns-in-Err-clause-exports g c =
     let end = c.in-Err.ensures in
     record {
       reads = end.reads;
-      written = inr (refl, end.flushes, _, end.counted);
+      written = inr (refl, end.flushes, c.in-Err._end, end.counted, end.between, end.failed);
       done = λ clean office represents. (
         inr (refl, end.flushes, ends_early _ c.in-Err._end _ _ (end.prefix clean office represents) (end.short clean office represents) end.failed),
         end.same clean office represents,

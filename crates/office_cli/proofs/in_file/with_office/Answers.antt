@@ -9,5 +9,6 @@ returns-in-Ok-clause-performs g c =
       last = c.perform-status.new.desk;
       begins = c.in-Ok.ensures.shows;
       done = c.perform-status.ensures.performs;
+      outside = c.close.ensures.outside;
       closed = c.close.ensures.closed;
     })

@@ -8,6 +8,7 @@ returns-in-Err-create-clause-cause g c = inr (record {
   opened = c.in-Ok.ensures.opened;
   refused = c.in-Err-create.back.connection;
   refuses = record {
+    outside = c.in-Err-create.ensures.outside;
     follows = c.in-Err-create.ensures.followed;
     undone = c.in-Err-create.ensures.undone;
     cause = c.in-Err-create.ensures.cause;

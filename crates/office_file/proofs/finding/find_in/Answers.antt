@@ -8,6 +8,7 @@ returns-in-Err-adopt-clause-cause g c = inr (record {
   opened = c.in-Ok.ensures.found;
   refused = c.in-Err-adopt.back.connection;
   refuses = record {
+    outside = c.in-Err-adopt.ensures.outside;
     follows = c.in-Err-adopt.ensures.followed;
     undone = c.in-Err-adopt.ensures.undone;
     unread = c.in-Err-adopt.ensures.unread;

@@ -21,6 +21,7 @@ returns-in-Err-migrate-clause-cause g c = inr (record {
   opened = c.in-Ok.ensures.found;
   refused = c.in-Err-migrate.back.connection;
   refuses = record {
+    outside = c.in-Err-migrate.ensures.outside;
     follows = c.in-Err-migrate.ensures.followed;
     undone = c.in-Err-migrate.ensures.undone;
     unread = c.in-Err-migrate.ensures.unread;
