@@ -74,8 +74,8 @@ pub fn carry_out<'a, R: Read, W: Write, E: Write>(
 }
 
 /// Carries out these words, the arguments after the program's name, over the system's files and ports, and returns the
-/// exit status. `start` represents what an office file and its log contain at first. The contract holds for any such
-/// contents.
+/// exit status. `start` stands for what the office's file and its log contain when they are opened. The contract holds
+/// for every `S`, so for any contents. `carry_out` passes `Wary`.
 pub fn carry_out_over<'a, S: Start, R: Read, W: Write, E: Write>(
     rt: &HostRuntime,
     words: &'a [&'a str],
@@ -124,9 +124,9 @@ pub fn carry_out_over<'a, S: Start, R: Read, W: Write, E: Write>(
 }
 
 /// Carries out these words, the arguments after the program's name, over any office files, lists and ports, and returns
-/// the exit status. A subcommand on an office file opens the file once. If that succeeds, it also closes the file,
-/// outside a transaction, as the subcommand left it. Only `import` opens a list, and opens it once. If that succeeds, it
-/// closes the list, as its last read left it.
+/// the exit status. A subcommand on an office file opens the file once. If the file opens, the subcommand closes it, in
+/// no transaction, in the state in which its action left it. Only `import` opens a list, and opens it once. If the list
+/// opens, `import` closes it, in the state in which the last read left it.
 pub fn carry_out_from<
     'a,
     B: Alter,

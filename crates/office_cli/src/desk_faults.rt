@@ -13,8 +13,7 @@ use sqlite::Alter;
 use std::alloc::{AllocError, Global};
 use std::io::Write;
 
-/// Prints `ok` if there is a desk over an office that was made or migrated, and otherwise why there is none. Returns the
-/// exit status.
+/// Prints the result of making or migrating an office: `ok`, or why there is no desk. Returns the exit status.
 pub fn print_made<S: Alter, W: Write>(
     alloc: Global,
     made: &Result<Desk<S>, DeskFault>,

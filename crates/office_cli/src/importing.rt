@@ -22,9 +22,9 @@ use std::io::{Read, Write};
 /// The greatest number of bytes read from a list: one more than a list may have, so that a longer list is noticed.
 pub const LIST_LIMIT: usize = BYTE_LIMIT + 1;
 
-/// Imports the list at the path `list` under this label, at this desk. Opens the list once. If that succeeds, closes it
-/// as its last read left it. If the list cannot be opened or read, or an allocation for its bytes fails, prints
-/// `unavailable`. Returns the exit status.
+/// Imports the list at the path `list` under this label, at this desk. Opens the list once. If it opens, also closes it,
+/// in the state in which the last read left it. If the list cannot be opened or read, or an allocation for its bytes
+/// fails, prints `unavailable`. Returns the exit status.
 pub fn import_at<S: Alter, L: Lists, W: Write>(
     alloc: Global,
     desk: &mut Desk<S>,

@@ -23,7 +23,7 @@ use std::alloc::Global;
 use std::io::Write;
 
 /// Makes an empty office in the file at this path, and prints `ok`, or why there is none. Returns the exit status.
-/// Opens the file once. If that succeeds, also closes it, outside a transaction, as the desk left it.
+/// Opens the file once. If it opens, also closes it, in no transaction.
 pub fn make_in_file<B: Alter, F: Files<B> + Closes<Connection<B>>, W: Write>(
     alloc: Global,
     files: &mut F,
@@ -43,8 +43,7 @@ pub fn make_in_file<B: Alter, F: Files<B> + Closes<Connection<B>>, W: Write>(
 }
 
 /// Migrates the tables of the office in the file at this path from an earlier version to this program's, and prints
-/// `ok`, or why it cannot. Returns the exit status. Opens the file once. If that succeeds, also closes it, outside a
-/// transaction, as the desk left it.
+/// `ok`, or why it cannot. Returns the exit status. Opens the file once. If it opens, also closes it, in no transaction.
 pub fn migrate_in_file<B: Alter, F: Files<B> + Closes<Connection<B>>, W: Write>(
     alloc: Global,
     files: &mut F,
@@ -64,8 +63,8 @@ pub fn migrate_in_file<B: Alter, F: Files<B> + Closes<Connection<B>>, W: Write>(
 }
 
 /// Performs the action at the desk of the office in the file at this path, or prints why there is no office. Returns
-/// the exit status. Opens the file once. If that succeeds, also closes it, outside a transaction, as the action left it.
-/// If there is no office, opens no list and listens on no port.
+/// the exit status. Opens the file once. If it opens, also closes it, in no transaction, in the state in which the action
+/// left it. If there is no office, opens no list and listens on no port.
 pub fn with_office<B: Alter, F: Files<B> + Closes<Connection<B>>, L: Lists, P: Ports, W: Write>(
     alloc: Global,
     files: &mut F,

@@ -5,7 +5,7 @@ use crate::files::Closes;
 use office_store::{Desk, DeskFault};
 use sqlite::{Alter, Connection};
 
-/// Closes the connection of the desk, which is in no transaction. Does nothing if `desk` is an error.
+/// If `desk` is `Ok`, closes its connection, which is in no transaction. Otherwise does nothing.
 pub fn close<B: Alter, F: Closes<Connection<B>>>(files: &mut F, desk: Result<Desk<B>, DeskFault>)
     ensures outside { IfOk desk (λ desk. desk.conn.in_transaction ≡ false) }
     ensures closed { IfOk desk (λ desk. F.closes files.old desk.conn files.new) }

@@ -46,7 +46,8 @@ pub trait Files<B: Alter> {
         ensures failed { OnErr result (fails self.old path.now self.new) };
 }
 
-/// A place where connections are closed.
+/// Something that closes connections of type `C`. The contract of `close` is a relation between its states before and after
+/// the call.
 pub trait Closes<C> {
     ghost use Rattle.std.specs.Prelude.{⊤};
 

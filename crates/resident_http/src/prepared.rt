@@ -17,7 +17,8 @@ pub struct PreparedResponse {
     pub bytes: Vec<u8>,
 }
 
-/// An allocation failed, or the desk was unavailable: the constant 503 response takes the place of a prepared one.
+/// There is no prepared response to write, so the constant 503 response takes its place: an allocation failed, or the desk was
+/// unavailable.
 #[derive(Clone, Copy, Debug, PartialEq, Eq)]
 pub struct ResponseUnavailable;
 

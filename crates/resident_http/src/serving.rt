@@ -18,9 +18,9 @@ use sqlite::{Alter, MemStore};
 use std::alloc::Global;
 
 /// Serves one resident: reads one request, lets the desk handle it, and writes the response, as `serve_connection`
-/// does. If the disk returned what was written to it, the response is one that the office represented by the desk
-/// serves to the bytes read. The desk then represents the office after this request, even if the response could not be
-/// written.
+/// does. If the disk returned what was written to it, the response is one that `serve_connection` may write for the bytes
+/// read at the office that the desk represents. The desk then represents the office after this request, even if the
+/// response could not be written.
 pub fn serve_one<S: Alter, T: Stream>(
     alloc: Global,
     desk: &mut Desk<S>,

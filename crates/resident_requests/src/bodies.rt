@@ -11,7 +11,7 @@ use room_types::{Listing, OutOfMemory, RoomCode, RoomRow};
 use serde_json::{Value, json};
 use std::alloc::{AllocError, Global};
 
-/// Returns the body with a recorded preference list.
+/// Returns the JSON body of the response to a recorded preference list: `{"choices":[..]}`.
 ///
 /// # Errors
 ///

@@ -65,7 +65,7 @@ pub struct Found {
 /// - `Unavailable` if no other version is read and the schema is in no known layout, or if the database fails or memory
 ///   runs out.
 ///
-/// If the first three tables are not those of an office, or if there is a view, no statement runs.
+/// If the first three tables do not have the names and places of an office's, or if there is a view, no statement runs.
 pub fn find<S: Alter>(alloc: Global, conn: &mut Connection<S>) -> Result<Found, FindFault>
     requires { conn.old.in_transaction ≡ false }
     ensures outside { conn.new.in_transaction ≡ false }

@@ -9,16 +9,17 @@ use office_schema::tables::layouts::Layout;
 use sqlite_catalog::layout::is_used;
 use sqlite_schema::schema::{Index, Schema, Table};
 
-/// Returns whether something has the name of table `round`. The engine lists a table that it does not understand, such as one
-/// with a trigger, among the views.
+/// Returns whether a table, an index or a view has the name of table `round`, whatever the case of its letters. The engine
+/// lists triggers, and tables that it does not understand, among the views.
 pub fn names_round(schema: &Schema) -> bool
     ensures { result ≡ names_round schema.now }
 {
     is_used(schema, b"round")
 }
 
-/// Returns the layout whose tables and indexes the schema has, each in its tree, and nothing else. If the tables are declared
-/// as an office's are, then they are those of the layout.
+/// Returns the known layout that the schema has, or `None`. A schema has a layout if its tables have the names and trees of
+/// the layout's, in the same order, its indexes are the layout's, and it has no views. The columns of tables are not
+/// compared. If each table with an office's table name is declared as that table, the schema is exactly the layout's.
 pub fn layout_in(schema: &Schema) -> Option<Layout>
     ensures tested { result ≡ layout_in schema.now }
     ensures whole { IfSome result (λ layout. AreDeclared schema.now → schema.now ≡ schema_of layout) }

@@ -85,8 +85,9 @@ pub fn verb_of(word: &str) -> Option<Verb>
 ///
 /// # Errors
 ///
-/// `NotUnderstood`, only if the words are not a request. `OutOfMemory`, only if the number of words fits the request
-/// and the first value is in its grammar; never for a request without values, and never for `moves`.
+/// `NotUnderstood`, only if the words are not a request. `OutOfMemory` if an allocation fails. Nothing is allocated
+/// unless the number of words fits the request and the first value is in its grammar. A request without values allocates
+/// nothing, and neither does `moves`.
 pub fn words_to_command(alloc: Global, words: &[&str]) -> Result<Request, WordFault>
     ensures understands { Understands (request_of (map (λ word. word.now) words.now)) result }
     ensures memory { OutOfMemoryOnlyIf (allocates (map (λ word. word.now) words.now)) result }
