@@ -1,4 +1,5 @@
-"""Memory is refused to the program, one allocation after the other; bench/memory.sh says what has to come of it."""
+"""Memory is refused to the program, one allocation after the other; bench/memory.sh says what has to come of it, and which
+parts there are."""
 
 import os
 import socket
@@ -12,15 +13,22 @@ from multiprocessing import Pool
 from pathlib import Path
 
 from faults import ENDS, content_of, copy_office, kept_words
+from foreign.earlier import ORDERS, as_earlier
+from foreign.offices import OFFICES
+from foreign.tables import declare, fill_some, opened
 from residents import free_port
 
 UNAVAILABLE = "unavailable\n"
 UNSERVED = "HTTP/1.1 503 "
-SCRIPT = "bench/lists.txt"
-EXPORTS = ("rooms", "people", "moves")
+SUBCOMMANDS = ("import", "export", "migrate")
+EXPORTS = ("rooms", "people", "moves", "grades")
+# The resident with this key takes part in the round of bench/lists.txt, and is going in that of bench/grades.txt. Each request
+# comes with a text that its answer has to contain with ample memory.
 KEY = "key0000000000s01"
-REQUESTS = (("GET", "/rooms", ""), ("GET", "/me", ""), ("PUT", "/me/choices", '["A3","B2"]'), ("PUT", "/me/choices", '["Z9"]'),
-            ("POST", "/me/withdraw", ""), ("GET", "/nothing", ""))
+REQUESTS = (("GET", "/rooms", "", '"room":"A1"'), ("GET", "/me", "", '"going":false'),
+            ("PUT", "/me/choices", '["A3","B2"]', '{"choices":["A3","B2"]}'), ("PUT", "/me/choices", '["Z9"]', '"UnknownRoom"'),
+            ("POST", "/me/withdraw", "", '{"withdrawn":true}'), ("GET", "/nothing", "", '"NotFound"'))
+GOING_REQUESTS = (("PUT", "/me/choices", '["A3","B2"]', '"Going"'), ("POST", "/me/withdraw", "", '"Going"'))
 
 
 @dataclass
@@ -30,6 +38,10 @@ class Ran:
     text: str
     status: int
     is_refused: bool
+
+    def is_as(self, other):
+        """Whether another run printed the same, with the same status."""
+        return (self.text, self.status) == (other.text, other.status)
 
 
 @dataclass
@@ -54,7 +66,7 @@ class Program:
 
     def line(self, office, words):
         """The program's own words for a line on this office."""
-        line = words if words[0] in ("import", "export") else ["do", *words]
+        line = words if words[0] in SUBCOMMANDS else ["do", *words]
         return [line[0], "--db", str(office), *line[1:]]
 
 
@@ -103,21 +115,21 @@ def rehearsals(program, script):
     """A whole script by `rehearse`."""
     lines = [line for line in Path(script).read_text(encoding="utf-8").splitlines() if line and not line.startswith("#")]
 
-    def said(some):
-        return program.run(["rehearse"], given="".join(line + "\n" for line in some)).text
+    def said(some, number=0):
+        return program.run(["rehearse"], number, "".join(line + "\n" for line in some))
 
     fronts = [said(lines[:length]) for length in range(len(lines) + 1)]
-    assert UNAVAILABLE not in fronts[-1], fronts[-1]
+    ample = fronts[-1]
+    expect(ample.status < 3, f"rehearsal of {script} with ample memory", ample)
     # what is printed if one line is answered `unavailable`, and so does not count: then the status is 3
-    others = {fronts[i] + UNAVAILABLE + said(lines[:i] + lines[i + 1:])[len(fronts[i]):] for i in range(len(lines))}
+    others = {front.text + UNAVAILABLE + said(lines[:i] + lines[i + 1:]).text[len(front.text):]
+              for i, front in enumerate(fronts[:-1])}
+    cut = {UNAVAILABLE, *(front.text for front in fronts), *others}
 
     def attempt(number):
-        ran = program.run(["rehearse"], number, "".join(line + "\n" for line in lines))
-        is_cut = ran.text in others or ran.text in (*fronts, UNAVAILABLE)
-        is_known = ran.status == 3 and is_cut or ran.status == 0 and ran.text == fronts[-1]
-        what = f"rehearsal of {script} without allocation {number}"
-        expect(is_known, what, ran)
-        expect_ample(ran, what, ran.text == fronts[-1] and ran.status == 0)
+        ran, what = said(lines, number), f"rehearsal of {script} without allocation {number}"
+        expect(ran.is_as(ample) or ran.status == 3 and ran.text in cut, what, ran)
+        expect_ample(ran, what, ran.is_as(ample))
         return ran.is_refused
 
     return refuse_each(attempt)
@@ -128,37 +140,57 @@ def rehearsals(program, script):
 def line_over_file(program, words, before, answer, after):
     """One line on copies of an office."""
     is_read = words[0] == "export"
-    expect(answer.text not in ("", UNAVAILABLE), f"{' '.join(words)} with ample memory", answer)
     with tempfile.TemporaryDirectory() as name:
         office, kept = Path(name) / "office.db", Kept(before, after)
 
         def attempt(number):
             copy_office(before, office)
             ran = program.run(program.line(office, words), number)
-            content, what = kept.of(office), f"{' '.join(words)} without allocation {number}"
-            if ran.text == answer.text:
-                expect(content == kept.after, what, ran)
-            elif ran.text == UNAVAILABLE:
+            content, what = kept.of(office), f"{' '.join(words)} on {before.stem} without allocation {number}"
+            if ran.text == UNAVAILABLE:
                 expect(ran.status == 3 and content == kept.before, what, ran)
-            else:
+            elif ran.text == answer.text:
+                expect(ran.status in (answer.status, 3) and content == kept.after, what, ran)
+            else:  # a text that could not be made or written does not undo the change
                 front = answer.text[:len(ran.text)] if is_read else ""
-                expect(ran.status == 3 and content in (kept.before, kept.after) and ran.text == front, what, ran)
-            expect_ample(ran, what, (ran.text, ran.status) == (answer.text, answer.status))
+                expect(ran.status == 3 and content == kept.after and ran.text == front, what, ran)
+            expect_ample(ran, what, ran.is_as(answer))
             return ran.is_refused
 
         return refuse_each(attempt)
 
 
-def steps_of(program, folder, script):
-    """The lines of a script, each with the office before it, its answer, and the office after it."""
-    before = folder / "0.db"
-    program.run(["new", "--db", str(before)])
-    lines = [*kept_words(Path(script)), *(["export", kind] for kind in EXPORTS)]
+def step(program, words, before, after):
+    """A line, with the office before it, its answer, and the office after it. With ample memory it has to be accepted."""
+    copy_office(before, after)
+    answer = program.run(program.line(after, words))
+    expect(answer.text and answer.status == 0, f"{' '.join(words)} on {before.stem} with ample memory", answer)
+    return program, words, before, answer, after
+
+
+def steps_of(program, before, name, lines):
+    """Lines, one after the other from this office on. Files of this name hold the offices after them."""
     for number, words in enumerate(lines, 1):
-        after = folder / f"{number}.db"
-        copy_office(before, after)
-        yield program, words, before, program.run(program.line(after, words)), after
+        after = before.with_name(f"{name}-{number}.db")
+        yield step(program, words, before, after)
         before = after
+
+
+def new_office(program, folder):
+    """An empty office."""
+    office = folder / "new.db"
+    program.run(["new", "--db", str(office)])
+    return office
+
+
+def migrations(program, folder):
+    """The migration of an office from each order of tables of an earlier version, in a file that sqlite3 writes."""
+    for order, (version, tables) in ORDERS.items():
+        before = folder / f"{order}.db"
+        with opened(before) as database:
+            declare(database, *tables)
+            fill_some(database, as_earlier(OFFICES["published"], version), tables)
+        yield step(program, ["migrate"], before, folder / f"{order}, migrated.db")
 
 
 # --- residents
@@ -184,14 +216,13 @@ def serve_once(program, office, port, request, number):
     return answer, Ran(said, server.returncode, was_told(reads, writes))
 
 
-def served(program, office, port, request):
-    """One resident's request, over copies of an office."""
+def served(program, office, port, request, due):
+    """One resident's request, over copies of an office. With ample memory its answer has to contain the text that is due."""
     with tempfile.TemporaryDirectory() as name:
         copy = Path(name) / "office.db"
         copy_office(office, copy)
         ample, ran = serve_once(program, copy, port, request, 0)
-        is_served = ample.startswith("HTTP/1.1 ") and not ample.startswith(UNSERVED)
-        expect(is_served, f"{request} with ample memory: {ample[:40]}", ran)
+        expect(due in ample, f"{request} with ample memory: {ample[:40]}", ran)
         kept = Kept(office, copy)
 
         def attempt(number):
@@ -209,12 +240,21 @@ def served(program, office, port, request):
         return refuse_each(attempt)
 
 
+def requests_of(program, steps, requests):
+    """Each of these requests, over the office whose round a year closes next."""
+    office = next(before for _, words, before, _, _ in steps if words == ["close"])
+    for *request, due in requests:
+        yield program, office, free_port(), request, due
+
+
 # --- calls of the desk
 
-def tests_of(path):
-    """The names of the tests that are right whichever allocation is refused."""
-    listed = subprocess.run([path, "--list"], capture_output=True, text=True, check=True).stdout
-    return [line.removesuffix(": test") for line in listed.splitlines() if line.startswith("refused::")]
+def tests_of(tests):
+    """The tests that are right whichever allocation is refused, by their names."""
+    listed = subprocess.run([tests.path, "--list"], capture_output=True, text=True, check=True).stdout
+    for line in listed.splitlines():
+        if line.startswith("refused::"):
+            yield tests, line.removesuffix(": test")
 
 
 def calls_of_desk(tests, name):
@@ -227,28 +267,41 @@ def calls_of_desk(tests, name):
     return refuse_each(attempt)
 
 
-def tell(what, refused, began):
-    assert all(refused), f"{what}: nothing was refused to one of these: {refused}"
+# --- the parts
+
+def parts_of(program, tests, folder):
+    """The parts by their words, in order: what each is called, and the function to try with its arguments."""
+    lists = list(steps_of(program, new_office(program, folder), "lists", kept_words(Path("bench/lists.txt"))))
+    grades = list(steps_of(program, lists[-1][-1], "grades", kept_words(Path("bench/grades.txt"))))
+    exports = steps_of(program, grades[-1][-1], "exports", (["export", kind] for kind in EXPORTS))
+    return {
+        "desk": ("calls of the desk", calls_of_desk, tests_of(tests)),
+        "year": ("a year rehearsed", rehearsals, [(program, "examples/year.txt")]),
+        "leavers": ("a year with grades and leavers rehearsed", rehearsals, [(program, "examples/leavers.txt")]),
+        "lists": ("lines over a file", line_over_file, lists),
+        "grades": ("lines over a file, with grades and a leaver", line_over_file, grades),
+        "exports": ("exports", line_over_file, exports),
+        "migrate": ("files of earlier versions migrated", line_over_file, migrations(program, folder)),
+        "residents": ("residents' requests", served, requests_of(program, lists, REQUESTS)),
+        "going": ("requests of a resident who is going", served, requests_of(program, grades, GOING_REQUESTS)),
+    }
+
+
+def try_part(pool, what, function, arguments):
+    """Tries a part, prints how many allocations were refused, and gives their number."""
+    began = time.monotonic()
+    refused = pool.starmap(function, arguments, 1)
+    assert refused and all(refused), f"{what}: nothing was refused to one of these: {refused}"
     print(f"{what}: {sum(refused)} allocations refused, {time.monotonic() - began:.0f} s", flush=True)
     return sum(refused)
 
 
-def main(path, tests, refuse, jobs):
-    program, refused = Program(path, refuse), 0
+def main(path, tests, refuse, jobs, *words):
     with Pool(int(jobs)) as pool, tempfile.TemporaryDirectory() as name:
-        began = time.monotonic()
-        calls = [(Program(tests, refuse), test) for test in tests_of(tests)]
-        assert calls, f"{tests} has no tests of refused memory"
-        refused += tell("calls of the desk", pool.starmap(calls_of_desk, calls, 1), began)
-        began = time.monotonic()
-        refused += tell("a year rehearsed", pool.starmap(rehearsals, [(program, "examples/year.txt")]), began)
-        began = time.monotonic()
-        steps = list(steps_of(program, Path(name), SCRIPT))
-        refused += tell("lines over a file", pool.starmap(line_over_file, steps, 1), began)
-        began = time.monotonic()
-        office = next(before for _, words, before, _, _ in steps if words == ["close"])
-        requests = [(program, office, free_port(), request) for request in REQUESTS]
-        refused += tell("residents' requests", pool.starmap(served, requests, 1), began)
+        parts = parts_of(Program(path, refuse), Program(tests, refuse), Path(name))
+        if unknown := [word for word in words if word not in parts]:
+            sys.exit(f"no such part: {' '.join(unknown)}; the parts are {' '.join(parts)}")
+        refused = sum(try_part(pool, *parts[word]) for word in words or parts)
     print(f"{refused} allocations refused, each answered as it has to be")
 
 
