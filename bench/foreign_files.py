@@ -3,16 +3,13 @@
 import sys
 
 from foreign import changed, earlier, files, taken
-from foreign.program import Program
+from foreign.program import Program, finish
 
 
 def main(program: str) -> None:
     """Tries all groups, and succeeds if none of them held a surprise."""
     words = Program((program,))
-    surprises = taken.try_all(words) + earlier.try_all(words) + changed.try_all(words) + files.try_all(words)
-    if surprises:
-        sys.exit(f"{surprises} surprises")
-    print("all is as it should be")
+    finish(taken.try_all(words) + earlier.try_all(words) + changed.try_all(words) + files.try_all(words))
 
 
 if __name__ == "__main__":

@@ -1,6 +1,7 @@
 """Runs of the program over a file, and the cases of a group with the first surprise of each."""
 
 import subprocess
+import sys
 from collections.abc import Iterator
 from contextlib import contextmanager
 from dataclasses import dataclass
@@ -30,18 +31,19 @@ def status_of(answer: str) -> int:
 
 @dataclass(frozen=True)
 class Program:
-    """The program, by the words with which each of its runs begins."""
+    """The program, by the words with which each of its runs begins. A run may take so many seconds."""
 
     words: tuple[str, ...]
+    seconds: int = SECONDS
 
     def answers(self, file: Path, line: str, answer: str) -> None:
         """Runs a line of the program, as `do round`, over the file: it has to be answered so, with the status that goes with it."""
         verb, *rest = line.split()
         words = [*self.words, verb, "--db", str(file), *rest]
         try:
-            done = subprocess.run(words, stdin=subprocess.DEVNULL, capture_output=True, timeout=SECONDS, check=False)
+            done = subprocess.run(words, stdin=subprocess.DEVNULL, capture_output=True, timeout=self.seconds, check=False)
         except subprocess.TimeoutExpired:
-            raise Surprise(f"{line[:60]}: no answer in {SECONDS} seconds") from None
+            raise Surprise(f"{line[:60]}: no answer in {self.seconds} seconds") from None
         came = (done.stdout.decode(errors="replace"), done.stderr.decode(errors="replace"), done.returncode)
         due = (f"{answer}\n", "", status_of(answer))
         expect(came == due, f"{line[:60]}: {came} came, and not {due}")
@@ -95,3 +97,10 @@ class Cases:
         held = f", {self.surprises} with a surprise" if self.surprises else ""
         print(f"{text}: {self.count}{held}", flush=True)
         return self.surprises
+
+
+def finish(surprises: int) -> None:
+    """Ends the script, with status 1 if there were surprises."""
+    if surprises:
+        sys.exit(f"{surprises} surprises")
+    print("all is as it should be")

@@ -3,7 +3,7 @@
 import multiprocessing
 import sqlite3
 import time
-from collections.abc import Callable, Iterator
+from collections.abc import Callable, Iterator, Sequence
 from contextlib import closing, contextmanager
 from pathlib import Path
 
@@ -173,22 +173,31 @@ WAYS: dict[str, Way] = {
 }
 
 
-def rows_in(file: Path) -> Rows:
-    """The rows of each documented table, as sqlite3 finds them; the file has to be whole, and its references kept."""
-    with opened(file) as database:
-        try:
-            whole = database.execute("PRAGMA integrity_check").fetchall()
-            broken = database.execute("PRAGMA foreign_key_check").fetchall()
-            found = {table: database.execute(f"SELECT * FROM {table}").fetchall() for table in map(name_of, documented_tables())}
-        except sqlite3.Error as error:
-            raise Surprise(f"sqlite3 says: {error}") from None
+def rows_of(database: sqlite3.Connection, tables: Sequence[str]) -> Rows:
+    """The rows of these tables, as sqlite3 finds them; the database has to be whole, and its references kept."""
+    try:
+        whole = database.execute("PRAGMA integrity_check").fetchall()
+        broken = database.execute("PRAGMA foreign_key_check").fetchall()
+        found = {table: database.execute(f"SELECT * FROM {table}").fetchall() for table in tables}
+    except sqlite3.Error as error:
+        raise Surprise(f"sqlite3 says: {error}") from None
     expect(whole == [("ok",)], f"integrity_check: {whole}")
     expect(not broken, f"foreign_key_check: {broken}")
     return found
 
 
+def rows_in(file: Path) -> Rows:
+    """The rows of each documented table in a file."""
+    with opened(file) as database:
+        return rows_of(database, list(map(name_of, documented_tables())))
+
+
+def expect_same(found: Rows, due: Rows) -> None:
+    """These rows were found and no others, in any order."""
+    for table, rows in due.items():
+        expect(sorted(found[table], key=repr) == sorted(rows, key=repr), f"{table} has {found[table][:20]}, and not {rows[:20]}")
+
+
 def expect_rows(file: Path, rows: Rows) -> None:
     """The file has these rows and no others, in any order."""
-    found = rows_in(file)
-    for table, due in rows.items():
-        expect(sorted(found[table], key=repr) == sorted(due, key=repr), f"{table} has {found[table][:20]}, and not {due[:20]}")
+    expect_same(rows_in(file), rows)
