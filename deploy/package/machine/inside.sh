@@ -13,6 +13,8 @@ file=/var/lib/rooms/rooms.db
 units=(rooms-keeper.socket rooms-keeper.service rooms-page.socket rooms-page.service)
 site=https://rooms.example.org
 rooms=room,state,tenant\ H1,occupied,T1\ H2,occupied,T2\ V,free,
+page=/usr/share/doc/rooms/docs/upgrading.md
+folder=/home/admin/upgrade
 # The residents' key, and one that nobody has.
 key=$(head -c 16 /dev/urandom | od -An -tx1 | tr -d ' \n')
 nobody=0000000000000000
@@ -154,6 +156,162 @@ upgrade() {
     try "residents are answered" within 60 answers
 }
 
+# An administrator's account, with a folder as of step 1 of docs/upgrading.md. The site's name leads to this machine.
+make_admin() {
+    useradd -m -G sudo,rooms-office admin
+    install -m 440 /dev/stdin /etc/sudoers.d/admin <<<'admin ALL=(ALL) NOPASSWD: ALL'
+    echo "127.0.0.1 localhost rooms.example.org $(hostname)" >>/etc/hosts
+    install -d -m 700 /media/safe
+    install -d -o admin -m 700 $folder
+    install -o admin -m 600 -t $folder rooms_*.deb
+    sha256sum "rooms_${new}_amd64.deb" >$folder/SHA256SUMS
+}
+
+# Runs the block of docs/upgrading.md that has these words, by the administrator's account in their folder, and answers
+# a question with y. The packages and the copy that the page names are examples: here the copy is `kept`.
+by_page() {
+    awk -v words="$1" '
+        /^```/ { if (found) exit; inside = !inside; block = ""; next }
+        inside { block = block $0 "\n"; found = found || index($0, words) }
+        END { if (found) printf "%s", block }' $page |
+        sed -e 's/rooms_1[.]0[.]0_amd64/EARLIER/' -e "s/rooms_[0-9.]*_amd64/rooms_${new}_amd64/" \
+            -e "s/EARLIER/rooms_${old}_amd64/" -e "s/20270131T120000Z/${kept:-}/" >block
+    [ -s block ] || echo "no block of the page has: $1"
+    runuser -u admin -- env -C $folder HOME=/home/admin CURL_CA_BUNDLE=/trial/rooms.crt bash /trial/block <<<y 2>&1
+}
+
+# An office of version 1 in the middle of a round, made by sqlite3 from the tables of docs/formats.md, in the order in
+# which the program of version 1 kept them. The list of T2 is in the log alone.
+make_earlier() {
+    local table
+    {
+        echo 'PRAGMA journal_mode = WAL;'
+        for table in room person round move list word result choice; do
+            sed -n "/^CREATE TABLE $table(/,/STRICT;\$/p" /usr/share/doc/rooms/docs/formats.md
+        done
+        cat <<END
+INSERT INTO room VALUES ('H1', 0), ('H2', 0), ('V', 0), ('W', 1);
+INSERT INTO person VALUES ('T1', 'Tim Tan', '$key', 'H1', 0), ('T2', 'Tom Tao', 'key00000000000t2', 'H2', 0),
+    ('N', 'Zoë Zä', 'key000000000000n', NULL, 0), ('Q', 'Quy Ho', 'key000000000000q', NULL, 1);
+INSERT INTO round VALUES (1, 1, 2, 'open');
+INSERT INTO choice VALUES ('T1', 0, 'H2'), ('T1', 1, 'V'), ('N', 0, 'V');
+INSERT INTO move VALUES (1, 'T1', NULL, 'H1', 1), (1, 'T2', 'V', 'H2', NULL);
+INSERT INTO list VALUES ('rooms-1', 'rooms', CAST('room' || char(10) || 'H1' AS BLOB), 1);
+END
+    } | sqlite3 rooms.db
+    sqlite3 rooms.db '.dbconfig no_ckpt_on_close on' "INSERT INTO choice VALUES ('T2', 0, 'H1')"
+}
+
+# All rows of the office, by sqlite3 on a copy.
+all_rows() {
+    rm -rf rows
+    mkdir rows
+    cp $file $file-wal rows
+    sqlite3 rows/rooms.db .dump
+}
+
+# Who the resident with this key is, their home and their list, as the site shows them.
+seen_by() {
+    ask -H "Room-Key: $1" $site/me >/dev/null
+    sed 's/.*"choices":\[\(.*\)\],"going".*"home":\(.*\),"name":\(.*\),"person":\(.*\),"phase".*/\4 \3 \2 \1/' body |
+        tr -d '"' | tr , ' ' | sed 's/ null / none /'
+}
+
+# The same of the person with this identifier, as the clerk's command shows it.
+on_record() {
+    clerk view "$1" | sed -n -E 's/^(person|name|home|choices) //p' | xargs
+}
+
+put_earlier() {
+    part "A file of version 1, by docs/upgrading.md to the letter"
+    make_admin
+    systemctl stop "${units[@]}"
+    rm -f $file $file-wal $file-shm
+    make_earlier >/dev/null
+    install -o rooms -g rooms -m 600 -t /var/lib/rooms rooms.db rooms.db-wal
+    all_rows >earlier
+    same "the list of T2 is in the log alone" 0 \
+        "$(sqlite3 'file:rooms.db?immutable=1' "SELECT count(*) FROM choice WHERE person = 'T2'")"
+    try "start" systemctl start "${units[@]}"
+    # What the command of version 1 wrote in step 1.
+    printf '%s\n' person,name,home "N,Zoë Zä," "Q,Quy Ho," "T1,Tim Tan,H1" "T2,Tom Tao,H2" >$folder/people-before.csv
+    printf '%s\n' room,state,tenant H1,occupied,T1 H2,occupied,T2 V,free, W,shut, >$folder/rooms-before.csv
+    chown admin $folder/*.csv
+}
+
+install_by_page() {
+    same "step 1: the checksum" "rooms_${new}_amd64.deb: OK" "$(by_page 'sha256sum -c')"
+    like "the pages in the package" "# Changelog*# Upgrading*" "$(by_page dpkg-deb)"
+    kept=$(by_page 'rooms-office backup')
+    like "step 2: a copy" "2*T*Z" "$kept"
+    same "it is taken elsewhere" "rooms.db why" "$(by_page 'cp -r' | xargs)"
+    like "step 3: the package" "*Setting up rooms ($new)*" "$(by_page 'apt-get install ./')"
+    same "rooms --version" "rooms $new" "$(rooms --version | head -n 1)"
+}
+
+wait_for_migration() {
+    same "all are active" "active active active active" "$(systemctl is-active "${units[@]}" | xargs)"
+    local began=$SECONDS
+    same "a resident cannot sign in" 503 "$(ask -H "Room-Key: $key" $site/me)"
+    echo "       after $((SECONDS - began)) s"
+    same "nor hand in a list" 503 "$(ask -X PUT -H "Room-Key: $key" -d '["V"]' $site/me/choices)"
+    same "the residents' page is there" 200 "$(ask $site/)"
+    same "and the office's page" 200 "$(ask -u clerk:secret $site/office/)"
+    like "which says why" "*is of version 1, and has to be brought to version*3*" "$(cat body)"
+    same "a line" "refused 22 OtherVersion 1" "$(clerk do room LATE)"
+    like "rooms-office view" "round 2 open*server not running*" "$(clerk view)"
+    same "no row has changed" "$(cat earlier)" "$(all_rows)"
+}
+
+migrate_by_page() {
+    kept=$(by_page 'export choices >')
+    like "step 4: a copy" "2*T*Z" "$kept"
+    same "the lists" "person,choices N,V T1,H2 V T2,H1" "$(xargs <$folder/choices-before.csv)"
+    same "the copy is taken elsewhere" "rooms.db why" "$(by_page 'cp -r' | xargs)"
+    same "stop, migrate, start" "ok" "$(by_page 'rooms migrate')"
+    same "owner and mode" "rooms rooms 600 rooms rooms 600" "$(stat -c '%U %G %a' $file $file-wal | xargs)"
+    try "residents are answered" within 60 answers
+    same "step 5: the clerk's line alone differs" "< user clerk password" \
+        "$(by_page 'sudo diff' | grep '^[<>]' | cut -d ' ' -f 1-4)"
+    same "HAProxy" "Configuration file is valid" "$(by_page 'haproxy -c')"
+    same "step 6" "$(rooms --version; printf '%s\n' active active "round 2 open people 4 withdrawn 1" 403)" \
+        "$(by_page is-active)"
+    same "no list has changed" "" "$(by_page 'diff choices-before.csv')"
+    same "the files with names are deleted" "" "$(by_page 'rm -f'; find $folder -name '*.csv')"
+}
+
+look_at_migrated() {
+    local one wanted
+    for one in "$key T1 Tim Tan H1 H2 V" "key00000000000t2 T2 Tom Tao H2 H1" "key000000000000n N Zoë Zä none V"; do
+        wanted=${one#* }
+        same "a resident sees $wanted" "$wanted" "$(seen_by "${one%% *}")"
+        same "and so does the clerk" "$wanted" "$(on_record "${wanted%% *}")"
+    done
+    same "the moves of round 1" "round,wave,person,from,to 1,1,T1,,H1 1,swap,T2,V,H2" "$(clerk export moves | xargs)"
+    same "nobody has a grade" "person,grade N,0 Q,0 T1,0 T2,0" "$(clerk export grades | xargs)"
+    same "a line of version 3" "ok" "$(clerk do grade T2 1)"
+    same "another list" 200 "$(ask -X PUT -H "Room-Key: $key" -d '["V"]' $site/me/choices)"
+}
+
+go_back_by_page() {
+    local copy=$kept before said
+    before=$(sha256sum "/var/lib/rooms/backups/$copy"/*)
+    said=$(by_page 'office back 2')
+    like "step 7: rooms-office back" "2*T*Z*the copy is put back*" "$said"
+    same "the list is that of the copy" "T1 Tim Tan H1 H2 V" "$(within 60 answers; seen_by "$key")"
+    same "nobody has a grade" "person,grade N,0 Q,0 T1,0 T2,0" "$(clerk export grades | xargs)"
+    same "the kept copy is as it was" "$before" "$(sha256sum "/var/lib/rooms/backups/$copy"/*)"
+    kept=$(head -n 1 <<<"$said")
+    like "the same with the name that it printed" "2*T*Z*the copy is put back*" "$(by_page 'office back 2')"
+    same "undoes it" "T1 Tim Tan H1 V" "$(within 60 answers; seen_by "$key")"
+    kept=$copy
+    like "the earlier package, and the copy" "*Setting up rooms ($old)*the copy is whole*in place: $file" \
+        "$(by_page rooms-restore)"
+    same "the list is that of the copy" "T1 Tim Tan H1 H2 V" "$(within 60 answers; seen_by "$key")"
+    same "the kept copy is as it was" "$before" "$(sha256sum "/var/lib/rooms/backups/$copy"/*)"
+    same "and the one elsewhere" "" "$(diff -r "/var/lib/rooms/backups/$copy" "/media/safe/$copy")"
+}
+
 look_for_keys() {
     part "Keys"
     journalctl --no-pager >log
@@ -190,6 +348,12 @@ if [ ! -e key ]; then
     keep_copies
     kill_things
     upgrade
+    put_earlier
+    install_by_page
+    wait_for_migration
+    migrate_by_page
+    look_at_migrated
+    go_back_by_page
     look_for_keys
     echo "$faults" >faults
     sync

@@ -4,17 +4,18 @@
 # shellcheck disable=SC2034,SC2054,SC2154 # they use `machine` and set `folder` and `root`; commas are qemu's
 
 # Debian's packages that the machine needs, besides what the package needs and recommends.
-around=(systemd-sysv linux-image-cloud-amd64 initramfs-tools dbus rsyslog iproute2 curl openssl procps
+around=(systemd-sysv linux-image-cloud-amd64 initramfs-tools dbus rsyslog iproute2 curl openssl procps sudo
     haproxy python3 python3-bottle python3-waitress sqlite3)
 
 # Makes the machine's disk, folder/disk: a Debian 12 with systemd and HAProxy, which at each start runs the script INSIDE
-# as root. The further files are next to it, in /trial. folder/machine keeps the Debian that was fetched.
+# as root. The further files are next to it, in /trial. folder/machine keeps the Debian that was fetched, and is made
+# anew if other packages are needed.
 make_machine() {
     local inside="$1" here
     here=$(CDPATH='' cd -- "$(dirname -- "${BASH_SOURCE[0]}")" && pwd)
     shift
     part "A machine"
-    if [ ! -e "$folder/machine/made" ]; then
+    if [ "$(cat "$folder/machine/made" 2>/dev/null)" != "${around[*]}" ]; then
         rm -rf --one-file-system "$folder/machine"
         try "debootstrap" timeout 1800 \
             debootstrap --variant=minbase bookworm "$folder/machine" http://deb.debian.org/debian
@@ -28,7 +29,7 @@ make_machine() {
             chroot "$root" apt-get -qq update
             exec chroot "$root" apt-get -qq -y --no-install-recommends install "$@"' sh "$folder/machine" "${around[@]}"
         go_on_if_good
-        touch "$folder/machine/made"
+        echo "${around[*]}" >"$folder/machine/made"
     fi
     rm -rf --one-file-system "$root"
     cp -a "$folder/machine" "$root"
