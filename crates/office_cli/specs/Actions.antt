@@ -6,15 +6,15 @@ use Rattle.office_lists.specs.declared.exports.ExportKind.{ExportKind}
 use Rattle.room_types.specs.Texts.{Text}
 use Rattle.room_types.specs.declared.kinds.ListKind.{ListKind}
 
--- What is done at the desk of an office file: handle words as a line; import a list of a kind under a label, from the file at
--- a path; export the office; serve a number of connections on a port.
+-- An action at the desk of an office file: `does` handles words as a line, `imports` imports a list from the file at
+-- a path, `exports` exports the office, and `serves` serves a number of connections on a port.
 pub data Action : Type 0 where
   does : List Text → Action
   imports : ListKind → Text → Text → Action
   exports : ExportKind → Action
   serves : ℕ → ℕ → Action
 
--- `Action` without places in memory
+-- converts the program's `Action` into this `Action`, which holds each borrowed text by value
 abbrev pub action_of : DeskAction → Action
 action_of (desk.Line words) = does (map (λ word. word.now) words.items)
 action_of (desk.Import kind label list) = imports kind label list.now

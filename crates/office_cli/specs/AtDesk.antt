@@ -1,4 +1,4 @@
--- Performing an action at a desk, and what is printed for a desk that was made.
+-- What an action at a desk does and prints, and what making a desk prints.
 use Rattle.std.specs.Prelude.{◌≡◌, ◌⊎◌, ◌<◌, ℕ, true, List, [], ◌∷◌, Result, Ok, Err, length, codes}
 use Rattle.sqlite.specs.Held.{state}
 use Rattle.sqlite.specs.State.{HasCleanDisk}
@@ -28,25 +28,27 @@ use Rattle.room_types.specs.Streams.{Output}
 use Rattle.room_types.specs.Texts.{Text}
 use Rattle.room_types.specs.declared.kinds.ListKind.{ListKind}
 
--- `ok` is printed if there is a desk, and otherwise why there is none
+-- The program prints `ok` if there is a desk, and otherwise the reason why there is none.
 abbrev pub PrintsMade : {S : Type 0} → Result (DeskState S) DeskFault → ℕ → Output → Output → Type 0
 PrintsMade (Ok desk) status out out' = Prints (line_of (codes "ok" ∷ [])) 0 status out out'
 PrintsMade (Err fault) status out out' = RefusesDesk fault status out out'
 
--- A prefix of these bytes was written. Either the writer's failure flag did not change, or the writer has failed and not all
--- bytes were written.
+-- A prefix of these bytes was written. Either the writer's failure flag did not change, or the writer has failed and
+-- not all bytes were written.
 pub record EndsEarly (bytes : List ℕ) (out out' : Output) : Type 0 where
   pub sent : ℕ
   pub prefix : PutsPrefix out out' sent bytes
   pub short : (out'.failed ≡ out.failed) ⊎ ((out'.failed ≡ true) × (sent < length bytes))
 
--- The export is printed like a text, with status 0. Or it stopped early, no flush followed, and the status is 3.
+-- Either the program prints the whole export as it prints any text; the status is 0 if that succeeds. Or the export
+-- stopped early, no flush followed, and the status is 3.
 abbrev pub SendsExport : List ℕ → ℕ → Output → Output → Type 0
 SendsExport bytes status out out' =
     Prints bytes 0 status out out' ⊎ ((status ≡ 3) × (out'.flushes ≡ out.flushes) × EndsEarly bytes out out')
 
--- Whatever the disk did, a header and records are printed like a text, with status 0. Or the export ended early, with whole
--- records unless a write failed, no flush followed, and the status is 3.
+-- This holds whatever the disk did. Either the program prints a header and records as it prints any text; the status
+-- is 0 if that succeeds. Or the export ended early, no flush followed, and the status is 3. It then ended after a
+-- whole record, unless a write failed.
 abbrev pub EndsExport : ExportKind → ℕ → Output → Output → Type 0
 EndsExport kind status out out' =
     ((records : List Record) × Prints (export_bytes (header_of kind ∷ records)) 0 status out out')
@@ -54,16 +56,16 @@ EndsExport kind status out out' =
     × EndsBetween kind out out' end × (out'.failed ≡ has_failed out.failed end))
 
 module _ {S : Type 0} (g : Ghosts S) where
-  -- The desk handles the words as a line. If the disk returned what was written to it, the office that the desk represents
-  -- handled them, and the desk represents the office after it.
+  -- The desk handles the words as a line. If the disk returned what was written to it, the office that the desk
+  -- represents may handle the words in the same way. The desk then represents the office after this line.
   pub record HandlesWords (old new : DeskState S) (words : List Text) (status : ℕ) (out out' : Output) : Type 0 where
     pub follows : Follows (state g old.conn) (state g new.conn)
     pub handled : DoesWords (HandlesAt g) old words status new out out'
     pub done : HasCleanDisk (state g new.conn) → (office : Office) → Represents g old office
         → (next : Office) × DoesWords HandlesLawfully office words status next out out' × Represents g new next
 
-  -- The desk imports the list at a path. If the disk returned what was written to it, the office that the desk represents
-  -- imported it, and the desk represents the office after it.
+  -- The desk imports the list at a path. If the disk returned what was written to it, the office that the desk
+  -- represents may import the list in the same way. The desk then represents the office after this import.
   pub record ImportsDesk {L : Type 0} (list_access : ListAccess L) (lists : L) (old : DeskState S) (lists' : L) (new : DeskState S) (kind : ListKind) (label path : Text) (status : ℕ) (out out' : Output)
       : Type 0 where
     pub follows : Follows (state g old.conn) (state g new.conn)
@@ -71,8 +73,8 @@ module _ {S : Type 0} (g : Ghosts S) where
     pub done : HasCleanDisk (state g new.conn) → (office : Office) → Represents g old office
         → (next : Office) × ImportsPath HandlesLawfully list_access lists office kind label path status lists' next out out' × Represents g new next
 
-  -- The desk writes the export. If the disk returned what was written to it, it is the export of the office that the desk
-  -- represents, and the desk still represents that office.
+  -- The desk writes an export. If the disk returned what was written to it, the export is that of the office that the
+  -- desk represents, and the desk still represents this office.
   pub record ExportsDesk (old new : DeskState S) (kind : ExportKind) (status : ℕ) (out out' : Output) : Type 0 where
     pub reads : OnlyReads (state g old.conn) (state g new.conn)
     pub written : EndsExport kind status out out'

@@ -19,23 +19,25 @@ use Rattle.office_lines.specs.render.OutputLines.{line_of}
 use Rattle.office_cli.specs.WordLines.{words_text}
 use Rattle.room_types.specs.Texts.{Text}
 
--- Arguments that are not understood are reported on standard error with status 2, out of memory on standard output with
--- status 3.
+-- The program reports arguments that are no subcommand on standard error, with status 2. It reports a failed
+-- allocation on standard output, with status 3.
 abbrev pub Refuses : WordFault → ℕ → Output → Output → Output → Output → Type 0
 Refuses NotUnderstood status out out' error error' = Prints (line_of (codes "rooms: not understood" ∷ [])) 2 status error error' × (out' ≡ out)
 Refuses OutOfMemory status out out' error error' = PrintsUnavailable status out out' × (error' ≡ error)
 
--- A new desk in memory, which shows the empty office, rehearses the lines of standard input on standard output. Or an
--- allocation for the desk fails, and no input is read.
+-- Either the program rehearses at a new desk in memory, which shows the empty office: the desk handles the lines of
+-- standard input, and the program writes the responses to standard output. Or an allocation for the desk fails, and
+-- the program reads no input.
 abbrev pub RehearsesAnew : ℕ → Input → Input → Output → Output → Type 0
 RehearsesAnew status input input' out out' =
     ((ending : Ending) × (office : Office) × Rehearses HandlesLawfully ending status empty_office office input input' out out')
     ⊎ (PrintsUnavailable status out out' × (input' ≡ input))
 
--- how office files are opened and closed, lists are opened and closed, and residents connect
+-- `access` describes how office files are opened and closed, `list_access` how lists are opened and closed, and
+-- `network` how residents connect.
 module _ {F S L P : Type 0} (access : FileAccess F S) (list_access : ListAccess L) (network : Network P) where
-  -- The subcommand is carried out; arguments that are none are refused. An office file is opened only for a subcommand that
-  -- names one, a list only for `import`, a port only for `serve`.
+  -- The program carries out the subcommand. It refuses the arguments if they are no subcommand. It opens an office
+  -- file only for a subcommand that names one, a list only for `import`, and a port only for `serve`.
   abbrev pub DoesLine : Option Line → F → L → P → ℕ → F → L → P → Input → Input → Output → Output → Output → Output → Type 0
   DoesLine (Some (makes path)) files lists ports status files' lists' ports' input input' out out' error error' =
       MakesInFile access files path status files' out out' × (error' ≡ error) × (input' ≡ input) × (lists' ≡ lists) × (ports' ≡ ports)
@@ -52,8 +54,8 @@ module _ {F S L P : Type 0} (access : FileAccess F S) (list_access : ListAccess 
   DoesLine None files lists ports status files' lists' ports' input input' out out' error error' =
       Refuses NotUnderstood status out out' error error' × (input' ≡ input) × (files' ≡ files) × (lists' ≡ lists) × (ports' ≡ ports)
 
-  -- The subcommand of the arguments is carried out. Or an allocation for parsing them, or for the words of a draw, fails, which
-  -- needs at least one argument.
+  -- Either the program carries out the subcommand that the arguments give. Or an allocation fails, for parsing the
+  -- arguments or for the words of a draw, and the program reports it. This needs at least one argument.
   abbrev pub CarriesOut : List Text → F → L → P → ℕ → F → L → P → Input → Input → Output → Output → Output → Output → Type 0
   CarriesOut words files lists ports status files' lists' ports' input input' out out' error error' =
       DoesLine (program_of words) files lists ports status files' lists' ports' input input' out out' error error'

@@ -1,4 +1,4 @@
--- Carrying out a subcommand on an office file.
+-- How a subcommand is carried out on an office file.
 use Rattle.std.specs.Prelude.{◌≡◌, ◌⊎◌, ℕ, [], ◌∷◌, Err, codes, false}
 use Rattle.sqlite.specs.Held.{state}
 use Rattle.sqlite.specs.State.{HasCleanDisk}
@@ -20,9 +20,9 @@ use Rattle.room_types.specs.Streams.{Output}
 use Rattle.room_types.specs.Texts.{Text}
 
 module _ {F S : Type 0} (access : FileAccess F S) where
-  -- The file at the path was opened and declared nothing. The tables of the empty office were made, and `ok` is printed. If the
-  -- disk returned what was written to it, the desk shows that office. The connection of the desk is closed outside a
-  -- transaction.
+  -- The program opened the file at the path, whose database had an empty schema. It made the tables of the empty
+  -- office, and printed `ok`. If the disk returned what was written to it, the desk shows the empty office. The
+  -- program closed the desk's connection with no transaction open.
   pub record MakesNew (files : F) (path : Text) (status : ℕ) (files' : F) (out out' : Output) : Type 0 where
     pub desk : DeskState S
     pub between : F
@@ -32,14 +32,14 @@ module _ {F S : Type 0} (access : FileAccess F S) where
     pub outside : desk.conn.in_transaction ≡ false
     pub closed : access.closes between desk.conn files'
 
-  -- an empty office is made, or the reason why there is none is printed
+  -- The program makes an empty office in the file, or prints the reason why it cannot.
   abbrev pub MakesInFile : F → Text → ℕ → F → Output → Output → Type 0
   MakesInFile files path status files' out out' =
       MakesNew files path status files' out out'
       ⊎ ((fault : DeskFault) × IsCreateFault access files path (Err fault) files' × RefusesDesk fault status out out')
 
-  -- The file at the path was opened, the tables of its office were migrated to this program's version, and `ok` is printed. The
-  -- connection of the desk is closed outside a transaction.
+  -- The program opened the file at the path, migrated the tables of its office to this program's version, and printed
+  -- `ok`. It closed the desk's connection with no transaction open.
   pub record MigratesOffice (files : F) (path : Text) (status : ℕ) (files' : F) (out out' : Output) : Type 0 where
     pub desk : DeskState S
     pub between : F
@@ -48,14 +48,14 @@ module _ {F S : Type 0} (access : FileAccess F S) where
     pub outside : desk.conn.in_transaction ≡ false
     pub closed : access.closes between desk.conn files'
 
-  -- the tables are migrated to this program's version, or the reason why not is printed
+  -- The program migrates the tables to its own version, or prints the reason why it cannot.
   abbrev pub MigratesInFile : F → Text → ℕ → F → Output → Output → Type 0
   MigratesInFile files path status files' out out' =
       MigratesOffice files path status files' out out'
       ⊎ ((fault : DeskFault) × IsMigrateFault access files path (Err fault) files' × RefusesDesk fault status out out')
 
-  -- The file at the path was opened, this was done at the desk over its office, from `desk` to `last`, and the connection of
-  -- `last` is closed outside a transaction.
+  -- The program opened the file at the path, and `desk` is the desk over its office. `IsDone` holds between `desk`
+  -- and the desk `last` after the action. The program closed the connection of `last` with no transaction open.
   pub record AtFound (IsDone : DeskState S → DeskState S → Type 0) (files : F) (path : Text) (files' : F) : Type 0 where
     pub desk : DeskState S
     pub between : F
@@ -65,8 +65,8 @@ module _ {F S : Type 0} (access : FileAccess F S) where
     pub outside : last.conn.in_transaction ≡ false
     pub closed : access.closes between last.conn files'
 
-  -- The action is performed at the desk of the file's office. Or the reason why there is none is printed, no list is opened, and
-  -- no port is listened on.
+  -- Either the program performs the action at the desk of the file's office. Or the file gives no desk: then the
+  -- program prints the reason, opens no list, and listens on no port.
   abbrev pub PerformsInFile : {L P : Type 0} → ListAccess L → Network P → F → Text → Action → L → P → ℕ → F → L → P → Output → Output → Type 0
   PerformsInFile list_access network files path action lists ports status files' lists' ports' out out' =
       AtFound (λ desk last. Performs access.base list_access network action lists ports desk status lists' ports' last out out') files path files'

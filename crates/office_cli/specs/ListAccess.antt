@@ -1,4 +1,4 @@
--- Where lists are stored, and importing a list from there.
+-- How a store of lists behaves, and how the program imports a list from it.
 use Rattle.std.specs.Prelude.{◌≡◌, ℕ, ◌≤◌, ◌⊎◌, false, List, Option}
 use Rattle.office_cli.specs.Importing.{ImportsFrom, list_limit}
 use Rattle.office_lines.specs.Printing.{PrintsUnavailable}
@@ -10,8 +10,9 @@ use Rattle.room_types.specs.Watched.{StopsAtEnd, watched_ended, watched_failed, 
 use Rattle.room_types.specs.declared.kinds.ListKind.{ListKind}
 use Rattle.room_types.specs.declared.watched.Watched.{Watched}
 
--- How a store of lists behaves. Opening a path returns a list or fails, and a list can be closed. Each of these is a
--- relation between a state and the next. For a list's reader: the bytes that remain, where they are known.
+-- How a store of lists behaves. `opens` and `fails` describe how opening a path succeeds or fails, and `closes` how a
+-- list is closed. Each of these is a relation between the states of the store before and after one call. `remaining`
+-- describes the bytes still to be read from a list, where they are known.
 pub record ListAccess (L : Type 0) : Type 1 where
   pub Reader : Type 0
   pub opens : L → Text → Watched Reader → L → Type 0
@@ -24,7 +25,7 @@ abbrev pub list_access_of : {L R : Type 0} → (L → Text → Watched R → L �
     → (R → Option (List ℕ)) → ListAccess L
 list_access_of {R = R} opens fails closes remaining = record { Reader = R; opens = opens; fails = fails; closes = closes; remaining = remaining }
 
--- the reader before its first call
+-- no call has been made on the reader
 pub record IsUnread {R : Type 0} (source : Watched R) : Type 0 where
   pub failed : watched_failed source ≡ false
   pub reads : watched_reads source ≡ 0
@@ -32,8 +33,9 @@ pub record IsUnread {R : Type 0} (source : Watched R) : Type 0 where
   pub wasted : watched_wasted source ≡ false
 
 module _ {H L : Type 0} (handles : H → Request → Answer → H → Type 0) (list_access : ListAccess L) where
-  -- The path was opened once, and its list imported. The number of reads is bounded, and none comes after a read failed or found
-  -- the end. The list was closed as the last read left it.
+  -- The program opened the path once and imported the list, as `ImportsFrom` describes. It made at most `list_limit`
+  -- reads, and no read after one that failed or found the end. It closed the list in the state in which the last read
+  -- left it.
   pub record ImportsOpened (lists : L) (old : H) (kind : ListKind) (label path : Text) (status : ℕ) (lists' : L) (new : H) (out out' : Output) : Type 0 where
     pub source : Watched list_access.Reader
     pub source' : Watched list_access.Reader
@@ -45,8 +47,8 @@ module _ {H L : Type 0} (handles : H → Request → Answer → H → Type 0) (l
     pub imports : ImportsFrom handles list_access.remaining old kind label source source' status new out out'
     pub closed : list_access.closes between source' lists'
 
-  -- The list at a path is imported and closed. Or the path could not be opened, and the handler gets no command. Nothing
-  -- else is opened or closed.
+  -- Either the program imports the list at a path and closes it. Or it could not open the path: then it prints
+  -- `unavailable`, and the handler gets no command. It opens and closes nothing else.
   abbrev pub ImportsPath : L → H → ListKind → Text → Text → ℕ → L → H → Output → Output → Type 0
   ImportsPath lists old kind label path status lists' new out out' =
       ImportsOpened lists old kind label path status lists' new out out'

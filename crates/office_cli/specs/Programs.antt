@@ -19,8 +19,9 @@ use Rattle.room_types.specs.Texts.{Text}
 use Rattle.room_types.specs.declared.kinds.ListKind.{ListKind}
 use Rattle.room_types.specs.declared.kinds.ListKind.TheVariants as list
 
--- A subcommand with its arguments: make an office in the file at a path; migrate the tables of the office in such a file; perform
--- an action at the desk of the office in such a file; rehearse; print a number of words of a seed.
+-- A subcommand with its arguments. `makes` makes an office in the file at a path. `migrates` migrates the tables of
+-- the office in such a file. `performs` performs an action at the desk of the office in such a file. `rehearses`
+-- rehearses. `prints` prints a number of words of the generator with a seed.
 pub data Line : Type 0 where
   makes : Text → Line
   migrates : Text → Line
@@ -28,7 +29,7 @@ pub data Line : Type 0 where
   rehearses : Line
   prints : List ℕ → ℕ → Line
 
--- `Program` without places in memory
+-- converts a `Program` into a `Line`, which holds each borrowed text by value
 abbrev pub line_of : Program → Line
 line_of (program.New path) = makes path.now
 line_of (program.Do path words) = performs path.now (does (map (λ word. word.now) words.items))
@@ -39,24 +40,25 @@ line_of (program.Export path kind) = performs path.now (exports kind)
 line_of (program.Serve path port count) = performs path.now (serves port count)
 line_of (program.Migrate path) = migrates path.now
 
--- The number of a decimal text, if it is within the bounds. The text is as `clap` specifies it: for an integer that is read
--- with a sign, the rows hold it without its minus, if the bounds are not negative (`-0` is 0).
+-- The number that a decimal text denotes, if it is within the bounds. The text comes from a row of the parsed
+-- arguments, as `clap` specifies rows. `clap` parses these numbers with a sign. For bounds that are not negative, the
+-- row leaves out a minus sign, so `-0` is 0.
 abbrev pub number_between : ℕ → ℕ → Text → Option ℕ
 number_between low high text = if is_unsigned_in low high text then Some (digits_value 10 (without_leading_plus text)) else None
 
--- the number of an argument, if it is within the bounds
+-- the number that the argument with this id denotes, if it is within the bounds
 abbrev pub number_of : ℕ → ℕ → Text → List Row → Option ℕ
 number_of low high id rows = option_and_then (number_between low high) (one_of id rows)
 
--- `new --db FILE`
+-- the subcommand `new --db FILE` with the arguments in these rows
 abbrev pub new_program : List Row → Option Line
 new_program rows = option_map makes (first_of (codes "db") rows)
 
--- `do --db FILE WORD..`
+-- the subcommand `do --db FILE WORD..` with the arguments in these rows
 abbrev pub do_program : List Row → Option Line
 do_program rows = option_and_then (λ path. option_map (λ words. performs path (does words)) (all_of (codes "word") rows)) (first_of (codes "db") rows)
 
--- `words --seed HEX --count N`
+-- the subcommand `words --seed HEX --count N` with the arguments in these rows
 abbrev pub words_program : List Row → Option Line
 words_program rows = option_and_then (λ seed. option_map (prints seed) (number_of 0 2000 (codes "count") rows)) (option_and_then parse_seed (first_of (codes "seed") rows))
 
@@ -69,20 +71,21 @@ list_kind_named name =
     else if bytes_eq name (kind_text list.Grades) then Some list.Grades
     else None
 
--- the kind and the label of an import
+-- the kind of list that the arguments of an import give
 abbrev pub list_kind_given : List Row → Option ListKind
 list_kind_given rows = option_and_then list_kind_named (first_of (codes "kind") rows)
 
+-- the label that the arguments of an import give
 abbrev pub label_given : List Row → Option Text
 label_given rows = option_and_then (in_grammar is_label) (first_of (codes "label") rows)
 
--- `import --db FILE KIND LABEL PATH`
+-- the subcommand `import --db FILE KIND LABEL PATH` with the arguments in these rows
 abbrev pub import_program : List Row → Option Line
 import_program rows =
     option_and_then (λ path. option_and_then (λ list. option_and_then (λ kind. option_map (λ label. performs path (imports kind label list)) (label_given rows))
     (list_kind_given rows)) (first_of (codes "path") rows)) (first_of (codes "db") rows)
 
--- the export with this name
+-- the kind of export with this name
 abbrev pub export_kind_named : Text → Option ExportKind
 export_kind_named name =
     if bytes_eq name (codes "rooms") then Some Rooms
@@ -91,22 +94,22 @@ export_kind_named name =
     else if bytes_eq name (codes "grades") then Some Grades
     else None
 
--- `export --db FILE KIND`
+-- the subcommand `export --db FILE KIND` with the arguments in these rows
 abbrev pub export_program : List Row → Option Line
 export_program rows =
     option_and_then (λ path. option_map (λ kind. performs path (exports kind)) (option_and_then export_kind_named (first_of (codes "kind") rows)))
     (first_of (codes "db") rows)
 
--- `serve --db FILE --port N --count K`
+-- the subcommand `serve --db FILE --port N --count K` with the arguments in these rows
 abbrev pub serve_program : List Row → Option Line
 serve_program rows = option_and_then (λ path. option_and_then (λ port. option_map (λ count. performs path (serves port count)) (number_of 1 1000000 (codes "count") rows))
     (number_of 1 65535 (codes "port") rows)) (first_of (codes "db") rows)
 
--- `migrate --db FILE`
+-- the subcommand `migrate --db FILE` with the arguments in these rows
 abbrev pub migrate_program : List Row → Option Line
 migrate_program rows = option_map migrates (first_of (codes "db") rows)
 
--- the subcommand with this name and these rows, if they are one
+-- the subcommand with this name and the arguments in these rows, or `None` if they give no subcommand
 abbrev pub entered_line : Text × List Row → Option Line
 entered_line (name, rows) = if bytes_eq name (codes "new") then new_program rows
     else if bytes_eq name (codes "do") then do_program rows
@@ -126,11 +129,11 @@ has_none (kind ∷ kinds) = false
 unfoldable pub is_accepted : List Text → Bool
 is_accepted words = has_none (fault_of usage words)
 
--- the subcommand and the rows that `clap` specifies for the words
+-- the name of the subcommand and the rows of its arguments, as `clap` specifies them for the words
 unfoldable pub entered : List Text → Option (Text × List Row)
 entered words = subcommand_of usage words
 
--- the subcommand of the words, if they are one; without words it is `rehearse`
+-- the subcommand that the words give, or `None` if they give none; without words, it is `rehearse`
 abbrev pub program_of : List Text → Option Line
 program_of [] = Some rehearses
 program_of (word ∷ rest) =

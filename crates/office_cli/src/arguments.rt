@@ -14,12 +14,13 @@ use office_lists::ExportKind;
 use room_types::{Label, ListKind, TypeFault};
 use std::alloc::Global;
 
-/// Parses `words`, the arguments after the program's name, and returns the subcommand. If there are none, it is
-/// `rehearse`, and the call does not allocate.
+/// Parses `words`, the arguments after the program's name, and returns the subcommand. If there are no words, the
+/// subcommand is `rehearse`, and the call does not allocate.
 ///
 /// # Errors
 ///
-/// `NotUnderstood` only if the words are not a subcommand. `OutOfMemory` if an allocation fails; never without words.
+/// `NotUnderstood` only if the words are not a subcommand. `OutOfMemory` if an allocation fails. Without words, the
+/// call always succeeds.
 pub fn program<'a>(alloc: Global, words: &'a [&'a str]) -> Result<Program<'a>, WordFault>
     ensures understands { UnderstandsAs line_of
         (program_of (map (λ word. word.now) words.entry.now)) result }
@@ -39,7 +40,8 @@ pub fn program<'a>(alloc: Global, words: &'a [&'a str]) -> Result<Program<'a>, W
     }
 }
 
-// Returns the subcommand with this name and these matches.
+// Returns the subcommand with this name and the arguments in `entries`. Fails with `NotUnderstood` if they give no
+// subcommand, and with `OutOfMemory` if an allocation fails.
 fn entered_line<'a>(
     alloc: Global,
     name: &str,
@@ -75,7 +77,7 @@ fn new_program<'a>(entries: &ArgMatches<'a>) -> Option<Program<'a>>
     Some(Program::New { database })
 }
 
-// Copies the list of words, since the matches that hold it are dropped before the subcommand is carried out.
+// Copies the list of words, because `entries` is dropped before the subcommand is carried out.
 fn do_program<'a>(alloc: Global, entries: &ArgMatches<'a>) -> Result<Program<'a>, WordFault>
     ensures { UnderstandsAs line_of (do_program (rows_of (found_of entries.now))) result }
 {
@@ -167,7 +169,7 @@ fn migrate_program<'a>(entries: &ArgMatches<'a>) -> Option<Program<'a>>
     Some(Program::Migrate { database })
 }
 
-// Returns the text of the argument.
+// Returns the text given for the argument with this id.
 fn text<'a>(entries: &ArgMatches<'a>, id: &str) -> Option<&'a str>
     ensures { option_map (λ given. given.now) result ≡ first_of id.now
         (rows_of (found_of entries.now)) }
@@ -175,7 +177,7 @@ fn text<'a>(entries: &ArgMatches<'a>, id: &str) -> Option<&'a str>
     entries.get_str(id)
 }
 
-// Returns the texts of the argument.
+// Returns the texts given for the argument with this id.
 fn texts<'m, 'a>(entries: &'m ArgMatches<'a>, id: &str) -> Option<&'m [&'a str]>
     ensures { option_map (λ given. map (λ word. word.now) given.now) result
         ≡ all_of id.now (rows_of (found_of entries.now)) }
@@ -183,7 +185,7 @@ fn texts<'m, 'a>(entries: &'m ArgMatches<'a>, id: &str) -> Option<&'m [&'a str]>
     entries.get_strs(id)
 }
 
-// Returns the number of the argument, if it is from `least` to `most`.
+// Returns the number given for the argument with this id, if it is from `least` to `most`.
 fn number(entries: &ArgMatches, id: &str, least: u32, most: u32) -> Option<u32>
     ensures given { result ≡ number_of least most id.now (rows_of (found_of entries.now)) }
     ensures within { IfSome result (λ n. n ≤ most) }

@@ -1,5 +1,5 @@
-//! Carries out the program's arguments over standard input, output and error: a subcommand on an office file, or a rehearsal at
-//! a desk in memory.
+//! Carries out the program's arguments with standard input, output and error. The subcommand works on an office file,
+//! rehearses at a desk in memory, or prints the words of a draw.
 ghost use Rattle.std.specs.Prelude.{◌≤◌, map};
 ghost use Rattle.sqlite.specs.Held.{state};
 ghost use Rattle.sqlite.specs.State.{HasCleanDisk};
@@ -73,9 +73,9 @@ pub fn carry_out<'a, R: Read, W: Write, E: Write>(
     carry_out_over(rt, words, Wary, input, output, error)
 }
 
-/// Carries out these words, the arguments after the program's name, over the system's files and ports, and returns the
-/// exit status. `start` stands for what the office's file and its log contain when they are opened. The contract holds
-/// for every `S`, so for any contents. `carry_out` passes `Wary`.
+/// Carries out these words, the arguments after the program's name, with the system's files and ports, and returns
+/// the exit status. `start` stands for what the office's file and its log contain when they are opened. The contract
+/// holds for every `S`, and so for any contents. `carry_out` passes `Wary`.
 pub fn carry_out_over<'a, S: Start, R: Read, W: Write, E: Write>(
     rt: &HostRuntime,
     words: &'a [&'a str],
@@ -123,10 +123,10 @@ pub fn carry_out_over<'a, S: Start, R: Read, W: Write, E: Write>(
     )
 }
 
-/// Carries out these words, the arguments after the program's name, over any office files, lists and ports, and returns
-/// the exit status. A subcommand on an office file opens the file once. If the file opens, the subcommand closes it, in
-/// no transaction, in the state in which its action left it. Only `import` opens a list, and opens it once. If the list
-/// opens, `import` closes it, in the state in which the last read left it.
+/// Carries out these words, the arguments after the program's name, with any office files, lists and ports, and
+/// returns the exit status. A subcommand on an office file opens the file once. If the file opens, the subcommand
+/// closes it in the state in which the action left it, with no transaction open. Only `import` opens a list, and
+/// opens it once. If the list opens, `import` closes it in the state in which the last read left it.
 pub fn carry_out_from<
     'a,
     B: Alter,
@@ -207,7 +207,8 @@ pub fn carry_out_from<
     }
 }
 
-// Rehearses at a new desk in memory. If an allocation for the desk fails, prints `unavailable`.
+// Rehearses at a new desk in memory. If an allocation for the desk fails, prints `unavailable`. Returns the exit
+// status.
 fn rehearse_anew<R: Read, W: Write>(
     alloc: Global,
     input: &mut Watched<R>,
@@ -228,9 +229,10 @@ fn rehearse_anew<R: Read, W: Write>(
     }
 }
 
-/// Handles each line of the input at the desk and writes its response, like `rehearse` of `office_lines` with any handler.
-/// If the disk returned what was written to it, the responses are those of the office that the desk represents, and the
-/// desk represents the office after the lines that were handled, whatever the ending.
+/// Reads the input line by line, lets the desk handle each line, and writes the response. `rehearse` of
+/// `office_lines` does the same with any handler. If the disk returned what was written to it, the responses are
+/// those of the office that the desk represents. However the rehearsal ends, the desk then represents the office
+/// after the lines that were handled.
 pub fn rehearse<S: Alter, R: Read, W: Write>(
     alloc: Global,
     desk: &mut Desk<S>,
@@ -256,8 +258,8 @@ pub fn rehearse<S: Alter, R: Read, W: Write>(
     rehearse_with(alloc, desk, input, output)
 }
 
-/// Does what `rehearse` does, over a database in memory. This needs no premise about a disk: the responses are those of
-/// the office that the desk shows, and the desk then shows the office after the lines that were handled.
+/// Does what `rehearse` does, for a desk over a database in memory. This needs no premise about a disk. The responses
+/// are those of the office that the desk shows. The desk then shows the office after the lines that were handled.
 pub fn rehearse_in_memory<R: Read, W: Write>(
     alloc: Global,
     desk: &mut Desk<MemStore>,

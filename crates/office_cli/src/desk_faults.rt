@@ -1,4 +1,4 @@
-//! Printing that there is a desk, or why there is none.
+//! Prints `ok` if there is a desk, or the reason why there is none.
 ghost use Rattle.std.specs.Prelude.{◌≡◌, IfOk, string_bytes};
 ghost use Rattle.room_types.specs.Streams.{output_of};
 ghost use Rattle.room_types.specs.Watched.{IsFresh, StopsAtFailure};
@@ -30,7 +30,7 @@ pub fn print_made<S: Alter, W: Write>(
     }
 }
 
-/// Prints why there is no desk, like a refusal of the office. Returns the exit status.
+/// Prints why there is no desk, in the form in which the office's refusals are printed. Returns the exit status.
 pub fn refuse_desk<W: Write>(alloc: Global, fault: DeskFault, output: &mut Watched<W>) -> u8
     requires fresh { IsFresh output.old }
     ensures no_wasted_write { StopsAtFailure output.old output.new }

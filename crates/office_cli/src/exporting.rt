@@ -1,4 +1,4 @@
-//! Exporting the office of a desk.
+//! Writes exports of the office at a desk.
 ghost use Rattle.room_types.specs.Streams.{output_of};
 ghost use Rattle.room_types.specs.Watched.{IsFresh, StopsAtFailure};
 ghost use Rattle.office_cli.specs.AtDesk.{ExportsDesk};

@@ -1,4 +1,4 @@
-//! Importing a list: opens it, reads its bytes, passes them on as one command, and prints the answer.
+//! Imports a list: opens it, reads its bytes, passes them on as one command, and prints the answer.
 ghost use Rattle.std.specs.Prelude.{◌≤◌, IfOk, OnErr};
 ghost use Rattle.room_types.specs.Streams.{output_of};
 ghost use Rattle.room_types.specs.Watched.{IsFresh, StopsAtEnd, StopsAtFailure, watched_reads};
@@ -19,12 +19,12 @@ use sqlite::Alter;
 use std::alloc::Global;
 use std::io::{Read, Write};
 
-/// The greatest number of bytes read from a list: one more than a list may have, so that a longer list is noticed.
+/// The greatest number of bytes read from a list: one more than a list may have, to notice a longer list.
 pub const LIST_LIMIT: usize = BYTE_LIMIT + 1;
 
-/// Imports the list at the path `list` under this label, at this desk. Opens the list once. If it opens, also closes it,
-/// in the state in which the last read left it. If the list cannot be opened or read, or an allocation for its bytes
-/// fails, prints `unavailable`. Returns the exit status.
+/// Imports the list at the path `list` under this label, at this desk. Opens the list once. If the list opens, closes
+/// it in the state in which the last read left it. If the list cannot be opened or read, or an allocation for its
+/// bytes fails, prints `unavailable`. Returns the exit status.
 pub fn import_at<S: Alter, L: Lists, W: Write>(
     alloc: Global,
     desk: &mut Desk<S>,
@@ -50,9 +50,10 @@ pub fn import_at<S: Alter, L: Lists, W: Write>(
     }
 }
 
-/// Reads a list, passes it to the handler to be imported under this label, and prints the answer. Returns the exit status
-/// of the answer, or 3 if the output or an allocation for the answer's text fails; the command has been handled even then.
-/// If the list cannot be read, or an allocation for its bytes fails, prints `unavailable`, and the handler gets no command.
+/// Reads a list, lets the handler import it under this label, and prints the handler's answer. Returns the exit
+/// status of the answer. Returns 3 if the output or an allocation for the answer's text fails; the command has been
+/// handled even then. If the list cannot be read, or an allocation for its bytes fails, prints `unavailable`. Then
+/// the handler gets no command.
 pub fn import_list<H: Handler, R: Read, W: Write>(
     alloc: Global,
     handler: &mut H,
@@ -82,7 +83,7 @@ pub fn import_list<H: Handler, R: Read, W: Write>(
     }
 }
 
-/// Reads the bytes of a list to its end, but at most `LIST_LIMIT` of them.
+/// Reads the bytes of a list up to its end, but at most `LIST_LIMIT` of them.
 ///
 /// # Errors
 ///

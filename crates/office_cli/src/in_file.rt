@@ -22,8 +22,8 @@ use sqlite::{Alter, Connection};
 use std::alloc::Global;
 use std::io::Write;
 
-/// Makes an empty office in the file at this path, and prints `ok`, or why there is none. Returns the exit status.
-/// Opens the file once. If it opens, also closes it, in no transaction.
+/// Makes an empty office in the file at this path, and prints `ok`. If that fails, prints the reason. Returns the
+/// exit status. Opens the file once. If the file opens, closes it with no transaction open.
 pub fn make_in_file<B: Alter, F: Files<B> + Closes<Connection<B>>, W: Write>(
     alloc: Global,
     files: &mut F,
@@ -43,7 +43,8 @@ pub fn make_in_file<B: Alter, F: Files<B> + Closes<Connection<B>>, W: Write>(
 }
 
 /// Migrates the tables of the office in the file at this path from an earlier version to this program's, and prints
-/// `ok`, or why it cannot. Returns the exit status. Opens the file once. If it opens, also closes it, in no transaction.
+/// `ok`. If that fails, prints the reason. Returns the exit status. Opens the file once. If the file opens, closes it
+/// with no transaction open.
 pub fn migrate_in_file<B: Alter, F: Files<B> + Closes<Connection<B>>, W: Write>(
     alloc: Global,
     files: &mut F,
@@ -62,9 +63,9 @@ pub fn migrate_in_file<B: Alter, F: Files<B> + Closes<Connection<B>>, W: Write>(
     status
 }
 
-/// Performs the action at the desk of the office in the file at this path, or prints why there is no office. Returns
-/// the exit status. Opens the file once. If it opens, also closes it, in no transaction, in the state in which the action
-/// left it. If there is no office, opens no list and listens on no port.
+/// Performs the action at the desk of the office in the file at this path. If the file gives no desk, prints the
+/// reason, opens no list and listens on no port. Returns the exit status. Opens the file once. If the file opens,
+/// closes it in the state in which the action left it, with no transaction open.
 pub fn with_office<B: Alter, F: Files<B> + Closes<Connection<B>>, L: Lists, P: Ports, W: Write>(
     alloc: Global,
     files: &mut F,
@@ -116,7 +117,8 @@ pub enum Action<'a> {
     },
 }
 
-/// Performs the action at this desk. Returns the exit status. Only an import opens a list, and only serving listens on a port.
+/// Performs the action at this desk. Returns the exit status. Only an import opens a list, and only serving listens
+/// on a port.
 pub fn perform<S: Alter, L: Lists, P: Ports, W: Write>(
     alloc: Global,
     desk: &mut Desk<S>,

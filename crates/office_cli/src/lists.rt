@@ -1,4 +1,4 @@
-//! Where lists are stored.
+//! Stores of lists, from which the program imports.
 ghost use Rattle.std.specs.Prelude.{⊤};
 
 use office_store::Unavailable;
@@ -6,8 +6,8 @@ use room_types::Watched;
 use std::fs::File;
 use std::io::Read;
 
-/// A store of lists: opens a list by its path, and closes it. The contract of each call is a relation between the
-/// states of the store before and after it. Generic code can establish that relation only by making the call.
+/// A store of lists: opens a list by its path, and closes it. The contract of each method is a relation between the
+/// states of the store before and after the call. Generic code can establish this relation only by making the call.
 pub trait Lists {
     ghost use Rattle.std.specs.Prelude.{IfOk, OnErr, ⊤};
     ghost use Rattle.office_cli.specs.ListAccess.{IsUnread};
@@ -25,7 +25,7 @@ pub trait Lists {
     /// Closing this list led from the old state to the new one.
     ghost closes: { Self → Watched Self.List → Self → Type 0 } = { λ _ _ _. ⊤ };
 
-    /// Opens the list at this path. It is `Watched` from the start, and not yet read.
+    /// Opens the list at this path. The returned list is `Watched`, and no call has been made on it yet.
     ///
     /// # Errors
     ///
@@ -40,15 +40,15 @@ pub trait Lists {
         ensures { closes self.old list self.new };
 }
 
-/// The files of the system. The contracts do not say what they contain. Only this type holds the runtime, so code that
-/// is generic in the lists cannot reach other files.
+/// The files of the system, as a store of lists. The contracts do not say what the files contain. Code that is
+/// generic in `Lists` cannot reach other files, because only this type holds the runtime.
 #[derive(Drop)]
 pub struct SystemLists<'a> {
     rt: &'a HostRuntime,
 }
 
 impl<'a> SystemLists<'a> {
-    /// Returns the files of the system, with none open.
+    /// Returns the files of the system. None of them is open yet.
     pub fn new(rt: &'a HostRuntime) -> Self {
         SystemLists { rt }
     }

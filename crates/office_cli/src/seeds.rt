@@ -10,7 +10,8 @@ pub const SEED_BYTES: usize = 32;
 /// A seed of the generator.
 pub type Seed = [u8; SEED_BYTES];
 
-/// Parses a seed of exactly 64 hexadecimal digits of either case, two for each byte in order.
+/// Parses a seed, which is exactly 64 hexadecimal digits of either case. Each pair of digits gives one byte, in
+/// order. Returns `None` for any other text.
 pub fn parse_seed(text: &str) -> Option<Seed>
     ensures { result ≡ parse_seed text.now }
 {

@@ -55,16 +55,16 @@ pub enum Program<'a> {
     },
 }
 
-/// The greatest number of words that are printed.
+/// The greatest number of words that the subcommand `words` prints.
 pub const WORDS_LIMIT: u32 = 2000;
 
-/// The greatest port.
+/// The greatest port on which the subcommand `serve` listens.
 pub const PORT_LIMIT: u32 = 65_535;
 
-/// The greatest number of connections that are served.
+/// The greatest number of connections that the subcommand `serve` serves.
 pub const CONNECTION_COUNT_LIMIT: u32 = 1_000_000;
 
-/// Returns the command by which `clap` parses the program's arguments. Fails only if an allocation does.
+/// Returns the command with which `clap` parses the program's arguments. Fails only if an allocation fails.
 pub fn rooms_command<'a>(alloc: Global) -> Result<Command<'a>, AllocError>
     ensures { IfOk result (λ command. app_of command ≡ usage) }
 {
@@ -101,14 +101,14 @@ fn with_command<'a>(command: Command<'a>, added: Command<'a>) -> Result<Command<
     command.subcommand(added)
 }
 
-// `new --db FILE`.
+// Returns the command `new --db FILE`.
 fn new_command<'a>(alloc: Global) -> Result<Command<'a>, AllocError>
     ensures { IfOk result (IsCommand new_usage) }
 {
     Command::new(alloc, "new").arg(option(alloc, "db"))
 }
 
-// `do --db FILE WORD..`, with one or more words.
+// Returns the command `do --db FILE WORD..`, with one or more words.
 fn do_command<'a>(alloc: Global) -> Result<Command<'a>, AllocError>
     ensures { IfOk result (IsCommand do_usage) }
 {
@@ -120,7 +120,7 @@ fn do_command<'a>(alloc: Global) -> Result<Command<'a>, AllocError>
         .arg(words)
 }
 
-// `words --seed HEX --count N`.
+// Returns the command `words --seed HEX --count N`.
 fn words_command<'a>(alloc: Global) -> Result<Command<'a>, AllocError>
     ensures { IfOk result (IsCommand words_usage) }
 {
@@ -129,7 +129,7 @@ fn words_command<'a>(alloc: Global) -> Result<Command<'a>, AllocError>
         .arg(number(alloc, "count", 0, WORDS_LIMIT))
 }
 
-// `import --db FILE KIND LABEL PATH`.
+// Returns the command `import --db FILE KIND LABEL PATH`.
 fn import_command<'a>(alloc: Global) -> Result<Command<'a>, AllocError>
     ensures { IfOk result (IsCommand import_usage) }
 {
@@ -140,7 +140,7 @@ fn import_command<'a>(alloc: Global) -> Result<Command<'a>, AllocError>
         .arg(operand(alloc, "path"))
 }
 
-// `export --db FILE KIND`.
+// Returns the command `export --db FILE KIND`.
 fn export_command<'a>(alloc: Global) -> Result<Command<'a>, AllocError>
     ensures { IfOk result (IsCommand export_usage) }
 {
@@ -149,7 +149,7 @@ fn export_command<'a>(alloc: Global) -> Result<Command<'a>, AllocError>
         .arg(operand(alloc, "kind"))
 }
 
-// One positional argument, required.
+// Returns one required positional argument.
 fn operand<'a>(alloc: Global, name: &'a str) -> Arg<'a>
     ensures rule { rule_of result ≡ operand_rule name.entry.now }
     ensures local { result.global ≡ false }
@@ -157,7 +157,7 @@ fn operand<'a>(alloc: Global, name: &'a str) -> Arg<'a>
     Arg::new(alloc, name).action(ArgAction::Set).required(true)
 }
 
-// `serve --db FILE --port N --count K`.
+// Returns the command `serve --db FILE --port N --count K`.
 fn serve_command<'a>(alloc: Global) -> Result<Command<'a>, AllocError>
     ensures { IfOk result (IsCommand serve_usage) }
 {
@@ -167,14 +167,14 @@ fn serve_command<'a>(alloc: Global) -> Result<Command<'a>, AllocError>
         .arg(number(alloc, "count", 1, CONNECTION_COUNT_LIMIT))
 }
 
-// `migrate --db FILE`.
+// Returns the command `migrate --db FILE`.
 fn migrate_command<'a>(alloc: Global) -> Result<Command<'a>, AllocError>
     ensures { IfOk result (IsCommand migrate_usage) }
 {
     Command::new(alloc, "migrate").arg(option(alloc, "db"))
 }
 
-// `--name VALUE`, required.
+// Returns the required option `--name VALUE`.
 fn option<'a>(alloc: Global, name: &'a str) -> Arg<'a>
     ensures rule { rule_of result ≡ option_rule name.entry.now }
     ensures local { result.global ≡ false }
@@ -185,7 +185,7 @@ fn option<'a>(alloc: Global, name: &'a str) -> Arg<'a>
         .required(true)
 }
 
-// `--name N`, a number from `least` to `most`, required.
+// Returns the required option `--name N`, where `N` is a number from `least` to `most`.
 fn number<'a>(alloc: Global, name: &'a str, least: u32, most: u32) -> Arg<'a>
     ensures rule { rule_of result ≡ number_rule least most name.entry.now }
     ensures local { result.global ≡ false }
@@ -194,7 +194,7 @@ fn number<'a>(alloc: Global, name: &'a str, least: u32, most: u32) -> Arg<'a>
     option(alloc, name).value_parser(clap::value_parser!(u32).range(numbers))
 }
 
-// Returns the program without its subcommands. One subcommand is required, and there is no help.
+// Returns the command of the program without its subcommands. It requires one subcommand and offers no help.
 fn plain_command<'a>(alloc: Global) -> Command<'a>
     ensures { IsCommand plain_usage result }
 {

@@ -1,4 +1,4 @@
-//! The words of a draw, as they are printed.
+//! Builds the text in which the program prints the words of a draw.
 ghost use Rattle.std.specs.Prelude.{◌≡◌, ◌<◌, IfOk, OnErr, length, string_bytes};
 ghost use Rattle.std.specs.List.{flat_map};
 ghost use Rattle.office_cli.specs.WordLines.{words_of_seed, word_line, words_text};
@@ -10,7 +10,8 @@ use rand_core::SeedableRng;
 use room_types::{OutOfMemory, Word};
 use std::alloc::Global;
 
-/// Returns the first `count` words of the generator with this seed, one on each line. Never fails if `count` is 0.
+/// Returns the first `count` words of the generator with this seed, one on each line. Fails if an allocation fails,
+/// which needs a `count` above 0.
 pub fn words_text(alloc: Global, seed: Seed, count: usize) -> Result<String, OutOfMemory>
     ensures text { IfOk result (λ text. string_bytes text ≡ words_text seed count) }
     ensures memory { OnErr result (0 < count) }

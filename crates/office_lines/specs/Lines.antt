@@ -6,7 +6,7 @@ use Rattle.std.specs.List.{slice_split}
 abbrev pub is_line_end : ℕ → Bool
 is_line_end byte = byte == 10
 
--- the parts between line feeds; the last part is not ended by one
+-- the parts between line feeds; no line feed follows the last part
 abbrev pub parts_of : List ℕ → List (List ℕ)
 parts_of bytes = slice_split is_line_end bytes
 
@@ -16,7 +16,7 @@ init [] = []
 init (part ∷ []) = []
 init (part ∷ next ∷ more) = part ∷ init (next ∷ more)
 
--- the last element, or the empty one of an empty list
+-- the last part, or no bytes if there is no part
 abbrev pub last : List (List ℕ) → List ℕ
 last [] = []
 last (part ∷ []) = part
@@ -30,20 +30,20 @@ ended_lines bytes = init (parts_of bytes)
 abbrev pub last_part : List ℕ → List ℕ
 last_part bytes = last (parts_of bytes)
 
--- the line that the end of the input ends, if it is not empty
+-- the line that ends at the end of the input, without a line feed; no line if there are no bytes
 abbrev pub unended : List ℕ → List (List ℕ)
 unended [] = []
 unended (byte ∷ bytes) = (byte ∷ bytes) ∷ []
 
--- all lines: each ends at a line feed or, the last one, at the end of the input
+-- all lines: each ends at a line feed, but the last line may end at the end of the input
 abbrev pub lines_of : List ℕ → List (List ℕ)
 lines_of bytes = ended_lines bytes ++ unended (last_part bytes)
 
--- the longest line that is handled, in bytes without its line feed
+-- the greatest length of a line, in bytes without the line feed
 abbrev pub line_limit : ℕ
 line_limit = 65536
 
--- the line is within the limit
+-- the line has at most `line_limit` bytes
 abbrev pub is_short : List ℕ → Bool
 is_short line = nat_le (length line) line_limit
 
@@ -51,6 +51,6 @@ is_short line = nat_le (length line) line_limit
 abbrev pub chunk_limit : ℕ
 chunk_limit = 4096
 
--- the greatest number of reads
+-- the greatest number of times that a rehearsal reads from its input
 abbrev pub read_limit : ℕ
 read_limit = 1048576

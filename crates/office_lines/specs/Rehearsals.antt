@@ -13,17 +13,18 @@ use Rattle.office_lines.specs.Lines.{is_short, line_limit, chunk_limit, read_lim
 use Rattle.room_types.specs.Streams.{Input, Output, Puts}
 use Rattle.office_lines.specs.Runs.{Run, texts_of, last_is_made, greatest_status}
 
--- Which allocation failed, given the bytes handled, their lines, the responses, and the number of bytes written. Either it
--- was for the text of the last response, which is allocated and not empty, and no byte of that text was written. Or it was
--- for an unfinished line within the limit, after all responses were written completely.
+-- Which allocation failed. `handled` has the handled bytes, `lines` their lines, `answers` the responses, and `sent`
+-- is the number of bytes written. There are two cases. In the first, the text of the last response is not constant
+-- and not empty, its allocation failed, and no byte of it was written. In the second, all responses were written
+-- completely, and the allocation for an unfinished line within the limit failed.
 abbrev pub NeedsMemory : List ℕ → List (List ℕ) → List Response → ℕ → Type 0
 NeedsMemory handled lines answers sent =
     ((sent ≡ length (texts_of (init answers))) × (sent < length (texts_of answers)) × (last_is_made answers ≡ true))
     ⊎ ((sent ≡ length (texts_of answers)) × (lines ≡ ended_lines handled) × (0 < length (last_part handled)) × (length (last_part handled) ≤ line_limit))
 
 module _ {H : Type 0} (handles : H → Request → Answer → H → Type 0) where
-  -- The whole input was handled: each line got its response in turn, all texts were written, and one flush followed, so no
-  -- byte is pending. No read, write or flush failed. There was at most one more read than bytes.
+  -- The whole input was handled: each line got its response in turn, all texts were written, and one flush followed,
+  -- so no byte is pending. No read, write or flush failed. The number of reads is at most the number of bytes plus 1.
   pub record WholeInput (old new : H) (input input' : Input) (output output' : Output) (status : ℕ) : Type 0 where
     pub bytes : List ℕ
     pub answers : List Response
@@ -39,11 +40,12 @@ module _ {H : Type 0} (handles : H → Request → Answer → H → Type 0) wher
     pub no_write_failed : output'.failed ≡ false
     pub greatest : status ≡ greatest_status answers
 
-  -- All bytes read were handled, except fewer than one chunk at the end (`ahead`). Their lines got responses, of whose
-  -- texts the first `sent` bytes were written, and every text but the last completely. No handled line is too long. A line
-  -- ends at its line feed; the last one may also end at the end of the input, if that was reached and every byte was
-  -- handled. There was at most one more read than bytes. Nothing was flushed, except once if the end of the input was
-  -- reached and all texts were written.
+  -- What was done when a write fault or a failed allocation ended a rehearsal. The bytes `handled` were read and
+  -- handled. The bytes `ahead`, fewer than one chunk, were read but not handled. Each handled line got a response,
+  -- and none of these lines is too long. The first `sent` bytes of the responses' texts were written; only the last
+  -- text may be incomplete. A line ends at its line feed. If the input was read and handled to its end, the last line
+  -- may end there instead. The number of reads is at most the number of bytes plus 1. One flush may have followed if
+  -- all lines of the whole input were handled and all texts were written; otherwise nothing was flushed.
   pub record PartOfInput (old new : H) (input input' : Input) (output output' : Output) (sent : ℕ) : Type 0 where
     pub handled : List ℕ
     pub ahead : List ℕ
@@ -63,10 +65,12 @@ module _ {H : Type 0} (handles : H → Request → Answer → H → Type 0) wher
         ⊎ (IsAtEnd input'.remaining × (ahead ≡ []) × (lines ≡ lines_of handled) × (sent ≡ length (texts_of answers))
         × (output'.flushes ≡ counted output.flushes 1))
 
-  -- The lines ended before a fault, none of them too long, got responses, and all their texts were written. Then either
-  -- a byte made a line too long, no read had failed, and fewer than one chunk of bytes was left unhandled. Or all bytes
-  -- read were handled, the unfinished line is within the limit, and a read failed or the number of reads reached
-  -- `read_limit`, and so did the number of bytes. There was at most one more read than bytes. Nothing was flushed.
+  -- Reading stopped at a fault. Each line that ended before the fault got a response, and all texts were written.
+  -- None of these lines is too long. The fault has one of two causes. Either a byte made the unfinished line too
+  -- long; then no read had failed, and fewer than one chunk of bytes was left unhandled. Or all bytes read were
+  -- handled, and the unfinished line is within the limit. In this case a read failed, or the reads and the handled
+  -- bytes both number `read_limit` or more. The number of reads is at most the number of bytes plus 1. Nothing was
+  -- flushed.
   pub record WholeLines (old new : H) (input input' : Input) (output output' : Output) : Type 0 where
     pub handled : List ℕ
     pub unhandled : List ℕ
@@ -83,8 +87,9 @@ module _ {H : Type 0} (handles : H → Request → Answer → H → Type 0) wher
         ⊎ ((unhandled ≡ []) × (length (last_part handled) ≤ line_limit) × ((input'.failed ≡ true)
         ⊎ ((read_limit ≤ input'.reads) × (read_limit ≤ length handled))))
 
-  -- What a rehearsal did, by its ending. The writer has failed exactly if the ending is `WriteFault`. A read has failed
-  -- only if the ending is `ReadFault`. The ending is `NoMemory` only after one of the allocations of `NeedsMemory`.
+  -- What a rehearsal did, by its ending. The writer has failed exactly if the ending is `WriteFault`. A read has
+  -- failed only if the ending is `ReadFault`. The ending is `NoMemory` only if an allocation failed as `NeedsMemory`
+  -- describes.
   abbrev pub Rehearses : Ending → ℕ → H → H → Input → Input → Output → Output → Type 0
   Rehearses Ended status old new input input' output output' = WholeInput old new input input' output output' status
   Rehearses ReadFault status old new input input' output output' =

@@ -1,4 +1,4 @@
--- Handling a text as a single line, and words joined to one.
+-- What handling a single line does. The line is given as a text or as words to join.
 use Rattle.std.specs.Prelude.{◌≡◌, ℕ, Bool, ◌<◌, ◌⊎◌, true, false, List, length}
 use Rattle.std.specs.List.{list_any}
 use Rattle.office_store.specs.declared.requests.Answer.{Answer}
@@ -13,8 +13,8 @@ use Rattle.office_lines.specs.parse.Values.{joined}
 use Rattle.room_types.specs.Streams.{Output}
 use Rattle.room_types.specs.Texts.{Text}
 
--- The response is printed with its exit status. Or an allocation for its text, which is not empty, fails: then nothing is
--- written, and the status is 3.
+-- Either the text of the response is printed with the response's exit status, as `Prints` describes. Or an allocation
+-- for the text fails. Then the text is neither constant nor empty, nothing is written, and the status is 3.
 abbrev pub PrintsResponse : Response → ℕ → Output → Output → Type 0
 PrintsResponse response status out out' =
     Prints (text_of response) (exit_status response) status out out'
@@ -25,16 +25,17 @@ abbrev pub has_newline : Text → Bool
 has_newline text = list_any is_line_end text
 
 module _ {H : Type 0} (handles : H → Request → Answer → H → Type 0) where
-  -- The line is handled as in a rehearsal, whether or not its response can be written. A text with a line feed is not
-  -- understood. A line that is too long is not handled and gets no response; the status is 3, as in a rehearsal.
+  -- A line within the limit is handled as in a rehearsal, whether or not its response can be written. For a text with
+  -- a line feed, nothing is handled and `not understood` is printed. For a line that is too long, nothing is handled
+  -- or printed, and the status is 3.
   abbrev pub DoesText : H → Text → ℕ → H → Output → Output → Type 0
   DoesText old text status new out out' =
       ((has_newline text ≡ false) × (is_short text ≡ true) × (response : Response) × Step handles old text response new × PrintsResponse response status out out')
       ⊎ ((has_newline text ≡ true) × (new ≡ old) × Prints (text_of NotUnderstood) 2 status out out')
       ⊎ ((has_newline text ≡ false) × (is_short text ≡ false) × (new ≡ old) × (status ≡ 3) × (out' ≡ out))
 
-  -- The words are joined by single spaces and handled as a line. Or joining runs out of memory, which needs two words or
-  -- more; then nothing is handled.
+  -- Either the words are joined by single spaces and handled as a line. Or the allocation for joining two or more
+  -- words fails; then nothing is handled, and `unavailable` is printed.
   abbrev pub DoesWords : H → List Text → ℕ → H → Output → Output → Type 0
   DoesWords old words status new out out' =
       DoesText old (joined words) status new out out'

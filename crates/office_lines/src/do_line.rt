@@ -1,4 +1,4 @@
-//! A single line from the program's arguments, handled like a line of a rehearsal.
+//! Handles a single line from the program's arguments like a line of a rehearsal.
 ghost use Rattle.std.specs.Prelude.{◌≡◌, map};
 ghost use Rattle.room_types.specs.Streams.{output_of};
 ghost use Rattle.room_types.specs.Watched.{IsFresh, StopsAtFailure};
@@ -14,8 +14,8 @@ use room_types::Watched;
 use std::alloc::Global;
 use std::io::Write;
 
-/// Handles the words, joined by single spaces, as one line, and prints its response. Returns the exit status. Joining
-/// two or more words allocates; if the allocation fails, prints `unavailable` and handles nothing.
+/// Joins the words with single spaces, handles the result as one line, and prints the response. Returns the exit
+/// status. Joining two or more words allocates. If this allocation fails, prints `unavailable` and handles no line.
 pub fn do_words<H: Handler, W: Write>(
     alloc: Global,
     handler: &mut H,
@@ -39,9 +39,11 @@ pub fn do_words<H: Handler, W: Write>(
     }
 }
 
-/// Handles one line and prints its response. Returns the exit status of the response, or 3 if the output or an allocation
-/// for the text fails; the request has been handled even then. A text with a line feed is not understood. A line longer
-/// than `LINE_LIMIT` is not handled and prints nothing; the status is 3.
+/// Handles one line and prints its response. Returns the exit status of the response. Returns 3 instead if the output
+/// fails or an allocation for the response's text fails; the request has been handled even then.
+///
+/// If `line` contains a line feed, prints `not understood` and handles nothing. If `line` is longer than
+/// `LINE_LIMIT`, handles and prints nothing and returns 3.
 pub fn do_line<H: Handler, W: Write>(
     alloc: Global,
     handler: &mut H,
@@ -72,7 +74,8 @@ fn has_newline(text: &[u8]) -> bool
     text.iter().any(|byte| *byte == b'\n')
 }
 
-/// Writes the response and flushes. Returns its exit status, or 3 if the output or an allocation for the text fails.
+/// Writes the text of the response and flushes. Returns the response's exit status, or 3 if the output or an
+/// allocation for the text fails.
 pub fn print_response<W: Write>(alloc: Global, response: &Response, output: &mut Watched<W>) -> u8
     requires ascending { ResponseAscends response.now }
     requires fresh { IsFresh output.old }

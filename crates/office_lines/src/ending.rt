@@ -16,7 +16,8 @@ pub enum Ending {
 /// The exit status of a rehearsal, and how it ended.
 #[derive(Clone, Copy, Debug, PartialEq, Eq)]
 pub struct Rehearsed {
-    /// The greatest status of the lines, or 0 without lines, if the ending is `Ended`; otherwise 3.
+    /// 3 unless the ending is `Ended`. For `Ended`, the greatest exit status of the lines, or 0 if there are no
+    /// lines.
     pub status: u8,
     pub ending: Ending,
 }

@@ -1,4 +1,4 @@
-//! Lines of requests: each is parsed, handled by any `Handler`, and its response is printed.
+//! Parses lines of requests, passes each request to a `Handler`, and prints the responses.
 #![tactic(auto)]
 
 pub mod do_line;

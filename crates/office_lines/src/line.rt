@@ -1,4 +1,4 @@
-//! One line: parses it, and passes its request to the handler.
+//! Parses one line and passes its request to a handler.
 ghost use Rattle.std.specs.Prelude.{◌≡◌, ◌&&◌, IfOk, OnErr, false, map, true};
 ghost use Rattle.std.specs.Str.{is_utf8};
 ghost use Rattle.std.specs.Str.Lines.{strip_carriage_return};
@@ -14,8 +14,8 @@ use office_store::{Answer, Handler, Request};
 use room_types::OutOfMemory;
 use std::alloc::{AllocError, Global};
 
-/// Parses a line, passes its request, if any, to the handler, and returns the response. If parsing runs out of memory, the
-/// response is `Unavailable`, and the handler is not called.
+/// Parses a line and passes its request, if any, to the handler. Returns the response. If parsing runs out of memory,
+/// the response is `Unavailable`, and the handler is not called.
 pub fn handle_line<H: Handler>(alloc: Global, handler: &mut H, line: &[u8]) -> Response
     requires { H.is_ready handler.old }
     ensures step { Step H.handles handler.old line.now result handler.new }
@@ -37,15 +37,15 @@ pub enum ParsedLine {
     Ignored,
     /// The line is a request.
     Valid(Request),
-    /// The line is none of these: it is not UTF-8, or its words are not a request.
+    /// Any other line: the line is not UTF-8, or its words are not a request.
     Invalid,
 }
 
-/// Parses a line. Drops one carriage return at its end.
+/// Parses a line. Ignores one carriage return at the end of the line.
 ///
 /// # Errors
 ///
-/// `OutOfMemory`, only if the line is UTF-8 and its first word is that of a request.
+/// `OutOfMemory` if an allocation fails. This happens only if the line is UTF-8 and its first word names a request.
 #[tactic(auto, unfolding(crate::specs::parse::Parsing::parsed_line, crate::specs::parse::Parsing::begins_request))]
 pub fn parse_line(alloc: Global, line: &[u8]) -> Result<ParsedLine, OutOfMemory>
     ensures meaning { IfOk result (λ parsed. parsed ≡ parsed_line line.now) }
@@ -68,7 +68,7 @@ fn strip_carriage_return(line: &[u8]) -> &[u8]
     line
 }
 
-// Parses a line that is no comment, without the carriage return at its end.
+// Parses a line that is no comment. The caller has dropped the carriage return at its end.
 #[tactic(auto, unfolding(crate::specs::parse::Parsing::parsed_text))]
 fn parse_text(alloc: Global, text: &[u8]) -> Result<ParsedLine, OutOfMemory>
     ensures meaning { IfOk result (λ parsed. parsed ≡ parsed_text text.now) }
@@ -103,7 +103,7 @@ fn parse_request(alloc: Global, text: &str) -> Result<ParsedLine, OutOfMemory>
     parse_words(alloc, &words)
 }
 
-// Returns whether the first word is that of a request.
+// Returns whether the first word names a request.
 fn names_request(text: &str) -> bool
     ensures { result ≡ names_request (words_of text.now) }
 {

@@ -1,4 +1,4 @@
-//! A rehearsal: handles lines from a reader and writes the responses.
+//! Runs a rehearsal, which handles lines from a reader and writes the responses.
 ghost use Rattle.std.specs.Prelude.{◌≡◌, ◌+◌, ◌^◌, ◌≤◌, length, OnOk, IfErr};
 ghost use Rattle.std.specs.Io.KnownBytes.{IsAtEnd};
 ghost use Rattle.room_types.specs.Streams.{input_of, output_of};
@@ -17,10 +17,12 @@ use room_types::Watched;
 use std::alloc::Global;
 use std::io::{Read, Write};
 
-/// Handles each line of the input and writes the responses. Flushes the output at the end of the input. Requests that
-/// were handled take effect whatever the ending. Besides what the handler allocates, it allocates only for one line,
-/// its request and its response. It handles all lines of a chunk before it reads the next. It does not use the input or
-/// the output again after a failure, nor the input after its end.
+/// Handles each line of the input and writes the responses. Flushes the output at the end of the input. Handled
+/// requests take effect whatever the ending is.
+///
+/// The handler may allocate. Apart from the handler, `rehearse` allocates only for one line, its request and its
+/// response. `rehearse` handles all lines of a chunk before it reads the next chunk. After a failure it uses neither
+/// the input nor the output. After the end of the input it reads no more.
 pub fn rehearse<H: Handler, R: Read, W: Write>(
     alloc: Global,
     handler: &mut H,
@@ -57,7 +59,8 @@ pub fn rehearse<H: Handler, R: Read, W: Write>(
     }
 }
 
-// Handles the input up to its end.
+// Reads the input to its end, and handles each line that ends with a line feed. Fails with `ReadFault` if a read
+// fails or if `READ_LIMIT` reads do not reach the end of the input.
 fn handle_input<H: Handler, R: Read, W: Write>(
     alloc: Global,
     handler: &mut H,

@@ -1,4 +1,4 @@
-//! The text that is printed for a response to a line, and the status of the line.
+//! Turns the response to a line into the text to print and the exit status.
 
 pub mod order_lines;
 pub mod refusals;

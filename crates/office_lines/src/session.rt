@@ -1,4 +1,4 @@
-//! The state of a rehearsal between two bytes of its input.
+//! Handles the input of a rehearsal byte by byte, and keeps the state between two bytes.
 ghost use Rattle.std.specs.Prelude.{◌≤◌, vec_len};
 ghost use Rattle.office_lines.specs.Lines.{line_limit};
 
@@ -6,13 +6,14 @@ use crate::ending::Ending;
 use crate::limits::LINE_LIMIT;
 use crate::line::handle_line;
 use crate::render::{exit_status, text_of};
+use office_lists::send::send;
 use office_store::Handler;
 use room_types::Watched;
-use room_types::send::send;
 use std::alloc::Global;
 use std::io::Write;
 
-/// The unfinished line, the number of bytes written, and the greatest exit status so far.
+/// The state of a rehearsal between two bytes of its input: the unfinished line, the number of bytes written, and the
+/// greatest exit status so far.
 #[derive(Drop)]
 pub struct Session {
     pub partial_line: Vec<u8>,
@@ -27,7 +28,7 @@ impl Session {
     ghost use Rattle.room_types.specs.Watched.{watched_failed, watched_flushes, watched_pending, counted, StopsAtFailure};
     ghost use Rattle.office_lines.specs.Inner.Sessions.{Answered, Broken, Finished, Handled, Halted, OnlyWhereFailed, Unfinished, state};
 
-    /// Creates the session before any input.
+    /// Creates a session that has taken no input.
     pub fn new(alloc: Global) -> Self
         ensures line { result.partial_line.items ≡ [] }
         ensures sent { result.sent ≡ 0 }
@@ -40,7 +41,11 @@ impl Session {
         }
     }
 
-    /// Handles the line that has been read, writes its response, and clears the line.
+    /// Handles the line in `partial_line`, writes its response, and empties `partial_line`.
+    ///
+    /// # Errors
+    ///
+    /// `WriteFault` if a write fails, and `NoMemory` if an allocation for the response's text fails.
     pub fn answer_line<H: Handler, W: Write>(
         &mut self,
         alloc: Global,
@@ -78,7 +83,13 @@ impl Session {
         }
     }
 
-    /// Takes one byte of input. A line feed ends a line, which is then handled.
+    /// Takes one byte of input. A line feed ends the unfinished line, which is then handled by `answer_line`. Any
+    /// other byte is appended to the unfinished line.
+    ///
+    /// # Errors
+    ///
+    /// `ReadFault` if the byte would make the line longer than `LINE_LIMIT`, `NoMemory` if an allocation fails, and
+    /// `WriteFault` if a write fails.
     pub fn take_byte<H: Handler, W: Write>(
         &mut self,
         alloc: Global,
@@ -112,7 +123,8 @@ impl Session {
         }
     }
 
-    /// Takes a chunk of input: handles each line that ends in it, and keeps the rest as the unfinished line.
+    /// Takes a chunk of input. Handles each line that ends in the chunk, and keeps the bytes after the last line feed
+    /// as the unfinished line. Stops at the first error of `take_byte`.
     pub fn take_chunk<H: Handler, W: Write>(
         &mut self,
         alloc: Global,
@@ -140,7 +152,7 @@ impl Session {
         Ok(())
     }
 
-    // Handles the last line, which no line feed ended, unless it is empty.
+    // Handles the unfinished line at the end of the input, unless the line is empty.
     fn answer_rest<H: Handler, W: Write>(
         &mut self,
         alloc: Global,
@@ -166,7 +178,11 @@ impl Session {
         self.answer_line(alloc, handler, output)
     }
 
-    /// Handles the last line, which no line feed ended, unless it is empty. Then flushes the output.
+    /// Handles the unfinished line at the end of the input, unless the line is empty. Then flushes the output.
+    ///
+    /// # Errors
+    ///
+    /// `WriteFault` if a write or the flush fails, and `NoMemory` if an allocation for the response's text fails.
     pub fn finish<H: Handler, W: Write>(
         &mut self,
         alloc: Global,

@@ -1,4 +1,4 @@
--- The kinds of lists.
+-- The kinds of imported lists, and the entry that a record of each kind makes.
 use Rattle.std.specs.Prelude.{ℕ, Bool, true, ◌&&◌, is_none, is_some, eqb, List, [], ◌∷◌, codes, Option, Some, None, unwrap_or}
 use Rattle.std.specs.List.{list_all, slice_split}
 use Rattle.std.specs.Option.{option_map_or}
@@ -11,11 +11,11 @@ use Rattle.office_lists.specs.Records.{ListForm, field}
 use Rattle.office_lists.specs.declared.entries.PersonEntry.{PersonEntry}
 use Rattle.office_lists.specs.declared.entries.ChoicesEntry.{ChoicesEntry}
 
--- lists of rooms: a room in each record
+-- lists of rooms: each data record has a room code
 abbrev pub room_list : ListForm Text
 room_list = record { header = codes "room" ∷ []; grammars = is_room_code ∷ []; entry = field 0 }
 
--- the value of a field that may be empty
+-- the value of a field that may be empty: none if the field is empty, otherwise its text
 abbrev pub optional : Text → Option Text
 optional [] = None
 optional (byte ∷ rest) = Some (byte ∷ rest)
@@ -31,7 +31,7 @@ person_entry fields = record {
   home = optional (field 3 fields);
 }
 
--- lists of people: a person in each record, whose home may be empty
+-- lists of people: each data record has a person's identifier, name, key and home; the home may be empty
 abbrev pub people_list : ListForm PersonEntry
 people_list = record {
   header = codes "person" ∷ codes "name" ∷ codes "key" ∷ codes "home" ∷ [];
@@ -42,19 +42,19 @@ people_list = record {
 abbrev pub is_space : ℕ → Bool
 is_space byte = eqb byte 32
 
--- the codes of a field, which is split at each space; an empty field has none
+-- splits a field at each space into room codes; an empty field has no codes
 abbrev pub codes_in : Text → List Text
 codes_in [] = []
 codes_in (byte ∷ rest) = slice_split is_space (byte ∷ rest)
 
--- room codes, at most `choice_limit` of them and none twice
+-- whether the field is a list of at most `choice_limit` room codes in which no code occurs twice
 abbrev pub is_choices : Text → Bool
 is_choices text = list_all is_room_code (codes_in text) && is_none (choices_fault (codes_in text))
 
 abbrev pub choices_entry : List Text → ChoicesEntry
 choices_entry fields = record { person = field 0 fields; choices = codes_in (field 1 fields) }
 
--- lists of choices: a person's preference list in each record
+-- lists of choices: each data record has a person's identifier and preference list
 abbrev pub choices_list : ListForm ChoicesEntry
 choices_list = record {
   header = codes "person" ∷ codes "choices" ∷ [];
@@ -62,7 +62,7 @@ choices_list = record {
   entry = choices_entry;
 }
 
--- one decimal digit
+-- whether the text is a grade, which is one decimal digit
 abbrev pub is_grade : Text → Bool
 is_grade text = is_some (grade_of text)
 
@@ -73,7 +73,7 @@ grade_in text = unwrap_or (grade_of text) 0
 abbrev pub grade_entry : List Text → GradeRow
 grade_entry fields = record { person = field 0 fields; grade = grade_in (field 1 fields) }
 
--- lists of grades: a person's grade in each record
+-- lists of grades: each data record has a person's identifier and grade
 abbrev pub grades_list : ListForm GradeRow
 grades_list = record {
   header = codes "person" ∷ codes "grade" ∷ [];

@@ -18,8 +18,8 @@ use Rattle.office_lists.specs.Records.{Record, records_of}
 use Rattle.office_lists.specs.declared.exports.ExportKind.{ExportKind}
 use Rattle.office_lists.specs.declared.exports.ExportKind.TheVariants.{Rooms, People, Moves, Grades}
 
--- the bytes of a record, as `csv` writes it by default: commas between the fields, quotes around a field that needs them,
--- quotes inside doubled, and a line feed at the end
+-- The bytes of a record, as `csv` writes it by default. Commas separate the fields, and a line feed ends the record.
+-- Quotes enclose a field that needs them; quotes within such a field are doubled.
 unfoldable pub record_bytes : Record → List ℕ
 record_bytes = row_text default_writer
 
@@ -34,7 +34,7 @@ header_of People = codes "person" ∷ codes "name" ∷ codes "home" ∷ []
 header_of Moves = codes "round" ∷ codes "wave" ∷ codes "person" ∷ codes "from" ∷ codes "to" ∷ []
 header_of Grades = codes "person" ∷ codes "grade" ∷ []
 
--- the text, or an empty field
+-- the text, or an empty field if there is no text
 abbrev pub field_or_empty : Option Text → Text
 field_or_empty text = unwrap_or text []
 
@@ -67,11 +67,11 @@ moves_export = export Moves move_fields
 abbrev pub grades_export : List GradeRow → List Record
 grades_export = export Grades grade_fields
 
--- the order by round, and by identifier within a round
+-- the order of moves: by round, and within a round by the person's identifier
 abbrev pub by_round : Move → Move → Ordering
 by_round = then_cmp (on (λ move. move.round) nat_cmp) (on (λ move. move.person) text_cmp)
 
--- the moves strictly ascend by round, and by identifier within a round
+-- the moves strictly ascend in the order `by_round`
 abbrev pub AscendByRound : List Move → Type 0
 AscendByRound = IsStrictlySortedBy by_round
 
@@ -79,7 +79,7 @@ AscendByRound = IsStrictlySortedBy by_round
 abbrev pub IsReadBack : List Record → Type 0
 IsReadBack records = records_of (export_bytes records) ≡ records
 
--- each kind of export is read back
+-- for each kind of export, reading the bytes of an export gives back its records
 pub record AreReadBack : Type 0 where
   pub rooms : (rows : List RoomRow) → IsReadBack (rooms_export rows)
   pub people : (rows : List PersonRow) → IsReadBack (people_export rows)

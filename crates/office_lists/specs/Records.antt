@@ -11,15 +11,15 @@ use Rattle.office_lists.specs.declared.fault.Cause.TheVariants.{Header, NotText,
 use Rattle.office_lists.specs.declared.fault.ListFault.{ListFault}
 use Rattle.office_lists.specs.declared.fault.ListFault.TheVariants as list
 
--- a record: its fields, each as its bytes
+-- a record: the bytes of each field
 abbrev pub Record : Type 0
 Record = List Text
 
--- the records of a list, as `csv` reads them by default, after a byte order mark at the start is dropped
+-- the records of a list, as `csv` reads them by default; a byte order mark at the start is dropped first
 unfoldable pub records_of : List ℕ → List Record
 records_of bytes = records default_config (strip_bom bytes)
 
--- the field at an index, or no bytes if there is none
+-- the field at index `at`, or no bytes if the record has no such field
 abbrev pub field : ℕ → Record → Text
 field at fields = unwrap_or (field_at fields at) []
 
@@ -36,15 +36,15 @@ pub record ListForm (X : Type 0) : Type 0 where
   pub grammars : List (Text → Bool)
   pub entry : Record → X
 
--- the number, from 1, of the first field outside its grammar. The first of these grammars is that of the field at index
--- `before`.
+-- The number, counted from 1, of the first field outside its grammar. The check starts at index `before`: the first
+-- grammar is for that field.
 abbrev pub first_outside : ℕ → List (Text → Bool) → Record → Option ℕ
 first_outside before [] fields = None
 first_outside before (grammar ∷ grammars) fields =
     if grammar (field before fields) then first_outside (suc before) grammars fields
     else Some (suc before)
 
--- what is wrong with the fields of a record that has as many of them as the header
+-- what is wrong with the fields of a record, if the record has as many fields as the header
 abbrev pub field_cause : {X : Type 0} → ListForm X → Record → Option Cause
 field_cause form fields = option_map (λ number. BadField number) (first_outside 0 form.grammars fields)
 
@@ -55,18 +55,18 @@ cause_of form fields =
     else if not (list_all is_utf8 fields) then Some NotText
     else field_cause form fields
 
--- how many data records a list may have at most
+-- the largest number of data records that a list may have
 abbrev pub record_limit : ℕ
 record_limit = 10000
 
--- the first bad record among these data records, which are numbered from `at`
+-- the fault of the first bad record among these data records; the first of them is record `at`
 unfoldable pub first_bad : (Record → Option Cause) → ℕ → List Record → Option ListFault
 first_bad cause at [] = None
 first_bad cause at (fields ∷ rest) =
     if nat_lt record_limit at then Some (list.Bad at TooMany)
     else option_map_or (λ why. Some (list.Bad at why)) (cause fields) (first_bad cause (at + 1) rest)
 
--- the first bad record of a list; the header is record 0
+-- the fault of the first bad record of a list, if any; the header is record 0
 abbrev pub list_fault : {X : Type 0} → ListForm X → List Record → Option ListFault
 list_fault form [] = Some (list.Bad 0 Header)
 list_fault form (first ∷ rest) =
@@ -83,7 +83,7 @@ pub record ParsesTo {X : Type 0} (form : ListForm X) (bytes : List ℕ) (entries
   pub good : list_fault form (records_of bytes) ≡ None
   pub returned : entries ≡ map form.entry (data_records (records_of bytes))
 
--- a fault with which reading the list may fail: that of its first bad record or, if the list has any bytes,
+-- a fault with which reading the list may fail: the fault of its first bad record or, if `bytes` is not empty,
 -- `OutOfMemory`
 abbrev pub Fails : {X : Type 0} → ListForm X → List ℕ → ListFault → Type 0
 Fails form bytes fault =

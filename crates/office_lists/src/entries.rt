@@ -1,4 +1,4 @@
-//! The entries of imported lists.
+//! The entry types of imported lists, and how each is parsed from a record.
 ghost use Rattle.std.specs.Prelude.{◌≡◌, IfOk, IfErr, None};
 ghost use Rattle.csv.specs.Records.{fields_of};
 ghost use Rattle.office_lists.specs.Entries.{choices_list, grades_list, people_list, room_list};
@@ -28,16 +28,20 @@ pub struct ChoicesEntry {
     pub choices: Choices,
 }
 
-/// An entry of a list of one kind, made from a data record.
+/// An entry type. An implementation fixes the form of a list of such entries and parses one entry from a data record.
 pub trait ListEntry: Drop {
-    /// The form of such lists.
+    /// The form of a list of such entries: its header, the grammar of each field, and the entry that a record makes.
     ghost form: { ListForm Self };
 
-    /// Returns whether a record is the header of such a list.
+    /// Returns whether `row` is the header of a list of such entries.
     fn is_header(row: &ByteRecord) -> bool
         ensures { result ≡ same_fields form.header (fields_of row.now) };
 
-    /// Parses the fields of a data record.
+    /// Parses an entry from the fields of a data record.
+    ///
+    /// # Errors
+    ///
+    /// `BadField` with the first field outside its grammar, or `OutOfMemory` if an allocation fails.
     fn from_fields(alloc: Global, fields: &StringRecord) -> Result<Self, RecordFault>
         ensures returned { IfOk result (λ entry. entry ≡ form.entry (fields_of fields.now)) }
         ensures good { IfOk result (λ _. field_cause form (fields_of fields.now) ≡ None) }

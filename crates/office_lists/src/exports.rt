@@ -1,4 +1,4 @@
-//! Exports as CSV records.
+//! Converts the rows of exports to CSV records.
 ghost use Rattle.std.specs.Prelude.{◌≡◌, IfOk, map};
 ghost use Rattle.room_types.specs.Rows.{state_text};
 ghost use Rattle.office_lists.specs.Exports.{grade_fields, header_of, move_fields, field_or_empty, person_fields};
@@ -10,20 +10,20 @@ use csv::{StringRecord, WriterBuilder};
 use room_types::{GradeRow, Grammar, Move, OutOfMemory, PersonRow, RoomRow, Text};
 use std::alloc::Global;
 
-/// The kinds of exports.
+/// The kind of an export, which says what the export lists.
 #[derive(Clone, Copy, Debug, PartialEq, Eq, Drop)]
 pub enum ExportKind {
-    /// The rooms, by code, with their tenants.
+    /// Rooms with their states and tenants, sorted by code.
     Rooms,
-    /// The people, by identifier, with their homes and without their keys.
+    /// People with their names and homes, sorted by identifier. Keys are not exported.
     People,
-    /// The moves, by round and then by identifier.
+    /// Moves, sorted by round and, within a round, by the person's identifier.
     Moves,
-    /// The people, by identifier, with their grades.
+    /// People with their grades, sorted by identifier.
     Grades,
 }
 
-/// Returns the bytes of the header of an export of this kind.
+/// Returns the bytes of the header record of an export of this kind.
 ///
 /// # Errors
 ///
@@ -39,7 +39,8 @@ pub fn head_bytes(alloc: Global, kind: ExportKind) -> Result<Vec<u8>, OutOfMemor
     }
 }
 
-/// Returns the bytes of a room's record: its code, its state, and its tenant or an empty field.
+/// Returns the bytes of a room's record. The fields are the room's code, state and tenant. The last field is empty if
+/// the room has no tenant.
 ///
 /// # Errors
 ///
@@ -55,7 +56,8 @@ pub fn room_row_bytes(alloc: Global, row: &RoomRow) -> Result<Vec<u8>, OutOfMemo
     record_bytes(alloc, &fields)
 }
 
-/// Returns the bytes of a person's record: the identifier, the name, and the home or an empty field.
+/// Returns the bytes of a person's record. The fields are the person's identifier, name and home. The last field is
+/// empty if the person has no home.
 ///
 /// # Errors
 ///
@@ -71,8 +73,8 @@ pub fn person_row_bytes(alloc: Global, row: &PersonRow) -> Result<Vec<u8>, OutOf
     record_bytes(alloc, &fields)
 }
 
-/// Returns the bytes of a move's record: the round, the wave as a number or `swap`, the person, the old room and the new
-/// room. A missing room is an empty field.
+/// Returns the bytes of a move's record. The fields are the round, the wave (a number or `swap`), the person, the old
+/// room and the new room. A missing room is an empty field.
 ///
 /// # Errors
 ///
@@ -92,7 +94,7 @@ pub fn move_row_bytes(alloc: Global, row: &Move) -> Result<Vec<u8>, OutOfMemory>
     record_bytes(alloc, &fields)
 }
 
-/// Returns the bytes of the record of a person's grade: the identifier, and the grade as one digit.
+/// Returns the bytes of a record with a person's identifier and their grade. The grade is one digit.
 ///
 /// # Errors
 ///
@@ -107,10 +109,10 @@ pub fn grade_row_bytes(alloc: Global, row: &GradeRow) -> Result<Vec<u8>, OutOfMe
 
 /// A row that is exported as one record.
 pub trait ExportRow {
-    /// The fields of its record.
+    /// Gives the fields of the row's record.
     ghost fields: { Self → Record };
 
-    /// Returns the bytes of its record.
+    /// Returns the bytes of the row's record, or `OutOfMemory` if an allocation fails.
     fn row_bytes(&self, alloc: Global) -> Result<Vec<u8>, OutOfMemory>
         ensures { IfOk result (λ bytes. bytes.items ≡ record_bytes (fields self.now)) };
 }
@@ -147,14 +149,15 @@ impl ExportRow for GradeRow {
     }
 }
 
-/// Returns the bytes of a record of these fields.
+/// Returns the bytes of a CSV record with these fields, or `OutOfMemory` if an allocation fails.
 pub fn record_bytes(alloc: Global, fields: &[&str]) -> Result<Vec<u8>, OutOfMemory>
     ensures { IfOk result (λ bytes.
         bytes.items ≡ record_bytes (map (λ field. field.now) fields.now)) }
 {
     let record = StringRecord::from_fields(alloc, fields)?;
     let mut writer = WriterBuilder::new().from_writer(Vec::new(alloc));
-    // A writer into memory fails only if an allocation does, and its first record may have any number of fields.
+    // A writer into memory fails only if an allocation fails. The writer accepts any number of fields in its first
+    // record.
     let Ok(()) = writer.write_byte_record(record.as_byte_record()) else {
         return Err(OutOfMemory {});
     };
@@ -164,14 +167,14 @@ pub fn record_bytes(alloc: Global, fields: &[&str]) -> Result<Vec<u8>, OutOfMemo
     }
 }
 
-// Returns the state as it is printed, with the lifetime of the row's other fields.
+// Returns the room's state as text. The result has the lifetime of `row`, like the texts of the row's other fields.
 fn state_text(row: &RoomRow) -> &str
     ensures { result.now ≡ state_text row.now.state }
 {
     row.state.as_str()
 }
 
-// Returns the text, or the empty text.
+// Returns the text, or an empty text for `None`.
 fn field_or_empty<G: Grammar>(text: &Option<Text<G>>) -> &str
     ensures { result.now ≡ field_or_empty text.now }
 {

@@ -1,4 +1,4 @@
-//! What can be wrong with a list.
+//! Errors in imported lists and in their records.
 ghost use Rattle.std.specs.Prelude.{◌≡◌};
 ghost use Rattle.office_lists.specs.Inner.RecordFaults.{at_record};
 
@@ -11,9 +11,9 @@ pub enum Cause {
     NotText,
     /// The record has more or fewer fields than the header.
     FieldCount,
-    /// The first field, counted from 1, that is outside its grammar.
+    /// A field is outside its grammar. This is the number of the first such field, counted from 1.
     BadField(u8),
-    /// The record comes after the last that a list may have.
+    /// The list already has `RECORD_LIMIT` data records before this one.
     TooMany,
     /// The office refuses the record; this is the number of the refusal.
     Denied(u8),
@@ -22,7 +22,7 @@ pub enum Cause {
 /// Why a list could not be read.
 #[derive(Clone, Copy, Debug, PartialEq, Eq, Drop)]
 pub enum ListFault {
-    /// The first bad record, counted from the header as record 0, and what is wrong with it.
+    /// Record `at` is the first bad record, and `cause` is what is wrong with it. The header is record 0.
     Bad { at: u32, cause: Cause },
     /// An allocation failed.
     OutOfMemory,
@@ -38,7 +38,7 @@ pub enum RecordFault {
 }
 
 impl RecordFault {
-    /// Returns the error of a list whose record `at` has this fault.
+    /// Converts this fault to the error of a list in which record `at` has the fault.
     pub fn at_record(self, at: u32) -> ListFault
         ensures { result ≡ at_record at self }
     {

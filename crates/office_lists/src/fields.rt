@@ -1,4 +1,4 @@
-//! Parsing the fields of a record.
+//! Parsers for the fields of a record.
 ghost use Rattle.std.specs.Prelude.{◌≡◌, ◌⊎◌, true, false, map, IfOk, IfErr, MatchResult, None, Some};
 ghost use Rattle.std.specs.List.{list_all};
 ghost use Rattle.csv.specs.Records.{fields_of};
@@ -13,7 +13,7 @@ use csv::{ByteRecord, StringRecord};
 use room_types::{Choices, Grade, Grammar, RoomCode, Text, TypeFault};
 use std::alloc::{AllocError, Global};
 
-/// Returns whether the fields of a record are exactly these.
+/// Returns whether the fields of `row` are exactly `names`, in this order.
 pub fn same_fields(row: &ByteRecord, names: &[&str]) -> bool
     ensures { result ≡ same_fields (map (λ name. name.now) names.now) (fields_of row.now) }
 {
@@ -33,14 +33,15 @@ pub fn same_fields(row: &ByteRecord, names: &[&str]) -> bool
     true
 }
 
-/// Returns the field at an index, or the empty text if there is none.
+/// Returns the field at index `at`, or an empty text if the record has no such field.
 pub fn field(fields: &StringRecord, at: usize) -> &str
     ensures { result.now ≡ field at (fields_of fields.now) }
 {
     fields.get(at).unwrap_or("")
 }
 
-/// Parses the text of field `number`. Allocates only if the text is in the grammar.
+/// Parses the text of field `number` by the grammar `G`. Fails with `BadField(number)` if the text is outside the
+/// grammar. Allocates only if the text is in the grammar.
 pub fn value<G: Grammar>(alloc: Global, text: &str, number: u8) -> Result<Text<G>, RecordFault>
     ensures value { IfOk result (λ value. value ≡ text.now) }
     ensures in_grammar { IfOk result (λ _. G.is_text text.now ≡ true) }
@@ -52,7 +53,8 @@ pub fn value<G: Grammar>(alloc: Global, text: &str, number: u8) -> Result<Text<G
     }
 }
 
-/// Parses the room of field `number`, which may be empty.
+/// Parses the text of field `number` as a room code, or as `None` if the text is empty. Fails with `BadField(number)`
+/// if the text is neither.
 pub fn optional_room(alloc: Global, text: &str, number: u8) -> Result<Option<RoomCode>, RecordFault>
     ensures value { IfOk result (λ room. room ≡ optional text.now) }
     ensures in_grammar { IfOk result (λ _. is_optional_room_code text.now ≡ true) }
@@ -67,7 +69,8 @@ pub fn optional_room(alloc: Global, text: &str, number: u8) -> Result<Option<Roo
     }
 }
 
-/// Parses the preference list of field `number`: codes separated by single spaces, or an empty list if the field is empty.
+/// Parses the text of field `number` as a preference list: room codes separated by single spaces. An empty text is an
+/// empty list. Fails with `BadField(number)` if the text is not a preference list.
 pub fn choices(alloc: Global, text: &str, number: u8) -> Result<Choices, RecordFault>
     ensures value { IfOk result (λ choices. choices ≡ codes_in text.now) }
     ensures in_grammar { IfOk result (λ _. is_choices text.now ≡ true) }
@@ -79,7 +82,7 @@ pub fn choices(alloc: Global, text: &str, number: u8) -> Result<Choices, RecordF
     }
 }
 
-/// Parses the grade of field `number`. Does not allocate.
+/// Parses the text of field `number` as a grade, or fails with `BadField(number)`. Does not allocate.
 pub fn grade(text: &str, number: u8) -> Result<Grade, RecordFault>
     ensures { MatchResult result (λ grade. grade_of text.now ≡ Some grade)
         (λ fault. (fault ≡ RecordFault.Bad (Cause.BadField number)) × (grade_of text.now ≡ None)) }
@@ -90,7 +93,8 @@ pub fn grade(text: &str, number: u8) -> Result<Grade, RecordFault>
     }
 }
 
-// Returns the fault of a record whose field `number` has this fault.
+// Converts the fault of field `number` to a fault of its record. Every fault but `OutOfMemory` becomes
+// `BadField(number)`.
 fn field_fault(fault: TypeFault, number: u8) -> RecordFault
     ensures { result ≡ field_fault number fault }
 {
@@ -130,7 +134,7 @@ fn codes(alloc: Global, text: &str) -> Result<Vec<RoomCode>, TypeFault>
     Ok(codes)
 }
 
-// Splits a text at each space. An empty text has no parts.
+// Splits a text at each space. An empty text gives no words.
 fn words(alloc: Global, text: &str) -> Result<Vec<&str>, AllocError>
     ensures { IfOk result (λ words. map (λ word. word.now) words.items ≡ codes_in text.now) }
 {

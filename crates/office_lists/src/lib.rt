@@ -1,4 +1,4 @@
-//! The lists that the office imports and exports as CSV, its text tables, and the waves of the day of moving.
+//! Reads and writes the office's CSV lists, formats its text tables, and computes the waves of the day of moving.
 #![tactic(auto)]
 
 mod entries;
@@ -9,6 +9,7 @@ pub mod laws;
 pub mod move_day;
 mod reading;
 pub mod schedule;
+pub mod send;
 pub mod tables;
 mod writing;
 

@@ -1,4 +1,4 @@
-//! The list for the day of moving.
+//! The list of moves for the day of moving.
 ghost use Rattle.std.specs.Prelude.{◌≡◌, ◌<◌, ◌++◌, [], ◌∷◌, List, length, IfOk, OnOk, OnErr, string_bytes, map};
 ghost use Rattle.room_types.specs.Ascending.{ascending};
 ghost use Rattle.room_types.specs.declared.moves.Move.{Move};
@@ -10,8 +10,9 @@ use room_types::{Move, OutOfMemory, PersonId, Wave};
 use std::alloc::{AllocError, Global};
 use std::cmp::Ordering;
 
-/// Returns the list for the day of moving as text: the numbered waves ascending, then the swaps, each by identifier. Makes
-/// O(n log n) comparisons.
+/// Returns the list for the day of moving as a text table. The numbered waves come first, in ascending order; the
+/// swaps come last. Within a wave and among the swaps, the moves ascend by the person's identifier. Makes O(n log n)
+/// comparisons.
 pub fn move_day_text(alloc: Global, moves: &[Move]) -> Result<String, OutOfMemory>
     ensures listed { IfOk result (λ text. IsMoveDayList moves.now (string_bytes text)) }
     ensures computed { IfOk result (λ text. string_bytes text ≡ move_day_table moves.now) }
@@ -32,8 +33,8 @@ pub fn move_day_text(alloc: Global, moves: &[Move]) -> Result<String, OutOfMemor
     Ok(text)
 }
 
-/// Sorts the moves by wave, with swaps last, and by identifier within a wave. Makes O(n log n) comparisons. Does not
-/// allocate if there are no moves.
+/// Returns the moves sorted by wave, with swaps last, and within a wave by the person's identifier. Makes O(n log n)
+/// comparisons. Does not allocate if there are no moves.
 pub fn in_moving_order(alloc: Global, moves: &[Move]) -> Result<Vec<&Move>, OutOfMemory>
     ensures ordered { IfOk result (λ rows. map (λ row. row.now) rows.items
         ≡ ascending move_cmp moves.now) }
@@ -53,7 +54,7 @@ fn move_cmp(a: &Move, b: &Move) -> Ordering
     sort_key(a).cmp(&sort_key(b))
 }
 
-// Returns the sort key of a move: whether it is a swap, the number of its wave or 0, and the person.
+// Returns the sort key of a move: whether the move is a swap, the number of its wave (0 for a swap), and the person.
 fn sort_key(row: &Move) -> (bool, u16, &PersonId)
     ensures swap { result.0 ≡ is_swap row.now.wave }
     ensures number { result.1 ≡ wave_number row.now.wave }
@@ -88,8 +89,8 @@ fn push_move(
     writeln!(text, "{wave:<4}  {person:<12}  {from:<8}  {to}")
 }
 
-/// Theorem: moves have exactly one list for the day of moving, the one that `move_day_table` of `specs/` computes. The
-/// function does nothing.
+/// Theorem: for any moves there is exactly one list for the day of moving. `move_day_table` in `specs/` computes this
+/// list. The function does nothing.
 pub fn one_move_list()
     ensures { (moves : List Move) → HaveOneMoveDayList moves }
 {}

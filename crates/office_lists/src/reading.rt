@@ -1,4 +1,4 @@
-//! Reading lists from CSV.
+//! Reads imported lists from CSV.
 ghost use Rattle.std.specs.Prelude.{◌≡◌, ◌<◌, IfOk, IfErr, None, Some, length, true, false};
 ghost use Rattle.csv.specs.Reading.{default_config, error_kind, is_flexible, names_headers, owned_rows_left};
 ghost use Rattle.csv.specs.Reading.{owned_rows_reader, reader_config, reader_headers, reader_state, reader_trim};
@@ -16,26 +16,26 @@ use csv::{ByteRecord, ByteRecordsIntoIter, ReaderBuilder, StringRecord};
 use room_types::{GradeRow, RoomCode};
 use std::alloc::Global;
 
-/// How many data records a list may have at most.
+/// The largest number of data records that a list may have. The header does not count.
 pub const RECORD_LIMIT: usize = 10_000;
 
-// The first record is not the header, or there is none.
+// The error of a list that has no records or whose first record is not the header.
 const NO_HEADER: ListFault = ListFault::Bad {
     at: 0,
     cause: Cause::Header,
 };
 
-// There is a record after the last that a list may have.
+// The error of a list with more than `RECORD_LIMIT` data records.
 const TOO_MANY: ListFault = ListFault::Bad {
     at: RECORD_LIMIT as u32 + 1,
     cause: Cause::TooMany,
 };
 
-/// Reads a list of rooms and returns their codes in order.
+/// Reads a list of rooms and returns the room codes in the order of the list.
 ///
 /// # Errors
 ///
-/// `Bad` with the first bad record, or `OutOfMemory` if an allocation fails, which never happens if `bytes` is empty.
+/// `Bad` with the first bad record, or `OutOfMemory` if an allocation fails. If `bytes` is empty, the error is `Bad`.
 pub fn read_rooms(alloc: Global, bytes: &[u8]) -> Result<Vec<RoomCode>, ListFault>
     ensures returned { IfOk result (λ rooms. ParsesTo room_list bytes.now rooms.items) }
     ensures fault { IfErr result (λ fault. Fails room_list bytes.now fault) }
@@ -43,11 +43,12 @@ pub fn read_rooms(alloc: Global, bytes: &[u8]) -> Result<Vec<RoomCode>, ListFaul
     read_list(alloc, bytes)
 }
 
-/// Reads a list of people, with their names, keys and homes, and returns its entries in order.
+/// Reads a list of people with their names, keys and homes. Returns one entry for each data record, in the order of
+/// the list.
 ///
 /// # Errors
 ///
-/// `Bad` with the first bad record, or `OutOfMemory` if an allocation fails, which never happens if `bytes` is empty.
+/// `Bad` with the first bad record, or `OutOfMemory` if an allocation fails. If `bytes` is empty, the error is `Bad`.
 pub fn read_people(alloc: Global, bytes: &[u8]) -> Result<Vec<PersonEntry>, ListFault>
     ensures returned { IfOk result (λ people. ParsesTo people_list bytes.now people.items) }
     ensures fault { IfErr result (λ fault. Fails people_list bytes.now fault) }
@@ -55,11 +56,12 @@ pub fn read_people(alloc: Global, bytes: &[u8]) -> Result<Vec<PersonEntry>, List
     read_list(alloc, bytes)
 }
 
-/// Reads a list of choices and returns one entry for each record, in the order of the list. A person may occur twice.
+/// Reads a list of people's choices. Returns one entry for each data record, in the order of the list. A person may
+/// have several entries.
 ///
 /// # Errors
 ///
-/// `Bad` with the first bad record, or `OutOfMemory` if an allocation fails, which never happens if `bytes` is empty.
+/// `Bad` with the first bad record, or `OutOfMemory` if an allocation fails. If `bytes` is empty, the error is `Bad`.
 pub fn read_choices(alloc: Global, bytes: &[u8]) -> Result<Vec<ChoicesEntry>, ListFault>
     ensures returned { IfOk result (λ choices. ParsesTo choices_list bytes.now choices.items) }
     ensures fault { IfErr result (λ fault. Fails choices_list bytes.now fault) }
@@ -67,11 +69,12 @@ pub fn read_choices(alloc: Global, bytes: &[u8]) -> Result<Vec<ChoicesEntry>, Li
     read_list(alloc, bytes)
 }
 
-/// Reads a list of grades and returns its entries in order. A person may be on it more than once.
+/// Reads a list of people's grades. Returns one entry for each data record, in the order of the list. A person may
+/// have several entries.
 ///
 /// # Errors
 ///
-/// `Bad` with the first bad record, or `OutOfMemory` if an allocation fails, which never happens if `bytes` is empty.
+/// `Bad` with the first bad record, or `OutOfMemory` if an allocation fails. If `bytes` is empty, the error is `Bad`.
 pub fn read_grades(alloc: Global, bytes: &[u8]) -> Result<Vec<GradeRow>, ListFault>
     ensures returned { IfOk result (λ grades. ParsesTo grades_list bytes.now grades.items) }
     ensures fault { IfErr result (λ fault. Fails grades_list bytes.now fault) }
@@ -79,7 +82,7 @@ pub fn read_grades(alloc: Global, bytes: &[u8]) -> Result<Vec<GradeRow>, ListFau
     read_list(alloc, bytes)
 }
 
-// Reads a list record by record, up to its first bad one.
+// Reads a list record by record. Stops with an error at the first bad record.
 fn read_list<E: ListEntry>(alloc: Global, bytes: &[u8]) -> Result<Vec<E>, ListFault>
     ensures returned { IfOk result (λ entries. ParsesTo E.form bytes.now entries.items) }
     ensures fault { IfErr result (λ fault. Fails E.form bytes.now fault) }
@@ -120,7 +123,8 @@ fn read_list<E: ListEntry>(alloc: Global, bytes: &[u8]) -> Result<Vec<E>, ListFa
     Ok(entries)
 }
 
-// Returns an iterator over the records of a list. It yields the header as a record, and accepts any number of fields.
+// Returns an iterator over the records of a list. The header is the first record. A record may have any number of
+// fields.
 fn csv_records(alloc: Global, bytes: &[u8]) -> ByteRecordsIntoIter<&[u8]>
     ensures config { reader_config (owned_rows_reader result) ≡ default_config }
     ensures trim { reader_trim (owned_rows_reader result) ≡ trim.None }
@@ -139,8 +143,8 @@ fn csv_records(alloc: Global, bytes: &[u8]) -> ByteRecordsIntoIter<&[u8]>
         .into_byte_records()
 }
 
-// Converts an error that stops a reader over memory: only a failed allocation does. Errors about a single record, such as a
-// number of fields that differs from the one before, do not stop a reader and are excluded.
+// Converts an error that stops the CSV reader to `OutOfMemory`. The reader reads from memory, so only a failed
+// allocation stops it. The precondition excludes errors about a single record, such as a wrong number of fields.
 fn out_of_memory(error: csv::Error) -> ListFault
     requires { stops_reader (error_kind error) ≡ true }
     ensures { result ≡ ListFault.OutOfMemory }
@@ -149,7 +153,8 @@ fn out_of_memory(error: csv::Error) -> ListFault
     ListFault::OutOfMemory
 }
 
-// Parses a data record. The header has `width` fields.
+// Parses a data record. `width` is the number of fields of the header; a record with another number of fields fails
+// with `FieldCount`.
 fn read_record<E: ListEntry>(alloc: Global, row: ByteRecord, width: usize) -> Result<E, RecordFault>
     requires { width ≡ length E.form.header }
     ensures returned { IfOk result (λ entry. entry ≡ E.form.entry (fields_of row)) }

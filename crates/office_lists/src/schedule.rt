@@ -1,4 +1,4 @@
-//! Waves: who moves before whom on the day of moving.
+//! Computes the waves of the day of moving, which say who moves before whom.
 ghost use Rattle.std.specs.Prelude.{◌≡◌, ◌<◌, ◌≤◌, ℕ, List, Some, length, IfOk, OnErr};
 ghost use Rattle.std.specs.BTreeMap.{get_by};
 ghost use Rattle.room_types.specs.Texts.{Text, text_cmp};
@@ -9,14 +9,20 @@ use room_types::{OutOfMemory, PersonId, RoomCode, Wave};
 use std::alloc::{AllocError, Global};
 use std::collections::BTreeMap;
 
-/// A person who moves, with the old room and the new room.
+/// A person who moves, their old room and their new room. Either room may be `None`.
 pub type Relocation = (PersonId, Option<RoomCode>, Option<RoomCode>);
 
-/// Returns the wave of each entry, in order. An entry without a new room has wave 0. An entry whose new room nobody
-/// leaves has wave 1. An entry in a cycle has the wave `Swap`. Every other entry has 1 plus the wave of the new room's
-/// leaver. The leaver of a room (who moves out of it, whether or not they leave the college) is the first entry with
-/// that old room. There may be at most 2,000 entries, and their new rooms must differ. Makes O(n log n) comparisons.
-/// Does not allocate if there are no entries.
+/// Returns the wave of each entry, in the order of the entries. The leaver of a room is the first entry with that old
+/// room, whether or not that person leaves the college.
+///
+/// - An entry without a new room has wave 0.
+/// - An entry whose new room has no leaver has wave 1.
+/// - An entry in a cycle has the wave `Swap`: going from each entry to the leaver of its new room returns to the
+///   start.
+/// - Every other entry has 1 plus the wave of its new room's leaver.
+///
+/// The caller passes at most 2,000 entries, whose new rooms must differ. Makes O(n log n) comparisons. Does not
+/// allocate if there are no entries.
 pub fn waves(alloc: Global, entries: &[Relocation]) -> Result<Vec<Wave>, OutOfMemory>
     requires few { length entries.now ≤ move_limit }
     requires new_rooms_differ { NewRoomsDiffer entries.now }
@@ -39,7 +45,7 @@ pub fn waves(alloc: Global, entries: &[Relocation]) -> Result<Vec<Wave>, OutOfMe
     Ok(waves)
 }
 
-// Returns, for each entry, the leaver of its new room.
+// Returns, for each entry, the index of its new room's leaver. The index is `None` if there is no such leaver.
 fn leavers(alloc: Global, entries: &[Relocation]) -> Result<Vec<Option<usize>>, OutOfMemory>
     ensures { IfOk result (λ leavers. leavers.items ≡ leavers_of entries.now) }
 {
@@ -55,7 +61,7 @@ fn leavers(alloc: Global, entries: &[Relocation]) -> Result<Vec<Option<usize>>, 
     Ok(leavers)
 }
 
-// Returns, for each old room, the first entry that leaves it.
+// Maps each old room to its leaver: the index of the first entry with that old room.
 fn leavers_by_room(
     alloc: Global,
     entries: &[Relocation],
@@ -74,7 +80,8 @@ fn leavers_by_room(
     Ok(by_room)
 }
 
-// Returns the successor of each entry, if any: the entry that moves into the room of which this entry is the leaver.
+// Returns, for each entry, the index of its successor, if any. If an entry is the leaver of a room, its successor is
+// the entry that moves into that room.
 fn successors(alloc: Global, leavers: &[Option<usize>]) -> Result<Vec<Option<usize>>, OutOfMemory>
     requires { AreInjective leavers.now }
     ensures { IfOk result (λ successors. AreSuccessors leavers.now successors.items) }
@@ -88,7 +95,7 @@ fn successors(alloc: Global, leavers: &[Option<usize>]) -> Result<Vec<Option<usi
     Ok(successors)
 }
 
-// Returns the number of an entry at the end of its chain: 0 if the entry has no new room, otherwise 1.
+// Returns the number of entry `end`, which ends a chain: 0 if the entry has no new room, otherwise 1.
 fn end_number_at(entries: &[Relocation], end: usize) -> u16
     requires { end < length entries.now }
     ensures value { result ≡ end_number_at (end_numbers entries.now) end }
@@ -100,7 +107,8 @@ fn end_number_at(entries: &[Relocation], end: usize) -> u16
     }
 }
 
-// Numbers the entries of a chain from its end, which gets the number `first`.
+// Numbers the entries of the chain that ends at `end`. Entry `end` gets `first`, its successor `first + 1`, and so
+// on.
 fn number_chain(waves: &mut [Wave], successors: &[Option<usize>], end: usize, first: u16)
     requires within { (count i : ℕ) → followed successors.now count end ≡ Some i
         → i < length waves.old }
@@ -119,7 +127,7 @@ fn number_chain(waves: &mut [Wave], successors: &[Option<usize>], end: usize, fi
     }
 }
 
-/// Theorem: if the new rooms differ, each entry has exactly one wave, the one that `wave_of` of `specs/` computes. The
+/// Theorem: if the new rooms differ, each entry has exactly one wave. `wave_of` in `specs/` computes this wave. The
 /// function does nothing.
 pub fn one_wave_each()
     ensures { (entries : List AnyRelocation) → NewRoomsDiffer entries → HaveOneWaveEach entries }

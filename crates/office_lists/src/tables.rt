@@ -1,4 +1,4 @@
-//! Text tables, as they are printed.
+//! Formats rooms, people and results as text tables.
 ghost use Rattle.std.specs.Prelude.{◌≡◌, ◌++◌, [], ◌∷◌, IfOk, OnOk, string_bytes};
 ghost use Rattle.room_types.specs.Ascending.{AscendsBy};
 ghost use Rattle.office_lists.specs.Tables.{line, or_none, rooms_table, people_table, results_table};
@@ -7,7 +7,8 @@ use room_types::text::{Grammar, Text};
 use room_types::{OutOfMemory, PersonRow, ResultRow, RoomRow};
 use std::alloc::{AllocError, Global};
 
-/// Returns the text table of these rooms: a line of headings, and a line for each room. The rooms must ascend by code.
+/// Returns the text table of these rooms: a line of headings, and a line for each room. The rooms must ascend by
+/// code.
 pub fn rooms_text(alloc: Global, rows: &[RoomRow]) -> Result<String, OutOfMemory>
     requires ascending { AscendsBy (λ row. row.room) rows.now }
     ensures { IfOk result (λ text. string_bytes text ≡ rooms_table rows.now) }
@@ -44,8 +45,8 @@ pub fn people_text(alloc: Global, rows: &[PersonRow]) -> Result<String, OutOfMem
     Ok(text)
 }
 
-/// Returns the text table of these results: a line of headings, and a line for each result. The results must ascend by
-/// identifier.
+/// Returns the text table of these results: a line of headings, and a line for each result. The results must ascend
+/// by identifier.
 pub fn results_text(alloc: Global, rows: &[ResultRow]) -> Result<String, OutOfMemory>
     requires ascending { AscendsBy (λ row. row.person) rows.now }
     ensures { IfOk result (λ text. string_bytes text ≡ results_table rows.now) }
@@ -79,7 +80,7 @@ fn push_result(text: &mut String, person: &str, room: &str) -> Result<(), AllocE
     writeln!(text, "{person:<12}  {room}")
 }
 
-/// Returns the text, or `none`.
+/// Returns the text, or the word `none` if there is no text.
 pub fn or_none<G: Grammar>(text: &Option<Text<G>>) -> &str
     ensures { result.now ≡ or_none text.now }
 {

@@ -1,4 +1,4 @@
-//! Writing exports.
+//! Writes exports to an output.
 ghost use Rattle.std.specs.Prelude.{◌≡◌, ◌<◌, IfErr, OnOk, length, take};
 ghost use Rattle.room_types.specs.Ascending.{AscendsBy};
 ghost use Rattle.room_types.specs.Streams.{Puts, output_of};
@@ -8,7 +8,7 @@ ghost use Rattle.office_lists.specs.Exports.{grades_export, moves_export, people
 ghost use Rattle.office_lists.specs.Writing.{StopsAfter, has_failed, sent_of};
 
 use crate::exports::{ExportKind, ExportRow, head_bytes};
-use room_types::send::send;
+use crate::send::send;
 use room_types::{GradeRow, Move, PersonRow, RoomRow, Watched};
 use std::alloc::Global;
 use std::io::Write;
@@ -18,15 +18,15 @@ use std::io::Write;
 pub enum WriteEnd {
     /// A write failed or took no bytes.
     Fault { sent: u128 },
-    /// The bytes of a record could not be allocated. All records before it were written.
+    /// An allocation for a record failed. All records before that record were written.
     OutOfMemory { sent: u128 },
 }
 
-/// Writes the export of these rooms, which must ascend by code. Does not flush.
+/// Writes these rooms as an export. The rooms must ascend by code. Does not flush.
 ///
 /// # Errors
 ///
-/// `Fault` if a write fails or takes nothing, and `OutOfMemory` if an allocation fails.
+/// `Fault` if a write fails or takes no bytes, and `OutOfMemory` if an allocation fails.
 pub fn write_rooms<W: Write>(
     alloc: Global,
     rows: &[RoomRow],
@@ -49,11 +49,11 @@ pub fn write_rooms<W: Write>(
     write_list(alloc, ExportKind::Rooms, rows, output)
 }
 
-/// Writes the export of these people, who must ascend by identifier. Does not flush.
+/// Writes these people as an export. The people must ascend by identifier. Does not flush.
 ///
 /// # Errors
 ///
-/// `Fault` if a write fails or takes nothing, and `OutOfMemory` if an allocation fails.
+/// `Fault` if a write fails or takes no bytes, and `OutOfMemory` if an allocation fails.
 pub fn write_people<W: Write>(
     alloc: Global,
     rows: &[PersonRow],
@@ -77,11 +77,12 @@ pub fn write_people<W: Write>(
     write_list(alloc, ExportKind::People, rows, output)
 }
 
-/// Writes the export of these moves, which must ascend by round and, within a round, by identifier. Does not flush.
+/// Writes these moves as an export. The moves must ascend by round and, within a round, by the person's identifier.
+/// Does not flush.
 ///
 /// # Errors
 ///
-/// `Fault` if a write fails or takes nothing, and `OutOfMemory` if an allocation fails.
+/// `Fault` if a write fails or takes no bytes, and `OutOfMemory` if an allocation fails.
 pub fn write_moves<W: Write>(
     alloc: Global,
     rows: &[Move],
@@ -104,11 +105,11 @@ pub fn write_moves<W: Write>(
     write_list(alloc, ExportKind::Moves, rows, output)
 }
 
-/// Writes the export of these people's grades. The rows must ascend by identifier. Does not flush.
+/// Writes these grades as an export. The rows must ascend by the person's identifier. Does not flush.
 ///
 /// # Errors
 ///
-/// `Fault` if a write fails or takes nothing, and `OutOfMemory` if an allocation fails.
+/// `Fault` if a write fails or takes no bytes, and `OutOfMemory` if an allocation fails.
 pub fn write_grades<W: Write>(
     alloc: Global,
     rows: &[GradeRow],
@@ -132,7 +133,7 @@ pub fn write_grades<W: Write>(
     write_list(alloc, ExportKind::Grades, rows, output)
 }
 
-// Writes an export record by record.
+// Writes the header and then a record for each row. Stops at the first write or allocation that fails.
 fn write_list<R: ExportRow, W: Write>(
     alloc: Global,
     kind: ExportKind,

@@ -6,7 +6,7 @@ use Rattle.room_types.specs.Texts.{Text}
 use Rattle.room_types.specs.declared.fault.TypeFault.{TypeFault}
 use Rattle.room_types.specs.declared.fault.TypeFault.TheVariants.{TooManyChoices, RoomRepeated}
 
--- how many rooms a list may have at most
+-- the greatest number of rooms on a list
 abbrev pub choice_limit : ℕ
 choice_limit = 40
 
@@ -14,12 +14,13 @@ choice_limit = 40
 abbrev pub IsChoices : List Text → Type 0
 IsChoices codes = (length codes ≤ choice_limit) × (first_repeated [] codes ≡ None)
 
--- why a list is refused: for too many rooms, or else for the first room that repeats one before it
+-- why a list is refused, or `None` if it is not: it has too many rooms, or else it has a room twice; the fault then
+-- contains the first room that equals an earlier one
 abbrev pub choices_fault : List Text → Option TypeFault
 choices_fault codes =
     if nat_lt choice_limit (length codes) then Some TooManyChoices
     else option_map (λ code. RoomRepeated code) (first_repeated [] codes)
 
--- the list is refused for a room that it repeats
+-- the list is refused because it has a room twice
 abbrev pub RepeatsRoom : List Text → Type 0
 RepeatsRoom codes = (room : Text) × (choices_fault codes ≡ Some (RoomRepeated room))

@@ -1,15 +1,16 @@
--- A monitored reader or writer counts its reads, its flushes and the bytes that it took. It records a failure, the end of its
--- input, a wasted call, and whether bytes wait for a flush. The contracts of its methods say that each is one call of the
--- device (`Source`, `Sink`, `Stream`).
+-- What a `Watched` records about its reader or writer. It counts reads, flushes and the bytes that writes took. It
+-- records whether a call failed, whether a read reached the end, whether a call was wasted, and whether bytes wait
+-- for a flush. The contract of each read, write and flush says that it makes one call of the inner reader or writer
+-- (see `Source`, `Sink`, `Stream`).
 use Rattle.std.specs.Prelude.{◌≡◌, ℕ, ◌+◌, ◌-◌, ◌^◌, min, Bool, true, false}
 use Rattle.std.specs.Prelude.{Result, Ok, Err, List, length, nat_lt, ◌&&◌, ◌==◌}
 use Rattle.room_types.specs.declared.watched.Watched.{Watched}
 
--- the reader or writer inside
+-- the inner reader or writer
 abbrev pub watched_inner : {T : Type 0} → Watched T → T
 watched_inner w = w.inner
 
--- whether a call failed
+-- whether a call failed, or a write took nothing of a buffer that is not empty
 abbrev pub watched_failed : {T : Type 0} → Watched T → Bool
 watched_failed w = w.failed
 
@@ -17,7 +18,7 @@ watched_failed w = w.failed
 abbrev pub watched_reads : {T : Type 0} → Watched T → ℕ
 watched_reads w = w.reads
 
--- the number of bytes taken, saturating at 2^64 - 1
+-- the number of bytes that writes took, saturating at 2^64 - 1
 abbrev pub watched_taken : {T : Type 0} → Watched T → ℕ
 watched_taken w = w.taken
 
@@ -25,7 +26,7 @@ watched_taken w = w.taken
 abbrev pub watched_flushes : {T : Type 0} → Watched T → ℕ
 watched_flushes w = w.flushes
 
--- whether it took bytes since a flush last succeeded
+-- whether a write took at least one byte, and no flush has succeeded after that write
 abbrev pub watched_pending : {T : Type 0} → Watched T → Bool
 watched_pending w = w.pending
 
@@ -33,11 +34,11 @@ watched_pending w = w.pending
 abbrev pub watched_ended : {T : Type 0} → Watched T → Bool
 watched_ended w = w.ended
 
--- whether a call was wasted: made after a failure, a read after the end, or a read or a write with an empty buffer
+-- whether a call was wasted: a call after a failure, a read after the end, or a read or a write with an empty buffer
 abbrev pub watched_wasted : {T : Type 0} → Watched T → Bool
 watched_wasted w = w.wasted
 
--- a count after n more, saturating at 2^64 - 1
+-- the count plus n, saturating at 2^64 - 1
 abbrev pub counted : ℕ → ℕ → ℕ
 counted count n = min (count + n) (2 ^ 64 - 1)
 
@@ -51,7 +52,7 @@ abbrev pub is_failed_write : {E : Type 0} → List ℕ → Result ℕ E → Bool
 is_failed_write buf (Ok n) = nat_lt 0 (length buf) && n == 0
 is_failed_write buf (Err e) = true
 
--- the number of bytes taken, after a write
+-- the number of bytes taken after a write with this result, where `taken` is the number before the write
 abbrev pub taken_after : {E : Type 0} → ℕ → Result ℕ E → ℕ
 taken_after taken (Ok n) = counted taken n
 taken_after taken (Err e) = taken
@@ -70,17 +71,17 @@ is_end buf (Err e) = false
 abbrev pub is_empty_buffer : List ℕ → Bool
 is_empty_buffer buf = length buf == 0
 
--- Unless the writer had already failed, its `wasted` flag is unchanged. So where the flag was false, no call came after a
+-- If the writer had not failed before, its `wasted` flag is unchanged. So if the flag was false, no call came after a
 -- failure, and no write had an empty buffer.
 abbrev pub StopsAtFailure : {T : Type 0} → Watched T → Watched T → Type 0
 StopsAtFailure old new = watched_failed old ≡ false → watched_wasted new ≡ watched_wasted old
 
--- Unless the reader had already failed or ended, its `wasted` flag is unchanged. So where the flag was false, no call came
--- after a failure or after the end, and no read had an empty buffer.
+-- If the reader had neither failed nor reached the end before, its `wasted` flag is unchanged. So if the flag was
+-- false, no call came after a failure, no read came after the end, and no read had an empty buffer.
 abbrev pub StopsAtEnd : {T : Type 0} → Watched T → Watched T → Type 0
 StopsAtEnd old new = watched_failed old ≡ false → watched_ended old ≡ false → watched_wasted new ≡ watched_wasted old
 
--- nothing has failed, nothing was read, and no read found the end
+-- no call has failed, no read was made, and no read has reached the end
 pub record IsFresh {T : Type 0} (w : Watched T) : Type 0 where
   pub failed : w.failed ≡ false
   pub reads : w.reads ≡ 0

@@ -13,7 +13,7 @@ use std::marker::Model;
 /// The greatest number of rooms on a list.
 pub const CHOICE_LIMIT: usize = 40;
 
-/// A person's preference list: rooms, the best first, at most `CHOICE_LIMIT` and all different.
+/// A person's preference list: at most `CHOICE_LIMIT` rooms, all different, the best first.
 #[derive(Debug, Drop)]
 pub struct Choices {
     codes: Vec<RoomCode>,
@@ -31,12 +31,14 @@ impl Model for Choices {
 }
 
 impl Choices {
-    /// Makes the list of these rooms. Allocates only to copy a repeated code.
+    /// Makes the preference list of the rooms with these codes. Allocates only to copy a repeated code into the
+    /// error.
     ///
     /// # Errors
     ///
-    /// `TooManyChoices` if there are more than `CHOICE_LIMIT` rooms. Otherwise, if a code repeats an earlier one,
-    /// `RoomRepeated` with the first such code, or `OutOfMemory` if that code cannot be copied.
+    /// `TooManyChoices` if there are more than `CHOICE_LIMIT` codes. Otherwise `RoomRepeated` if a code occurs twice.
+    /// The error contains the first code that equals an earlier one. `OutOfMemory` comes in place of `RoomRepeated`
+    /// if the allocation for the copy of that code fails.
     pub fn read(codes: Vec<RoomCode>) -> Result<Choices, TypeFault>
         ensures { MatchResult result
             (λ value. (value ≡ codes.items) × (choices_fault codes.items ≡ None))
@@ -55,7 +57,7 @@ impl Choices {
         Ok(Choices { codes })
     }
 
-    /// Copies the list. Does not allocate if it is empty.
+    /// Copies the list. Does not allocate if the list is empty.
     pub fn copy(&self) -> Result<Self, OutOfMemory>
         ensures copy { IfOk result (λ copy. copy ≡ self.now) }
         ensures memory { OnErr result (0 < length self.now) }
@@ -76,7 +78,7 @@ impl Choices {
 impl Clone for Choices {
     ghost is_clone = { λ x y. y ≡ x };
 
-    // An empty list does not allocate.
+    // Copying an empty list does not allocate.
     fn clone(&self) -> Result<Self, AllocError>
         ensures copy { IfOk result (λ copy. copy ≡ self.now) }
         ensures memory { OnErr result (0 < length self.now) }
@@ -90,7 +92,8 @@ impl ExactClone for Choices {
     ghost same = { λ x y h. h };
 }
 
-// Returns the first code that repeats an earlier one. Takes quadratic time: lists are short.
+// Returns the first code that equals an earlier one, or `None` if all codes differ. Takes quadratic time, which is
+// fast enough for short lists.
 fn first_repeated(codes: &[RoomCode]) -> Option<&RoomCode>
     ensures { option_copied result ≡ first_repeated [] codes.now }
 {

@@ -1,4 +1,4 @@
-//! Readers and writers whose single calls contracts can name.
+//! Readers and writers whose contracts can say that a read, a write or a flush was made.
 ghost use Rattle.std.specs.Prelude.{ℕ, List, Result, ⊤};
 ghost use Rattle.std.specs.Io.{ReadsAtMost, WritesAtMost};
 ghost use Rattle.std.specs.Io.KnownBytes.{Keeps, ReadConsumes, WriteAppends};
@@ -6,10 +6,11 @@ ghost use Rattle.std.specs.declared.io.Error.{Error};
 
 use std::io::{Read, Result, Write};
 
-/// A reader that relates the states before and after each read. The contract of `Read` cannot say that a read was made.
-/// `reads` can: generic code establishes it only by one call of `read_once`.
+/// A reader with the relation `reads` between the states before and after a read. The contract of `Read` cannot say
+/// that a read was made. `reads` can, because generic code can establish `reads` only by one call of `read_once`.
 pub trait Source: Read {
-    /// Relates the state before one read, the buffer before and after it, its result, and the state after it.
+    /// The relation that one read establishes. The arguments are the state before the read, the buffer before, the
+    /// buffer after, the result, and the state after.
     ghost reads: { Self → List ℕ → List ℕ → Result ℕ Error → Self → Type 0 };
 
     /// Calls `read` once.
@@ -28,14 +29,16 @@ impl<R: Read> Source for R {
     }
 }
 
-/// A writer that relates the states before and after each write and each flush. The contract of `Write` cannot say that
-/// a call was made. `writes` and `flushes` can: generic code establishes them only by one call of `write_once` or
-/// `flush_once`.
+/// A writer with the relations `writes` and `flushes` between the states before and after a write or a flush. The
+/// contract of `Write` cannot say that a call was made. `writes` and `flushes` can, because generic code can
+/// establish them only by one call of `write_once` or `flush_once`.
 pub trait Sink: Write {
-    /// Relates the state before one write, the bytes to write, its result, and the state after it.
+    /// The relation that one write establishes. The arguments are the state before the write, the bytes to write, the
+    /// result, and the state after.
     ghost writes: { Self → List ℕ → Result ℕ Error → Self → Type 0 };
 
-    /// Relates the state before one flush, its result, and the state after it.
+    /// The relation that one flush establishes. The arguments are the state before the flush, the result, and the
+    /// state after.
     ghost flushes: { Self → Result ⊤ Error → Self → Type 0 };
 
     /// Calls `write` once.

@@ -1,4 +1,4 @@
-//! Errors of the small types.
+//! The errors of this crate.
 ghost use Rattle.std.specs.Prelude.{◌≡◌, Some};
 ghost use Rattle.room_types.specs.Faults.{out_of_memory_text};
 
@@ -7,7 +7,8 @@ use std::alloc::{AllocError, AllocFailed};
 use std::error::Error;
 use std::fmt;
 
-/// An allocation failed. Arguments that were borrowed mutably are unchanged, unless the call says otherwise.
+/// An allocation failed. Arguments that were borrowed mutably are unchanged, unless the documentation of the call
+/// says otherwise.
 #[derive(Clone, Copy, Debug, PartialEq, Eq)]
 pub struct OutOfMemory {}
 
@@ -42,7 +43,7 @@ pub enum TypeFault {
     OutOfMemory,
     /// The list has more rooms than `CHOICE_LIMIT`.
     TooManyChoices,
-    /// The list has a room twice. The code is that of the first room that repeats an earlier one.
+    /// The list has a room twice. The field is the first code that equals an earlier one.
     RoomRepeated(RoomCode),
 }
 

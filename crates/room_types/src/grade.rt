@@ -1,4 +1,4 @@
-//! Grades: priority classes in the drawn order.
+//! Grades: priority classes of people. In the drawn order of a round, people with a smaller grade come earlier.
 ghost use Rattle.std.specs.Prelude.{◌≡◌, ◌≤◌, None, Some, IfSome, MatchOption, MatchResult};
 ghost use Rattle.std.specs.Bool.{Decides};
 ghost use Rattle.room_types.specs.Grades.{grade_limit, grade_of, grade_text};
@@ -11,7 +11,8 @@ use std::marker::Model;
 /// The greatest grade.
 pub const GRADE_LIMIT: u8 = 9;
 
-/// A grade from 0 to `GRADE_LIMIT`. People with a smaller grade come earlier in the drawn order. Grades compare by value.
+/// A grade from 0 to `GRADE_LIMIT`. In the drawn order of a round, people with a smaller grade come earlier. Grades
+/// are compared by value.
 #[derive(Clone, Copy, Debug, PartialEq, Eq, PartialOrd, Ord)]
 pub struct Grade {
     value: u8,
@@ -38,7 +39,7 @@ impl Grade {
         Grade { value: 0 }
     }
 
-    /// Returns the grade of this value, or `None` above `GRADE_LIMIT`.
+    /// Returns the grade with this value, or `None` if the value is above `GRADE_LIMIT`.
     pub fn new(value: u8) -> Option<Grade>
         ensures { MatchOption result (¬ (value ≤ grade_limit)) (λ grade. grade ≡ value) }
     {

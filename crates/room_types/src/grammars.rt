@@ -1,4 +1,4 @@
-//! The grammars of the small texts. Lengths are in bytes.
+//! The grammars of room codes, identifiers, keys, labels and names. Lengths are in bytes.
 ghost use Rattle.std.specs.Prelude.{◌≡◌, true, length};
 ghost use Rattle.std.specs.List.{list_all, list_any};
 ghost use Rattle.std.specs.Char.{is_control};
@@ -25,24 +25,24 @@ pub type Label = Text<Labels>;
 /// A person's name, as it is printed.
 pub type Name = Text<Names>;
 
-/// The grammar of room codes: 1 to 8 of A-Z, 0-9 and hyphens, not beginning with a hyphen.
+/// The grammar of room codes: 1 to 8 characters, each one of A-Z, 0-9 or a hyphen. The first is not a hyphen.
 #[derive(Drop)]
 pub struct RoomCodes {}
 
-/// The grammar of identifiers: 1 to 12 of A-Z and 0-9.
+/// The grammar of identifiers: 1 to 12 characters, each one of A-Z or 0-9.
 #[derive(Drop)]
 pub struct PersonIds {}
 
-/// The grammar of keys: 16 to 64 of a-z and 0-9.
+/// The grammar of keys: 16 to 64 characters, each one of a-z or 0-9.
 #[derive(Drop)]
 pub struct Keys {}
 
-/// The grammar of labels: 1 to 32 of a-z, 0-9 and hyphens, not beginning with a hyphen.
+/// The grammar of labels: 1 to 32 characters, each one of a-z, 0-9 or a hyphen. The first is not a hyphen.
 #[derive(Drop)]
 pub struct Labels {}
 
-/// The grammar of names: 1 to 60 bytes of UTF-8 without control characters (U+0000 to U+001F, U+007F to U+009F), without a
-/// space at either end, and without two spaces in a row.
+/// The grammar of names: 1 to 60 bytes of UTF-8. A name has no control character (U+0000 to U+001F, U+007F to
+/// U+009F), no space at either end, and no two spaces in a row.
 #[derive(Drop)]
 pub struct Names {}
 

@@ -1,4 +1,5 @@
-//! The small types of a college's room exchange: texts, words, grades, preference lists, maps, and monitored streams.
+//! The small types of a college's room exchange: texts, lottery numbers (words), grades, preference lists, maps, and
+//! monitored streams.
 #![tactic(auto)]
 
 pub mod choices;
@@ -12,7 +13,6 @@ pub mod listing;
 pub mod moves;
 pub mod phase;
 pub mod rows;
-pub mod send;
 pub mod stream;
 pub mod table;
 pub mod text;

@@ -10,10 +10,11 @@ use std::alloc::AllocError;
 /// When a move takes place on the day of moving.
 #[derive(Clone, Copy, Debug, PartialEq, Eq, Drop)]
 pub enum Wave {
-    /// A swap: people move in a cycle, each into the room that the next one leaves, so that nobody can move first.
+    /// A swap: the people of a cycle move, each into the room that the next one leaves. So none of them can move
+    /// first.
     Swap,
-    /// A numbered wave. Wave 0 leaves the college. Wave 1 moves into rooms that nobody leaves or that wave 0 leaves, and
-    /// each later wave into rooms that the wave before it leaves.
+    /// A numbered wave. People in wave 0 leave the college. People in wave 1 move into rooms that nobody leaves or
+    /// that people in wave 0 leave. People in each later wave move into rooms that people in the wave before leave.
     Nth(u16),
 }
 

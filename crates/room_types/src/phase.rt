@@ -4,8 +4,8 @@ ghost use Rattle.room_types.specs.Phases.{phase_text};
 
 use std::fmt;
 
-/// The phase of a round. Phases follow one another in this order, and `Idle` comes after `Published`. The command
-/// `Cancel` leads from `Opened`, `Closed`, `Drawn` or `Ran` back to `Idle`.
+/// The phase of a round. A round passes through the phases in the order of the variants, and `Idle` comes after
+/// `Published`. The command `Cancel` leads from `Opened`, `Closed`, `Drawn` or `Ran` back to `Idle`.
 #[derive(Clone, Copy, Debug, PartialEq, Eq, Drop)]
 pub enum Phase {
     /// No round is under way.
@@ -23,7 +23,7 @@ pub enum Phase {
 }
 
 impl Phase {
-    /// Returns the phase as it is printed.
+    /// Returns the printed name of the phase.
     pub fn as_str(self) -> &'static str
         ensures { result.now ≡ phase_text self }
     {

@@ -1,4 +1,4 @@
-//! The rows of replies, text tables and exports.
+//! The types of the rows that replies, text tables and exports contain.
 ghost use Rattle.std.specs.Prelude.{◌≡◌, IfOk, IsSome, OnErr, Some};
 ghost use Rattle.room_types.specs.Rows.{state_text};
 
@@ -11,16 +11,16 @@ use std::fmt;
 /// Whether a room has a tenant, and whether it is in use.
 #[derive(Clone, Copy, Debug, PartialEq, Eq, Drop)]
 pub enum State {
-    /// Nobody lives there.
+    /// The room is in use, and nobody lives in it.
     Free,
-    /// It is somebody's home.
+    /// Somebody lives in the room.
     Occupied,
-    /// It is out of use, and nobody's home.
+    /// The room is out of use, and nobody lives in it.
     Shut,
 }
 
 impl State {
-    /// Returns the state as it is printed.
+    /// Returns the printed form of the state: `free`, `occupied` or `shut`.
     pub fn as_str(self) -> &'static str
         ensures { result.now ≡ state_text self }
     {
@@ -48,7 +48,7 @@ pub struct RoomRow {
     pub tenant: Option<PersonId>,
 }
 
-/// A person with their home, without the key.
+/// A person's identifier, name and home. The row leaves out the person's secret key.
 #[derive(Debug, Drop)]
 pub struct PersonRow {
     pub person: PersonId,
@@ -67,7 +67,7 @@ pub struct GradeRow {
 #[derive(Debug, Drop)]
 pub struct ResultRow {
     pub person: PersonId,
-    /// The room that the participant gets, or `None`.
+    /// The room that the participant gets, or `None` if they get no room.
     pub room: Option<RoomCode>,
 }
 

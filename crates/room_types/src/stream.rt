@@ -1,4 +1,5 @@
-//! Streams whose reads keep the bytes written, and whose writes and flushes keep the bytes left to read.
+//! Streams: readers that are also writers. A read leaves the bytes written unchanged. A write or a flush leaves the
+//! bytes left to read unchanged.
 ghost use Rattle.std.specs.Prelude.{◌≡◌, ℕ, List, Result, ⊤};
 ghost use Rattle.std.specs.Io.{ReadsAtMost, WritesAtMost};
 ghost use Rattle.std.specs.Io.KnownBytes.{Keeps, ReadConsumes, WriteAppends};
@@ -8,17 +9,20 @@ use crate::device::{Sink, Source};
 use std::io::{Read, Result, Write};
 use std::net::TcpStream;
 
-/// A reader and a writer in one. The contract of `Read` says nothing about the bytes written; here a read leaves them
-/// unchanged. The contract of `Write` says nothing about the bytes left to read; here a write or a flush leaves them
-/// unchanged. As in `Source` and `Sink`, each call relates the states of the stream before and after it.
+/// A type that is both a reader and a writer. Its contracts say what those of `Read` and `Write` leave open: a read
+/// leaves the bytes written unchanged, and a write or a flush leaves the bytes left to read unchanged. As in `Source`
+/// and `Sink`, each call establishes a relation between the states before and after the call.
 pub trait Stream: Read + Write {
-    /// Relates the state before one read, the buffer before and after it, its result, and the state after it.
+    /// The relation that one read establishes. The arguments are the state before the read, the buffer before, the
+    /// buffer after, the result, and the state after.
     ghost reads: { Self → List ℕ → List ℕ → Result ℕ Error → Self → Type 0 };
 
-    /// Relates the state before one write, the bytes to write, its result, and the state after it.
+    /// The relation that one write establishes. The arguments are the state before the write, the bytes to write, the
+    /// result, and the state after.
     ghost writes: { Self → List ℕ → Result ℕ Error → Self → Type 0 };
 
-    /// Relates the state before one flush, its result, and the state after it.
+    /// The relation that one flush establishes. The arguments are the state before the flush, the result, and the
+    /// state after.
     ghost flushes: { Self → Result ⊤ Error → Self → Type 0 };
 
     /// Calls `read`, which leaves the bytes written unchanged.
@@ -64,7 +68,7 @@ impl Stream for TcpStream {
     }
 }
 
-/// A stream that joins a reader and a writer.
+/// A stream that reads from `reader` and writes to `writer`.
 #[derive(Drop)]
 pub struct Pair<R, W> {
     pub reader: R,

@@ -12,7 +12,7 @@ use std::collections::BTreeMap;
 use std::collections::btree_map::Iter;
 use std::marker::Model;
 
-/// Types whose clones are equal to the original, which `Clone` alone does not promise.
+/// Types for which each clone equals the original. `Clone` alone does not promise this.
 pub trait ExactClone: Clone {
     ghost same: { (x y : Self) → Self.is_clone x y → y ≡ x };
 }
@@ -25,7 +25,8 @@ impl ExactClone for () {
     ghost same = { λ x y h. h };
 }
 
-/// A map from texts of the grammar G. Contracts see it as a finite map. A look-up takes logarithmic time.
+/// A map whose keys are texts of the grammar `G`. Contracts treat a table as a finite map. A look-up takes time
+/// logarithmic in the number of keys.
 #[derive(Drop)]
 pub struct Table<G: Grammar, V> {
     alloc: Global,
@@ -55,7 +56,7 @@ impl<G: Grammar, V> Table<G, V> {
         }
     }
 
-    /// Returns the value of the key, if the map contains it.
+    /// Returns the value of the key, or `None` if the map does not contain the key.
     pub fn get(&self, key: &Text<G>) -> Option<&V>
         ensures { option_copied result ≡ map.get self.now key.now }
     {
@@ -88,7 +89,7 @@ impl<G: Grammar, V> Table<G, V> {
 }
 
 impl<G: Grammar, V: Drop> Table<G, V> {
-    /// Sets the key's value and drops any old one. Allocates only for a new key.
+    /// Sets the value of the key and drops the old value, if any. Allocates only if the key is new.
     ///
     /// # Errors
     ///
@@ -102,14 +103,14 @@ impl<G: Grammar, V: Drop> Table<G, V> {
         Ok(())
     }
 
-    /// Removes the key and its value, if the map contains it.
+    /// Removes the key and its value. Leaves the map unchanged if it does not contain the key.
     pub fn remove(&mut self, key: &Text<G>)
         ensures { self.new ≡ map.remove self.old key.now }
     {
         let _ = self.tree.remove(key);
     }
 
-    /// Removes the key and returns its value, if the map contains it.
+    /// Removes the key and returns its value. Returns `None` if the map does not contain the key.
     pub fn take(&mut self, key: &Text<G>) -> Option<V>
         ensures value { result ≡ map.get self.old key.now }
         ensures gone { self.new ≡ map.remove self.old key.now }
@@ -126,7 +127,7 @@ impl<G: Grammar, V: Drop> Table<G, V> {
 }
 
 impl<G: Grammar, V: ExactClone> Table<G, V> {
-    /// Copies the map. Does not allocate if it is empty.
+    /// Copies the map. Does not allocate if the map is empty.
     pub fn copy(&self) -> Result<Self, OutOfMemory>
         ensures copy { IfOk result (λ copy. copy ≡ self.now) }
         ensures memory { OnErr result (0 < map.len self.now) }

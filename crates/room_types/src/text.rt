@@ -1,4 +1,4 @@
-//! Types of texts, each with a grammar.
+//! Texts that belong to a grammar. Each grammar has its own type of texts.
 ghost use Rattle.std.specs.Prelude.{◌≡◌, List, ℕ, Bool, true, false, IfOk, IfErr, ◌⊎◌, refl, Some};
 ghost use Rattle.std.specs.Cmp.Lexicographic.{nat_list_cmp_total, nat_list_eq_equiv, texts_po, texts_ties};
 ghost use Rattle.std.specs.Cmp.{partial_equiv_from_equiv};
@@ -10,7 +10,7 @@ use std::cmp::Ordering;
 use std::fmt;
 use std::marker::{Model, PhantomData};
 
-/// The grammar of a type of texts.
+/// A grammar: it determines which texts a `Text` can hold.
 pub trait Grammar {
     ghost is_text: { List ℕ → Bool };
 
@@ -19,7 +19,8 @@ pub trait Grammar {
         ensures { result ≡ is_text text.now };
 }
 
-/// A text of the grammar G. Contracts see it as its bytes, and texts compare by their bytes.
+/// A text of the grammar `G`. Contracts treat a text as the list of its bytes. Texts are compared lexicographically
+/// by their bytes.
 #[derive(Drop)]
 pub struct Text<G: Grammar> {
     text: String,

@@ -1,5 +1,6 @@
-//! A reader or writer that counts its reads, its flushes and the bytes that it took. It records a failure, the end of its
-//! input, a wasted call, and whether bytes wait for a flush.
+//! A wrapper that monitors a reader or writer. It counts reads, flushes and the bytes that writes took. It records
+//! whether a call failed, whether a read reached the end, whether a call was wasted, and whether bytes wait for a
+//! flush.
 ghost use Rattle.std.specs.Prelude.{◌≡◌, ◌&&◌, ◌||◌, false};
 ghost use Rattle.std.specs.Io.{ReadsAtMost, WritesAtMost};
 ghost use Rattle.std.specs.Io.KnownBytes.{Keeps, ReadConsumes, WriteAppends};
@@ -12,10 +13,10 @@ mod streams;
 use crate::device::{Sink, Source};
 use std::io::{Read, Result, Write};
 
-/// A monitored reader or writer. It records whether a call failed, how many reads and flushes were made, how many bytes it
-/// took, whether it took any since a flush last succeeded, whether a read found the end, and whether a call was wasted.
-/// Each call passes the whole buffer to the device once and returns what the device returned. The monitoring does not
-/// allocate.
+/// A wrapper that monitors a reader or writer. It counts reads, flushes and the bytes that writes took. It records
+/// whether a call failed, whether a read reached the end, whether a call was wasted, and whether bytes wait for a
+/// flush. Each read, write or flush makes one call of the inner reader or writer, with the whole buffer, and returns
+/// the result of that call. The monitoring does not allocate.
 #[derive(Drop)]
 pub struct Watched<T> {
     inner: T,
@@ -52,7 +53,7 @@ impl<T> Watched<T> {
         }
     }
 
-    /// Returns whether any call failed, or a write of a non-empty buffer wrote 0 bytes.
+    /// Returns whether a call has failed. A write that takes 0 bytes of a non-empty buffer counts as failed.
     pub fn failed(&self) -> bool
         ensures { result ≡ watched_failed self.now }
     {
@@ -66,7 +67,7 @@ impl<T> Watched<T> {
         self.reads
     }
 
-    /// Returns the number of bytes taken, saturating at `u64::MAX`.
+    /// Returns the number of bytes that writes took, saturating at `u64::MAX`.
     pub fn taken(&self) -> u64
         ensures { result ≡ watched_taken self.now }
     {
@@ -80,29 +81,33 @@ impl<T> Watched<T> {
         self.flushes
     }
 
-    /// Returns whether bytes were taken since a flush last succeeded, or since the start if none did.
+    /// Returns whether bytes wait for a flush: a write took at least one byte, and no flush has succeeded after that
+    /// write.
     pub fn pending(&self) -> bool
         ensures { result ≡ watched_pending self.now }
     {
         self.pending
     }
 
-    /// Returns whether a read returned 0 although its buffer was not empty.
+    /// Returns whether a read has reached the end, that is, returned 0 although its buffer was not empty.
     pub fn ended(&self) -> bool
         ensures { result ≡ watched_ended self.now }
     {
         self.ended
     }
 
-    /// Returns whether a call was wasted: made after a failure, a read after the end, or a read or a write with an empty
-    /// buffer.
+    /// Returns whether a call was wasted. These calls are wasted:
+    ///
+    /// - a read, a write or a flush after a failure that `failed` reports,
+    /// - a read after an earlier read reached the end,
+    /// - a read or a write with an empty buffer.
     pub fn wasted(&self) -> bool
         ensures { result ≡ watched_wasted self.now }
     {
         self.wasted
     }
 
-    /// Returns the reader or writer inside.
+    /// Returns the inner reader or writer.
     pub fn into_inner(self) -> T
         ensures { result ≡ watched_inner self }
     {

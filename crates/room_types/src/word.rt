@@ -10,7 +10,8 @@ use std::marker::Model;
 /// The number of hexadecimal digits of a word.
 pub const WORD_DIGITS: usize = 16;
 
-/// A 64-bit lottery number, drawn for each participant of a round. Words compare by value.
+/// A word: a 64-bit lottery number. The draw of a round gives a word to each participant. Words are compared by
+/// value.
 #[derive(Clone, Copy, Debug, PartialEq, Eq, PartialOrd, Ord)]
 pub struct Word {
     value: u64,
@@ -27,7 +28,7 @@ impl Model for Word {
 }
 
 impl Word {
-    /// Makes the word of this value.
+    /// Makes the word with this value.
     pub fn new(value: u64) -> Word
         ensures { result ≡ value }
     {

@@ -12,11 +12,11 @@ use Rattle.office_lines.specs.declared.line.ParsedLine.TheVariants.{Ignored, Val
 abbrev pub is_space : ℕ → Bool
 is_space byte = byte == 32
 
--- at least one byte
+-- the text has at least one byte
 abbrev pub has_bytes : Text → Bool
 has_bytes text = not (length text == 0)
 
--- the words: the parts between spaces that are not empty
+-- the words of a text, which is split at spaces; empty parts are left out
 abbrev pub words_of : Text → List Text
 words_of text = filter has_bytes (slice_split is_space text)
 
@@ -28,24 +28,24 @@ is_comment line = nat_lt 0 (length line) && slice_index line 0 == 35
 abbrev pub is_blank : List ℕ → Bool
 is_blank text = list_all is_space text
 
--- the parsed line for a request, or for none
+-- a valid line if there is a request, otherwise an invalid line
 abbrev pub parsed_request : Option Request → ParsedLine
 parsed_request (Some request) = Valid request
 parsed_request None = Invalid
 
--- the parsed line of words
+-- parses the words of a line
 abbrev pub parsed_words : List Text → ParsedLine
 parsed_words words = parsed_request (request_of words)
 
--- the parsed line of a text that is no comment, without the carriage return at its end
+-- parses a line that is no comment; the carriage return at its end has been dropped
 unfoldable pub parsed_text : List ℕ → ParsedLine
 parsed_text text = if is_blank text then Ignored else if is_utf8 text then parsed_words (words_of text) else Invalid
 
--- the parsed line; one carriage return at its end is dropped
+-- parses a line; ignores one carriage return at the end of the line
 unfoldable pub parsed_line : List ℕ → ParsedLine
 parsed_line line = if is_comment line then Ignored else parsed_text (strip_carriage_return line)
 
--- the line is UTF-8, and its first word is that of a request
+-- the line is UTF-8, and its first word names a request
 unfoldable pub begins_request : List ℕ → Bool
 begins_request line =
     let text = strip_carriage_return line in

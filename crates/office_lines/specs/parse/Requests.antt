@@ -82,12 +82,12 @@ abbrev pub ask_what_if : List Text → Option Request
 ask_what_if (person ∷ rooms) = option_and_then (λ id. option_map (λ choices. Ask (WhatIf id choices)) (choices_in rooms)) (in_grammar is_person_id person)
 ask_what_if [] = None
 
--- the request, if no words follow its first one
+-- the request, if no words follow the first word of the line
 abbrev pub without_arguments : Request → List Text → Option Request
 without_arguments request [] = Some request
 without_arguments request (word ∷ rest) = None
 
--- the request of a kind with these words after the first one
+-- the request that the words after the first word make, if any; the first word names the kind `verb`
 abbrev pub request_after_word : Verb → List Text → Option Request
 request_after_word verb.Room rest = add_room rest
 request_after_word verb.Person rest = add_person rest
@@ -125,8 +125,9 @@ first_in is_text (word ∷ rest) = is_text word
 abbrev pub is_drawn_word : Text → Bool
 is_drawn_word word = is_some (word_of word)
 
--- Whether parsing the words after the first one allocates. It does if the number of words fits the request and the first value is
--- in its grammar; requests without values, and `moves`, never allocate.
+-- Whether parsing the words after the first word may allocate. Parsing may allocate if the number of words fits the
+-- kind of request and the first value is in its grammar. Parsing a request without values or a `moves` request never
+-- allocates.
 abbrev pub copies : Verb → List Text → Bool
 copies verb.Room rest = is_some (add_room rest)
 copies verb.Person rest = nat_le 3 (length rest) && first_in is_person_id rest
@@ -155,22 +156,22 @@ copies verb.Moves rest = false
 copies verb.Me rest = is_some (ask_me rest)
 copies verb.WhatIf rest = first_in is_person_id rest
 
--- whether parsing the words after the first one allocates; it does not if the first word names no request
+-- whether parsing the words after the first word may allocate; never if the first word names no request
 abbrev pub allocates_after : Option Verb → List Text → Bool
 allocates_after None rest = false
 allocates_after (Some verb) rest = copies verb rest
 
--- whether parsing the words as a request allocates
+-- whether parsing the words as a request may allocate
 abbrev pub allocates : List Text → Bool
 allocates [] = false
 allocates (first ∷ rest) = allocates_after (verb_of first) rest
 
--- the request, if the words are one
+-- the request that the words make, if any
 abbrev pub request_of : List Text → Option Request
 request_of [] = None
 request_of (first ∷ rest) = option_and_then (λ verb. request_after_word verb rest) (verb_of first)
 
--- there is a first word, and it is that of a request
+-- there is a first word, and it names a request
 abbrev pub names_request : List Text → Bool
 names_request [] = false
 names_request (first ∷ rest) = is_some (verb_of first)

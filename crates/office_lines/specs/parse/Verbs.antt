@@ -5,7 +5,7 @@ use Rattle.room_types.specs.Texts.{Text}
 use Rattle.office_lines.specs.declared.parse.requests.Verb.{Verb}
 use Rattle.office_lines.specs.declared.parse.requests.Verb.TheVariants as verb
 
--- the kind of request that a first word names, if it names one
+-- the kind of request that the word names as the first word of a line, if any
 abbrev pub verb_of : Text → Option Verb
 verb_of word =
     if bytes_eq word (codes "room") then Some verb.Room

@@ -15,11 +15,11 @@ right_in width text = replicate (width - length text) 32 ++ text
 abbrev pub grade_suffix : ℕ → Text
 grade_suffix grade = if grade == 0 then [] else codes " grade " ++ grade_text grade
 
--- the place padded to 4 columns, the word, the identifier and the grade
+-- the line of a row: the place, padded to 4 columns, then the lottery number, the person and the grade
 abbrev pub order_line : ℕ → OrderRow → Text
 order_line place row = line_of (right_in 4 (decimal place) ∷ codes " " ∷ word_text row.word ∷ codes " " ∷ row.person ∷ grade_suffix row.grade ∷ [])
 
--- a line for each row; the first row has this place
+-- a line for each row; the first row has the place `place`
 abbrev pub order_lines : ℕ → List OrderRow → Text
 order_lines place [] = []
 order_lines place (row ∷ rows) = order_line place row ++ order_lines (place + 1) rows

@@ -10,7 +10,7 @@ use Rattle.office_core.specs.declared.refusal.Refusal.{Refusal}
 use Rattle.office_lines.specs.render.OutputLines.{line_of}
 use Rattle.office_core.specs.declared.refusal.Refusal.TheVariants.{BadPhase, UnknownPerson, UnknownRoom, DuplicateRoom, DuplicatePerson, KeyInUse, RoomShut, RoomTaken, HasHome, NoHome, Withdrawn, WrongWordCount, LimitReached, ListDiffers, BadRecord, NotInRound, NoSuchRound, NotShut, OutOfMemory, Going}
 
--- what is wrong with a record of a list
+-- the text of a cause, which says what is wrong with a record of an imported list
 abbrev pub cause_text : Cause → Text
 cause_text Header = codes "header"
 cause_text NotText = codes "text"
@@ -19,7 +19,7 @@ cause_text (BadField number) = codes "field " ++ decimal number
 cause_text TooMany = codes "many"
 cause_text (Denied number) = codes "refusal " ++ decimal number
 
--- the values of a refusal, after a space; empty for a refusal without values
+-- a space and the values of a refusal; empty for a refusal without values
 abbrev pub refusal_values : Refusal → Text
 refusal_values (BadPhase phase) = codes " " ++ phase_text phase
 refusal_values (UnknownRoom room) = codes " " ++ room
@@ -42,6 +42,6 @@ refusal_values NotShut = []
 refusal_values OutOfMemory = []
 refusal_values Going = []
 
--- the line of a refusal: its number, its name and its values
+-- the line of a refusal: `refused`, then the refusal's number, name and values
 abbrev pub refusal_text : Refusal → Text
 refusal_text refusal = line_of (codes "refused " ∷ decimal (number_of refusal) ∷ codes " " ∷ name_of refusal ∷ refusal_values refusal ∷ [])

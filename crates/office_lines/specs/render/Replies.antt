@@ -12,11 +12,11 @@ use Rattle.office_core.specs.declared.reply.Standing.{Standing}
 use Rattle.office_lines.specs.render.OutputLines.{line_of}
 use Rattle.office_lines.specs.render.OrderLines.{order_text}
 
--- each code after a space
+-- the room codes, with a space before each code
 abbrev pub spaced : List Text → Text
 spaced rooms = flat_map (λ room. codes " " ++ room) rooms
 
--- the tenant who lost the home, if there was one
+-- ` displaced ` and the tenant who lost their home; empty if there was no tenant
 abbrev pub displaced_text : Option Text → Text
 displaced_text None = []
 displaced_text (Some person) = codes " displaced " ++ person
@@ -24,15 +24,15 @@ displaced_text (Some person) = codes " displaced " ++ person
 abbrev pub yes_or_no : Bool → Text
 yes_or_no answer = if answer then codes "yes" else codes "no"
 
--- the room or `none`; `hidden` if the result is not shown
+-- the result: a room or `none` if the result is shown, otherwise `hidden`
 abbrev pub result_text : Standing → Text
 result_text standing = if standing.shown then or_none standing.result else codes "hidden"
 
--- how many people leave the college; empty if nobody does
+-- ` going ` and the number of people who leave the college; empty if the number is 0
 abbrev pub going_text : ℕ → Text
 going_text going = if going == 0 then [] else codes " going " ++ decimal going
 
--- the eight lines that a person sees
+-- the eight lines that show a person their standing
 abbrev pub standing_text : Standing → Text
 standing_text standing =
     line_of (codes "person " ∷ standing.person ∷ [])

@@ -14,8 +14,8 @@ use office_core::{Command, Query};
 use office_store::Request;
 use std::alloc::Global;
 
-/// The kind of request that the first word of a line names. Each variant is named after its word: `Room` after `room`, `WhatIf`
-/// after `whatif`.
+/// The kind of request that the first word of a line names. Each variant has the name of this word: `Room` stands for
+/// `room`, and `WhatIf` for `whatif`.
 #[derive(Clone, Copy, Debug, PartialEq, Eq, Drop)]
 pub enum Verb {
     Room,
@@ -46,7 +46,7 @@ pub enum Verb {
     WhatIf,
 }
 
-/// Returns the kind of request that a first word names, or `None` if it names none.
+/// Returns the kind of request that `word` names as the first word of a line, or `None` if `word` names no kind.
 pub fn verb_of(word: &str) -> Option<Verb>
     ensures { result ≡ verb_of word.now }
 {
@@ -85,9 +85,9 @@ pub fn verb_of(word: &str) -> Option<Verb>
 ///
 /// # Errors
 ///
-/// `NotUnderstood`, only if the words are not a request. `OutOfMemory` if an allocation fails. Nothing is allocated
-/// unless the number of words fits the request and the first value is in its grammar. A request without values allocates
-/// nothing, and neither does `moves`.
+/// `NotUnderstood` if the words are not a request, or `OutOfMemory` if an allocation fails. Parsing allocates only if
+/// the number of words fits the kind of request and the first value is in its grammar. Parsing a request without
+/// values or a `moves` request never allocates.
 pub fn words_to_command(alloc: Global, words: &[&str]) -> Result<Request, WordFault>
     ensures understands { Understands (request_of (map (λ word. word.now) words.now)) result }
     ensures memory { OutOfMemoryOnlyIf (allocates (map (λ word. word.now) words.now)) result }
@@ -99,7 +99,7 @@ pub fn words_to_command(alloc: Global, words: &[&str]) -> Result<Request, WordFa
     request_after_word(alloc, verb, rest)
 }
 
-// Parses the words after the first one.
+// Parses the words that follow the first word of a line, which names the kind `verb`.
 fn request_after_word(alloc: Global, verb: Verb, rest: &[&str]) -> Result<Request, WordFault>
     ensures understands { Understands
         (request_after_word verb (map (λ word. word.now) rest.now)) result }
@@ -311,7 +311,7 @@ fn parse_what_if(alloc: Global, words: &[&str]) -> Result<Request, WordFault>
     }
 }
 
-// Returns the request if no words follow its first one.
+// Returns the request if no words follow the first word. Otherwise fails with `NotUnderstood`.
 fn without_arguments(words: &[&str], request: Request) -> Result<Request, WordFault>
     ensures understands { Understands
         (without_arguments request (map (λ word. word.now) words.now)) result }

@@ -21,7 +21,8 @@ pub const ROUND_DIGITS: usize = 4;
 ///
 /// # Errors
 ///
-/// `NotUnderstood` if the word is not in the grammar; `OutOfMemory` only if it is.
+/// `NotUnderstood` if the word is not in the grammar. `OutOfMemory` if an allocation fails, which happens only for a
+/// word in the grammar.
 pub(crate) fn value_of<G: Grammar>(alloc: Global, word: &str) -> Result<Text<G>, WordFault>
     ensures understands { Understands (in_grammar G.is_text word.now) result }
     ensures memory { OutOfMemoryOnlyIf (G.is_text word.now) result }
@@ -33,12 +34,12 @@ pub(crate) fn value_of<G: Grammar>(alloc: Global, word: &str) -> Result<Text<G>,
     }
 }
 
-/// Parses the only word, which must be of the grammar `G`.
+/// Parses the only word in `words`, which must be in the grammar `G`.
 ///
 /// # Errors
 ///
-/// `NotUnderstood` if there is not exactly one word, or it is not in the grammar; `OutOfMemory` only if there is
-/// exactly one word and it is in the grammar.
+/// `NotUnderstood` unless there is exactly one word and the word is in the grammar. `OutOfMemory` if an allocation
+/// fails, which happens only for one word in the grammar.
 pub(crate) fn only_value<G: Grammar>(alloc: Global, words: &[&str]) -> Result<Text<G>, WordFault>
     ensures understands { Understands
         (only G.is_text (map (λ word. word.now) words.now)) result }
@@ -51,7 +52,7 @@ pub(crate) fn only_value<G: Grammar>(alloc: Global, words: &[&str]) -> Result<Te
     }
 }
 
-/// Parses a name: the words, joined by one space.
+/// Joins the words with single spaces, and parses the result as a name.
 ///
 /// # Errors
 ///
@@ -63,11 +64,12 @@ pub(crate) fn name_of(alloc: Global, words: &[&str]) -> Result<Name, WordFault>
     value_of(alloc, name.as_str())
 }
 
-/// Parses a list of room codes, one from each word.
+/// Parses a preference list. Each word is one room code.
 ///
 /// # Errors
 ///
-/// `NotUnderstood` if a word is not a room code, a code repeats or there are too many; `OutOfMemory` if an allocation fails.
+/// `NotUnderstood` if a word is not a room code, if a code occurs twice, or if there are too many codes.
+/// `OutOfMemory` if an allocation fails.
 pub(crate) fn choices_in(alloc: Global, words: &[&str]) -> Result<Choices, WordFault>
     ensures { Understands (choices_in (map (λ word. word.now) words.now)) result }
 {
@@ -91,11 +93,12 @@ fn codes_of(alloc: Global, words: &[&str]) -> Result<Vec<RoomCode>, WordFault>
     Ok(codes)
 }
 
-/// Parses the lottery numbers of a draw, one from each word.
+/// Parses the lottery numbers of a draw. Each word is one lottery number.
 ///
 /// # Errors
 ///
-/// `NotUnderstood` if a word is not a lottery number; `OutOfMemory` only if the first word is one.
+/// `NotUnderstood` if a word is not a lottery number. `OutOfMemory` if an allocation fails, which happens only if the
+/// first word is a lottery number.
 pub(crate) fn drawn_words(alloc: Global, words: &[&str]) -> Result<Listing<Word>, WordFault>
     ensures understands { Understands (all_of word_of (map (λ word. word.now) words.now)) result }
     ensures memory { OutOfMemoryOnlyIf

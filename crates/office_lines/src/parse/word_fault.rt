@@ -1,4 +1,4 @@
-//! Errors of parsing words.
+//! The error of a parser for the words of a line.
 ghost use Rattle.std.specs.Prelude.{◌≡◌};
 
 use std::alloc::{AllocError, AllocFailed};
@@ -6,7 +6,7 @@ use std::alloc::{AllocError, AllocFailed};
 /// Why words were not parsed.
 #[derive(Clone, Copy, Debug, PartialEq, Eq, Drop)]
 pub enum WordFault {
-    /// The words have no meaning.
+    /// The words are not what the parser accepts, such as a request or a room code.
     NotUnderstood,
     /// An allocation failed.
     OutOfMemory,

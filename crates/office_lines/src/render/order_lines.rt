@@ -1,4 +1,4 @@
-//! Prints the drawn order.
+//! Formats the drawn order as text.
 ghost use Rattle.std.specs.Prelude.{◌≡◌, ◌<◌, ◌++◌, IfOk, OnErr, OnOk, length, string_bytes};
 ghost use Rattle.office_lines.specs.render.OrderLines.{order_line, order_text, right_in, grade_suffix};
 
@@ -6,15 +6,15 @@ use office_core::OrderRow;
 use room_types::{Grade, OutOfMemory};
 use std::alloc::{AllocError, Global};
 
-/// The width of the column of places.
+/// The width of the column that shows the place of each row.
 const PLACE_WIDTH: usize = 4;
 
-/// Returns one line for each row, in the given order, with places counted from 1. Returns no bytes, without an allocation, if
-/// there are no rows.
+/// Returns one line for each row, in the order of `rows`. Each line starts with the row's place, counted from 1. If
+/// there are no rows, returns an empty text and allocates nothing.
 ///
 /// # Errors
 ///
-/// `OutOfMemory`, only if there are rows.
+/// `OutOfMemory` if an allocation fails. This never happens if there are no rows.
 #[tactic(auto, using(crate::proofs::answer_texts::Bytes::order_text_some))]
 pub fn order_text(alloc: Global, rows: &[OrderRow]) -> Result<String, OutOfMemory>
     ensures text { IfOk result (λ text. string_bytes text ≡ order_text rows.now) }
@@ -29,7 +29,7 @@ pub fn order_text(alloc: Global, rows: &[OrderRow]) -> Result<String, OutOfMemor
     Ok(text)
 }
 
-// Appends the line of a row.
+// Appends the line of a row that has this place.
 fn push_order_row(
     alloc: Global,
     text: &mut String,

@@ -1,4 +1,4 @@
-//! Prints refusals.
+//! Formats refusals as text.
 ghost use Rattle.std.specs.Prelude.{◌≡◌, ◌++◌, IfOk, OnOk, string_bytes};
 ghost use Rattle.office_lines.specs.render.RefusalTexts.{cause_text, refusal_text, refusal_values};
 
@@ -7,7 +7,7 @@ use office_lists::Cause;
 use room_types::OutOfMemory;
 use std::alloc::{AllocError, Global};
 
-/// Returns the line of a refusal: its number, its name and its values.
+/// Returns the line to print for a refusal: `refused`, then the refusal's number, name and values.
 ///
 /// # Errors
 ///
@@ -23,7 +23,7 @@ pub fn refusal_text(alloc: Global, refusal: &Refusal) -> Result<String, OutOfMem
     Ok(text)
 }
 
-// Appends the values of the refusal, if it has any, after a space.
+// Appends a space and the values of the refusal. Appends nothing if the refusal has no values.
 fn push_values(text: &mut String, refusal: &Refusal) -> Result<(), AllocError>
     ensures { OnOk result
         (string_bytes text.new ≡ string_bytes text.old ++ refusal_values refusal.now) }
@@ -54,7 +54,7 @@ fn push_values(text: &mut String, refusal: &Refusal) -> Result<(), AllocError>
     }
 }
 
-// Appends what is wrong with a record of a list.
+// Appends the text of a cause, which says what is wrong with a record of an imported list.
 fn push_cause(text: &mut String, cause: Cause) -> Result<(), AllocError>
     ensures { OnOk result
         (string_bytes text.new ≡ string_bytes text.old ++ cause_text cause) }

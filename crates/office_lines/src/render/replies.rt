@@ -1,4 +1,4 @@
-//! The text and the status of a response, and the texts of replies.
+//! Turns a response into its text and exit status, and a reply into its text.
 ghost use Rattle.std.specs.Prelude.{◌≡◌, ◌<◌, ◌++◌, [], ◌∷◌, IfOk, OnErr, OnOk, false, length, string_bytes};
 ghost use Rattle.std.specs.Cow.{cow_str_bytes};
 ghost use Rattle.office_core.specs.Replies.{RowsAscend};
@@ -16,26 +16,27 @@ use room_types::{OutOfMemory, PersonId, Phase, RoomCode};
 use std::alloc::{AllocError, Global};
 use std::borrow::CowStr;
 
-/// The status of a line whose request was accepted, or that has no response.
+/// The exit status of a line that gets no response or whose request was accepted.
 pub const ACCEPTED: u8 = 0;
 
-/// The status of a line whose request was refused.
+/// The exit status of a line whose request was refused.
 pub const REFUSED: u8 = 1;
 
-/// The status of a line that is not understood.
+/// The exit status of a line that is not understood.
 pub const NOT_UNDERSTOOD: u8 = 2;
 
-/// The status of a line that failed because memory ran out or a device failed.
+/// The exit status of a line that failed because memory ran out or a device failed.
 pub const UNAVAILABLE: u8 = 3;
 
-/// Returns the text to print for a response. The rows of a reply must ascend, as in the answers of a handler.
+/// Returns the text to print for a response. The rows of a reply must ascend; a handler's answers meet this
+/// condition.
 ///
-/// The texts `unavailable` and `not understood` are constants and are borrowed, so that the program can report that it is out of
-/// memory without an allocation.
+/// The texts `unavailable` and `not understood` are borrowed constants. So the program needs no allocation to report
+/// that it is out of memory.
 ///
 /// # Errors
 ///
-/// `OutOfMemory`, only if the text is neither a constant nor empty.
+/// `OutOfMemory` if an allocation fails. This never happens if the text is a constant or empty.
 pub fn text_of(alloc: Global, response: &Response) -> Result<CowStr<'static, Global>, OutOfMemory>
     requires ascending { ResponseAscends response.now }
     ensures text { IfOk result (λ text. cow_str_bytes text ≡ text-of response.now) }
@@ -53,7 +54,7 @@ pub fn text_of(alloc: Global, response: &Response) -> Result<CowStr<'static, Glo
     }
 }
 
-/// Returns the status of the line that got this response.
+/// Returns the exit status of a line that got this response.
 pub fn exit_status(response: &Response) -> u8
     ensures { result ≡ status-of response.now }
 {
@@ -65,11 +66,12 @@ pub fn exit_status(response: &Response) -> u8
     }
 }
 
-/// Returns the lines of a reply. The rows of the reply must ascend, as in the replies of `answer` and `decide`.
+/// Returns the lines to print for a reply. The rows of the reply must ascend; the replies of `answer` and `decide`
+/// meet this condition.
 ///
 /// # Errors
 ///
-/// `OutOfMemory`, only if the text is not empty.
+/// `OutOfMemory` if an allocation fails. This never happens if the text is empty.
 pub fn reply_text(alloc: Global, reply: &Reply) -> Result<String, OutOfMemory>
     requires ascending { RowsAscend reply.now }
     ensures text { IfOk result (λ text. string_bytes text ≡ reply_text reply.now) }
@@ -158,7 +160,7 @@ fn text_of_round(
     Ok(text)
 }
 
-// Appends how many people leave the college, if anybody does.
+// Appends ` going ` and the number of people who leave the college. Appends nothing if the number is 0.
 fn push_going(text: &mut String, going: usize) -> Result<(), AllocError>
     ensures { OnOk result (string_bytes text.new ≡ string_bytes text.old ++ going_text going) }
 {
@@ -168,7 +170,7 @@ fn push_going(text: &mut String, going: usize) -> Result<(), AllocError>
     write!(text, " going {going}")
 }
 
-// Returns the eight lines that a person sees.
+// Returns the eight lines that show a person their standing, from `person` to `result`.
 fn standing_text(alloc: Global, standing: &Standing) -> Result<String, OutOfMemory>
     ensures { IfOk result (λ text. string_bytes text ≡ standing_text standing.now) }
 {
@@ -192,7 +194,7 @@ fn yes_or_no(answer: bool) -> &'static str
     if answer { "yes" } else { "no" }
 }
 
-// Returns the room or `none`, or `hidden` if the result is not shown.
+// Returns the result: a room or `none` if the result is shown, otherwise `hidden`.
 fn result_text(standing: &Standing) -> &str
     ensures { result.now ≡ result_text standing.now }
 {
@@ -203,7 +205,7 @@ fn result_text(standing: &Standing) -> &str
     }
 }
 
-// Appends a line of a heading and a value.
+// Appends a line that consists of the heading and the value.
 fn push_line(text: &mut String, heading: &str, value: &str) -> Result<(), AllocError>
     ensures { OnOk result
         (string_bytes text.new ≡ string_bytes text.old ++ line_of (heading.now ∷ value.now ∷ [])) }
@@ -213,7 +215,7 @@ fn push_line(text: &mut String, heading: &str, value: &str) -> Result<(), AllocE
     text.push_str("\n")
 }
 
-// Appends a line of a heading and room codes, each after a space.
+// Appends a line that consists of the heading and the room codes, with a space before each code.
 fn push_rooms(text: &mut String, heading: &str, rooms: &[RoomCode]) -> Result<(), AllocError>
     ensures { OnOk result
         (string_bytes text.new

@@ -8,6 +8,6 @@ pub enum Response {
     Nothing,
     /// The answer to a request.
     Answered(Answer),
-    /// The line is not understood.
+    /// The line could not be parsed: it is not UTF-8, or its words are not a request.
     NotUnderstood,
 }

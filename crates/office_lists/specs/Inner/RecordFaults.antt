@@ -1,4 +1,4 @@
--- Why one record, or one field of it, is not read.
+-- The faults of one record and of one field of a record.
 use Rattle.std.specs.Prelude.{◌≡◌, ◌⊎◌, ℕ, Bool, false, Option, Some}
 use Rattle.std.specs.Option.{option_map}
 use Rattle.room_types.specs.declared.fault.TypeFault.{TypeFault}
@@ -10,23 +10,24 @@ use Rattle.office_lists.specs.declared.fault.ListFault.TheVariants as list
 use Rattle.office_lists.specs.declared.fault.RecordFault.{RecordFault}
 use Rattle.office_lists.specs.declared.fault.RecordFault.TheVariants as one
 
--- the error of a list whose record `at` has this fault
+-- the error of a list in which record `at` has this fault
 abbrev pub at_record : ℕ → RecordFault → ListFault
 at_record at (one.Bad cause) = list.Bad at cause
 at_record at one.OutOfMemory = list.OutOfMemory
 
--- the fault of a record whose field `number` has this fault
+-- the fault of a record in which field `number` has this fault
 abbrev pub field_fault : ℕ → TypeFault → RecordFault
 field_fault number type.OutOfMemory = one.OutOfMemory
 field_fault number type.BadValue = one.Bad (BadField number)
 field_fault number type.TooManyChoices = one.Bad (BadField number)
 field_fault number (type.RoomRepeated code) = one.Bad (BadField number)
 
--- the record is not read, for this cause or out of memory
+-- a fault with which parsing a record may fail: `OutOfMemory`, or `cause` if there is one
 abbrev pub FailsFor : Option Cause → RecordFault → Type 0
 FailsFor cause fault = (fault ≡ one.OutOfMemory) ⊎ (option_map (λ why. one.Bad why) cause ≡ Some fault)
 
--- field `number` is not read: it is outside its grammar, or memory runs out
+-- a fault with which parsing field `number` may fail: `OutOfMemory`, or `BadField number` if the field is outside its
+-- grammar
 abbrev pub FailsAt : ℕ → Bool → RecordFault → Type 0
 FailsAt number in_grammar fault =
     (fault ≡ one.OutOfMemory) ⊎ ((fault ≡ one.Bad (BadField number)) × (in_grammar ≡ false))

@@ -1,10 +1,10 @@
--- The inverse of following the leavers.
+-- Successors of entries: if entry j is the leaver of entry i's new room, entry i is the successor of entry j.
 use Rattle.std.specs.Prelude.{◌≡◌, ℕ, ◌+◌, ◌<◌, List, length, slice_index_or, Option, Some, ◌⊎◌}
 use Rattle.room_types.specs.declared.moves.Wave.{Wave}
 use Rattle.room_types.specs.declared.moves.Wave.TheVariants.{Swap, Nth}
 use Rattle.office_lists.specs.Waves.{next, followed}
 
--- each leaver is an entry, and no two entries have the same leaver
+-- each leaver is the index of an entry, and no two entries have the same leaver
 pub record AreInjective (leavers : List (Option ℕ)) : Type 0 where
   pub within : (i j : ℕ) → next leavers i ≡ Some j → j < length leavers
   pub one : (i j k : ℕ) → next leavers i ≡ Some k → next leavers j ≡ Some k → i ≡ j
@@ -19,8 +19,8 @@ pub record AreSuccessors (leavers successors : List (Option ℕ)) : Type 0 where
 abbrev pub IsNumbered : List Wave → ℕ → Type 0
 IsNumbered waves i = (number : ℕ) × (slice_index_or waves i Swap ≡ Nth number)
 
--- Each entry on the chain that ends at `end` has a number: the one that it had before, or its distance from `end` plus
--- `first`. All other entries are as before.
+-- `new` gives a number to each entry on the chain that ends at `end`: the number from `old`, or the entry's distance
+-- from `end` plus `first`. All other entries have the same wave in `new` as in `old`.
 pub record NumbersChain (successors : List (Option ℕ)) (end first : ℕ) (old new : List Wave) : Type 0 where
   pub reached : (count i : ℕ) → followed successors count end ≡ Some i → IsNumbered new i
   pub right : (i number : ℕ) → slice_index_or new i Swap ≡ Nth number

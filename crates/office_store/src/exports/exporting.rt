@@ -16,23 +16,23 @@ ghost use Rattle.office_store.specs.exports.Stepping.{GivesRecord, IsAtStart, Ke
 use crate::exports::ending::ExportEnd;
 use crate::exports::exported::Exported;
 use office_lists::{ExportKind, head_bytes};
-use room_types::send::send;
+use office_lists::send::send;
 use room_types::{GradeRow, Move, PersonRow, RoomRow, Watched};
 use sqlite::{Alter, Connection, Rows};
 use std::alloc::Global;
 use std::io::Write;
 
-// The database failed to give the next record, or memory ran out.
+// The database failed to return the next row, the row had an unexpected form, or memory ran out.
 #[derive(Drop)]
 struct NoRecord;
 
-/// Writes the export of the office whose rows the tables hold. Reads the rows one at a time from one query, and writes
-/// each before it reads the next. Does not flush. Changes no table.
+/// Writes the export of the office whose rows the tables hold. Reads the rows one at a time from one query, and
+/// writes each before it reads the next. Does not flush. Changes no table.
 ///
 /// # Errors
 ///
-/// `Fault` if a write fails or accepts no bytes. `Unavailable` if the database fails or memory runs out; the bytes written are
-/// then whole records.
+/// `Fault` if a write fails or accepts no bytes. `Unavailable` if the database fails, a row has an unexpected form,
+/// or memory runs out; the bytes written are then whole records.
 pub fn export<S: Alter, W: Write>(
     alloc: Global,
     conn: &mut Connection<S>,
@@ -176,7 +176,8 @@ fn send_rows<E: Exported, S: Alter, W: Write>(
     Err(ExportEnd::Unavailable { sent })
 }
 
-// Returns the bytes of the next row's record, or `None` after the last row. Fails if the database fails or memory runs out.
+// Returns the bytes of the next row's record, or `None` after the last row. Fails if the database fails, the row has
+// an unexpected form, or memory runs out.
 fn next_record<E: Exported, S: Alter>(
     alloc: Global,
     rows: &mut Rows<'_, S>,

@@ -1,4 +1,4 @@
-//! Monitored streams.
+//! Reads, writes and flushes of a monitored stream, that is, of a `Watched<T>` where `T` is a `Stream`.
 ghost use Rattle.std.specs.Prelude.{◌≡◌, ◌&&◌, ◌||◌};
 ghost use Rattle.std.specs.Io.{ReadsAtMost, WritesAtMost};
 ghost use Rattle.std.specs.Io.KnownBytes.{Keeps, ReadConsumes, WriteAppends};
@@ -11,7 +11,8 @@ use crate::watched::Watched;
 use std::io::Result;
 
 impl<T: Stream> Watched<T> {
-    /// Reads once. The bytes written are unchanged.
+    /// Calls `read_some` of the inner stream once, records the call, and returns its result. The bytes written to the
+    /// stream so far are unchanged.
     pub fn read_some(&mut self, buf: &mut [u8]) -> Result<usize>
         ensures bound { ReadsAtMost result buf.new }
         ensures bytes { ReadConsumes (T.remaining (watched_inner self.old))
@@ -45,7 +46,8 @@ impl<T: Stream> Watched<T> {
         }
     }
 
-    /// Writes once. The bytes left to read are unchanged.
+    /// Calls `write_some` of the inner stream once, records the call, and returns its result. The bytes left to read
+    /// are unchanged.
     pub fn write_some(&mut self, buf: &[u8]) -> Result<usize>
         ensures bound { WritesAtMost result buf.now }
         ensures bytes { WriteAppends (T.contents (watched_inner self.old))
@@ -83,7 +85,8 @@ impl<T: Stream> Watched<T> {
         }
     }
 
-    /// Flushes once. The bytes written and the bytes left to read are unchanged.
+    /// Calls `flush_all` of the inner stream once, records the call, and returns its result. The bytes written and
+    /// the bytes left to read are unchanged.
     pub fn flush_all(&mut self) -> Result<()>
         ensures bytes { Keeps (T.contents (watched_inner self.old))
             (T.contents (watched_inner self.new)) }

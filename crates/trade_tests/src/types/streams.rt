@@ -1,7 +1,7 @@
-//! Tests of a reader and a writer as one stream.
+//! Tests of a `Pair`, which makes one stream of a reader and a writer.
 use super::{Faulty, kind, new_device, wanted_at};
 use crate::asserting::assert_same;
-use room_types::send::send;
+use office_lists::send::send;
 use room_types::stream::Pair;
 use room_types::{Stream, Watched};
 use std::io;
@@ -49,7 +49,7 @@ fn faulty_pair() -> Pair<Faulty, Faulty> {
     }
 }
 
-// Whether the devices counted ten calls of the reader with three bytes each, ten of the writer with two, and ten flushes.
+// Whether the devices counted ten reads of three bytes each, ten writes of two bytes each, and ten flushes.
 fn are_all_passed_on(
     input: Pair<Faulty, Faulty>,
     output: Pair<Faulty, Faulty>,
@@ -61,7 +61,8 @@ fn are_all_passed_on(
     read && written && cleared
 }
 
-// Each call of a pair, also one after a failure, makes one call of its reader or of its writer, and returns what that returned.
+// Each call of a pair makes one call of its reader or of its writer and returns the result of that call, even after a
+// failure.
 #[test]
 fn pairs_forward_each_call(rt: HostRuntime) {
     let mut input = faulty_pair();
@@ -76,7 +77,7 @@ fn pairs_forward_each_call(rt: HostRuntime) {
     assert!(rt; are_all_passed_on(input, output, flushed));
 }
 
-// The same for a pair inside a `Watched`.
+// Each call of a pair inside a `Watched` also makes one call of the pair's reader or writer, even after a failure.
 #[test]
 fn watched_pairs_forward_each_call(rt: HostRuntime) {
     let mut input = Watched::new(faulty_pair());

@@ -6,7 +6,7 @@ use Rattle.std.proofs.lemmas.List.{length-drop, length-take}
 use Rattle.room_types.specs.Watched.{counted, is_empty_buffer}
 use Rattle.room_types.specs.Streams.{count_after}
 use Rattle.room_types.proofs.watched_bytes.Streams.{Puts-nil, Puts-none, count_after-counted, take_rest, kept_by_write, or_known, nonempty_buffer}
-use Rattle.room_types.proofs.send.send.Goals as goal
+use Rattle.office_lists.proofs.send.send.Goals as goal
 
 pub loop-sent-init : goal.loop-sent-init
 loop-sent-init g c = record { within = omega arith; written = Puts-nil _; flushes = refl; failed = refl; stops = λ e. refl }

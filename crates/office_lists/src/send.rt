@@ -3,15 +3,15 @@ ghost use Rattle.std.specs.Prelude.{◌≡◌, ◌<◌, length, take, OnOk, OnEr
 ghost use Rattle.room_types.specs.Watched.{watched_failed, watched_flushes, StopsAtFailure};
 ghost use Rattle.room_types.specs.Streams.{Puts, output_of};
 
-use crate::watched::Watched;
+use room_types::Watched;
 use std::io::Write;
 
-/// Writes the whole text. Does not flush.
+/// Writes the whole text to `output`, in as many writes as needed. Does not flush.
 ///
 /// # Errors
 ///
-/// The number of bytes written before the first write that failed or took nothing. The number is less than the length
-/// of the text, and no write follows.
+/// If a write fails or takes no byte, `send` makes no further write and returns the number of bytes written before.
+/// This number is less than the length of the text.
 pub fn send<W: Write>(output: &mut Watched<W>, text: &[u8]) -> Result<(), usize>
     ensures sent { OnOk result
         (Puts (output_of W.contents output.old) (output_of W.contents output.new) text.now) }
@@ -24,7 +24,7 @@ pub fn send<W: Write>(output: &mut Watched<W>, text: &[u8]) -> Result<(), usize>
     ensures flushes { watched_flushes output.new ≡ watched_flushes output.old }
     ensures stops { StopsAtFailure output.old output.new }
 {
-    // The proof needs this call: from it the prover knows that the count fits in 64 bits.
+    // The proof needs this call: its result is a `u64`, so the prover knows that the count fits in 64 bits.
     let _taken = output.taken();
     let mut sent = 0;
     while sent < text.len() {

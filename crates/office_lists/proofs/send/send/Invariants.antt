@@ -1,7 +1,7 @@
 use Rattle.std.proofs.Common.{length, ◌-◌, ◌≡◌, ◌≤◌, take}
 use Rattle.room_types.specs.Watched.{watched_failed, watched_flushes, StopsAtFailure}
 use Rattle.room_types.specs.Streams.{Puts, output_of}
-use Rattle.room_types.proofs.send.send.Given as goal
+use Rattle.office_lists.proofs.send.send.Given as goal
 
 -- the first `sent` bytes are written, and no write has failed
 abbrev pub invariant-loop-sent : goal.invariant-loop-sent
