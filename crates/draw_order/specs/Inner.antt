@@ -1,2 +1,2 @@
--- Definitions that only inner contracts, invariants and proofs use.
+-- Definitions that only invariants, proofs and the contracts of private functions use.
 pub mod SortKeys

@@ -1,8 +1,8 @@
 //! A theorem about the drawn order without grades.
 ghost use Rattle.draw_order.specs.Draw.{GoesByWordAlone};
 
-/// Theorem: if all grades are 0, the drawn order is the order by word and identifier alone. So a round without grades has
-/// the order that it had before grades existed. The function does nothing.
+/// Theorem: if all grades are 0, the drawn order is the order by word and identifier alone, as if there were no
+/// grades. The function does nothing; its contract states the theorem.
 pub fn zero_grades()
     ensures { GoesByWordAlone }
 {}

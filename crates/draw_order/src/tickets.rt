@@ -8,9 +8,9 @@ ghost use Rattle.draw_order.specs.Inner.SortKeys.{ticket_of};
 use room_types::{Grade, OutOfMemory, PersonId, Word};
 use std::alloc::Global;
 
-/// Puts the participants of a round in priority order and returns their identifiers: ascending by grade, then by word,
-/// then by identifier. Each ticket holds a participant's identifier, their grade, and the word that was drawn for them.
-/// Makes O(n log n) comparisons. Does not allocate if there are no tickets.
+/// Returns the identifiers of a round's participants in priority order: ascending by grade, then by word, then by
+/// identifier. Each ticket holds a participant's identifier, their grade, and the word that was drawn for them. Makes
+/// O(n log n) comparisons. Does not allocate if there are no tickets.
 pub fn order(
     alloc: Global,
     tickets: &[(PersonId, Grade, Word)],
@@ -27,7 +27,7 @@ pub fn order(
     identifiers(alloc, &ascending)
 }
 
-// Returns the sort keys of the tickets: grade, word, and identifier.
+// Returns the sort key of each ticket: grade, word, and identifier.
 fn sort_keys(
     alloc: Global,
     tickets: &[(PersonId, Grade, Word)],
@@ -49,7 +49,7 @@ fn sort_ascending(sort_keys: &mut Vec<(Grade, Word, &PersonId)>)
     sort_keys.sort_unstable();
 }
 
-// Copies the identifiers, in the same order.
+// Copies the identifiers from the sort keys, in the same order.
 fn identifiers(
     alloc: Global,
     sort_keys: &[(Grade, Word, &PersonId)],
@@ -63,8 +63,8 @@ fn identifiers(
     Ok(people)
 }
 
-/// Theorem: tickets have exactly one drawn order, the one that `drawn_order` of `specs/` computes. The function does
-/// nothing.
+/// Theorem: for any tickets, there is exactly one drawn order, which `drawn_order` in `specs/Draw.antt` computes.
+/// This function does nothing; its contract states the theorem.
 pub fn one_drawn_order()
     ensures { (tickets : List Ticket) → HasOneDrawnOrder tickets }
 {}

@@ -7,8 +7,8 @@ use rand_core::Rng;
 use room_types::{OutOfMemory, Word};
 use std::alloc::Global;
 
-/// Draws `count` words: the next results of the generator's `next_u64`, in order. If the allocation fails, nothing is drawn
-/// and the generator is unchanged. Does not allocate for 0 words.
+/// Draws `count` words: the next results of the generator's `next_u64`, in order. If the allocation fails, the call
+/// draws no word and leaves the generator unchanged. Does not allocate for 0 words.
 pub fn words_from<R: Rng>(
     alloc: Global,
     generator: &mut R,

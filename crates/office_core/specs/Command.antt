@@ -47,7 +47,7 @@ use Rattle.office_core.specs.Command.Settle as settle
 use Rattle.office_core.specs.Command.Shut as shut
 use Rattle.office_core.specs.Command.Withdraw as withdraw
 
--- the refusals of a command, in their order
+-- the checks of a command, in the order in which the office makes them
 abbrev pub checks : Office → Command → List Check
 checks office (command.AddRoom room) = add_room.checks office room
 checks office (command.AddPerson person name key home) =
@@ -70,7 +70,7 @@ checks office (command.Import label kind bytes) = import_list.checks office labe
 checks office (command.SetGrade person grade) = set_grade.checks office person
 checks office (command.Going person) = going.checks office person
 
--- the first refusal that applies, or none
+-- the first refusal that applies to the command, or `None` if the office accepts the command
 abbrev pub accepts : Office → Command → Option Refusal
 accepts office command = first_refusal (checks office command)
 

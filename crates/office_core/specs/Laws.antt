@@ -12,7 +12,8 @@ ends_round command.Settle = true
 ends_round command.Cancel = true
 ends_round _ = false
 
--- the round goes on with the same entries, number and results, and its phase still has results
+-- the two offices have the same entries (`HaveSameEntries`), the same round number and the same results, and the
+-- phase of the second still has results
 pub record KeepsResults (one other : Office) : Type 0 where
   pub entries : HaveSameEntries one other
   pub number : one.number ≡ other.number

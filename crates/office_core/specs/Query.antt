@@ -34,7 +34,8 @@ returned office (query.Moves number) = moves.returned office number
 returned office (query.Me key) = me.returned office key
 returned office (query.WhatIf person choices) = what_if.returned office person choices
 
--- If the query is `WhatIf`, the reply shows no gain by the other list. Any other query meets this condition.
+-- If the query is `WhatIf`, the person gains nothing by the other list. The reply to any other query meets this
+-- condition.
 abbrev pub GainsNothing : Office → Query → Reply → Type 0
 GainsNothing office (query.WhatIf person choices) reply = what_if.GainsNothing office person reply
 GainsNothing office _ reply = Unit {0}

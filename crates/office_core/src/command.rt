@@ -71,7 +71,7 @@ pub enum Command {
     },
     /// Makes the lists final.
     CloseRound,
-    /// Gives each participant a lottery number: the first word to the first participant by identifier, and so on.
+    /// Gives each participant a lottery number: the participants, sorted by identifier, get the words in order.
     Draw {
         words: Listing<Word>,
     },

@@ -1,4 +1,5 @@
-//! The office of a college's room exchange: commands that change it, queries that read it, replies and refusals.
+//! The office of a college's room exchange. `decide` decides a command: it returns a reply and the changes to apply,
+//! or a refusal. `answer` answers a query: it returns a reply or a refusal.
 #![tactic(auto)]
 
 mod command;

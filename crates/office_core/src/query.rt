@@ -14,21 +14,21 @@ use room_types::{Choices, Key, PersonId};
 /// A query by the office or by a resident.
 #[derive(Drop)]
 pub enum Query {
-    /// The rooms by code.
+    /// Asks for the rooms, sorted by code.
     Rooms,
-    /// The people by identifier.
+    /// Asks for the people, sorted by identifier.
     People,
-    /// The number of the latest round (0 before the first), the phase, and three counts: all people, those who have
-    /// withdrawn, and those who leave the college.
+    /// Asks for the number of the latest round (0 before the first), the phase, and three counts: all people, those
+    /// who have withdrawn, and those who leave the college.
     Round,
-    /// The participants in the drawn order, with their lottery numbers and grades.
+    /// Asks for the participants in the drawn order, with their lottery numbers and grades.
     Order,
-    /// The results of the participants.
+    /// Asks for the results of the participants.
     Results,
-    /// The moves of the round of this number.
+    /// Asks for the moves of the round with this number.
     Moves(u16),
-    /// What the owner of this key sees.
+    /// Asks what the person with this key may see.
     Me(Key),
-    /// What another list would give a participant.
+    /// Asks which room this participant would get with this list in place of the recorded one.
     WhatIf(PersonId, Choices),
 }

@@ -11,7 +11,7 @@ use std::alloc::{AllocError, AllocFailed};
 /// Why a command or a query is refused. A refusal changes nothing.
 #[derive(Debug, Drop)]
 pub enum Refusal {
-    /// Not allowed in this phase.
+    /// The office does not allow the command or query in this phase.
     BadPhase(Phase),
     /// Nobody has this identifier, or this key.
     UnknownPerson,
@@ -39,11 +39,11 @@ pub enum Refusal {
     LimitReached,
     /// A different list is stored under this label.
     ListDiffers,
-    /// Record `at` of the list is bad. The header is record 0.
+    /// Record `at` of the list cannot be parsed, or the office refuses its command. The header is record 0.
     BadRecord { at: u32, cause: Cause },
     /// The person does not take part in the round, and so has no place in the order.
     NotInRound,
-    /// No round of this number is over: it is 0, has not begun, or is still under way.
+    /// The round is not over: its number is 0, or the round has not begun or is still under way.
     NoSuchRound,
     /// The room is not shut.
     NotShut,

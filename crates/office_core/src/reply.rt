@@ -4,7 +4,7 @@ use room_types::{
     Word,
 };
 
-/// A participant, with the lottery number and the grade.
+/// A row of `Reply::Order`: a participant with their lottery number and their grade.
 #[derive(Debug, Drop)]
 pub struct OrderRow {
     pub word: Word,
@@ -12,7 +12,7 @@ pub struct OrderRow {
     pub grade: Grade,
 }
 
-/// The reply to `me`: a person's own record and the round.
+/// The reply to the query `Me`: a person's own record, and the number and the phase of the round.
 #[derive(Debug, Drop)]
 pub struct Standing {
     pub person: PersonId,
@@ -26,9 +26,9 @@ pub struct Standing {
     pub withdrawn: bool,
     /// Whether the person leaves the college after the round.
     pub going: bool,
-    /// Whether the result is visible: it is published, and the person takes part in the round.
+    /// Whether the person may see the result: the results are published, and the person takes part in the round.
     pub shown: bool,
-    /// The room that the person gets; `None` for no room, or if the result is not shown.
+    /// The room that the round gives the person. `None` if the round gives no room, or if `shown` is `false`.
     pub result: Option<RoomCode>,
 }
 
@@ -51,7 +51,7 @@ pub enum Reply {
     },
     /// The person does not take part in the round.
     Withdrawn,
-    /// The lists are final; this number of people take part.
+    /// The lists are final; `participants` is the number of people who take part.
     Closed {
         participants: usize,
     },
@@ -67,19 +67,20 @@ pub enum Reply {
     Published {
         participants: usize,
     },
-    /// This number of people move.
+    /// The round is settled; `moves` is the number of people who move.
     Settled {
         moves: usize,
     },
     /// The round is cancelled.
     Cancelled,
-    /// The list has this number of records, which were added now or when it was first imported.
+    /// The list is imported, and `count` is the number of its records. An earlier import of the same list under this
+    /// label may already have added them.
     Added {
         count: u16,
     },
-    /// The rooms, by code.
+    /// The rooms, sorted by code.
     Rooms(Listing<RoomRow>),
-    /// The people, by identifier.
+    /// The people, sorted by identifier.
     People(Listing<PersonRow>),
     /// The number of the latest round (0 before the first), the phase, and three counts: all people, those who have
     /// withdrawn, and those who leave the college.
@@ -92,13 +93,13 @@ pub enum Reply {
     },
     /// The participants, in the drawn order.
     Order(Listing<OrderRow>),
-    /// The results of the participants, by identifier.
+    /// The results of the participants, sorted by the person's identifier.
     Results(Listing<ResultRow>),
-    /// The moves of a round, by identifier.
+    /// The moves of a round, sorted by the person's identifier.
     Moves(Listing<Move>),
-    /// What the owner of a key sees.
+    /// What the person with the key of the query may see.
     Me(Standing),
-    /// The room that the other list would give; `None` for no room.
+    /// The room that the person would get with the other list, or `None` for no room.
     WouldGet(Option<RoomCode>),
     /// The person leaves the college after the round.
     Going,

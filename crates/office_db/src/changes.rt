@@ -1,4 +1,4 @@
-//! Storing the changes of an office by statements on its tables, all changes of a command in one transaction.
+//! Stores the changes of an office by statements on its tables. One transaction stores all changes of a command.
 
 mod choices;
 mod grades;

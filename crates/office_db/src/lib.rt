@@ -1,4 +1,4 @@
-//! An office in a database: creating an empty one, storing changes and loading it.
+//! Creates an empty office in a database, stores the changes of an office, and loads an office.
 #![tactic(auto)]
 
 pub mod changes;

@@ -1,5 +1,5 @@
-//! The rows of an office's tables in a database: the columns of each kind of record, which rows have its form, and
-//! reading a row into its record.
+//! Reads the rows of an office's tables into records. For each kind of record, defines the columns of a record and
+//! the form that a row must have.
 
 mod choices;
 mod going;

@@ -1,4 +1,5 @@
-//! What an office is in a database: its rows as typed records, their cells, and the tables with the statements on them.
+//! How a database stores an office: the rows as typed records (`rows`), the cells of each row (`cells`), and the
+//! tables with the statements that change them (`tables`).
 #![tactic(auto)]
 
 pub mod cells;

@@ -1,5 +1,5 @@
-//! The rows of an office: typed records of its tables, and functions that rebuild an office from its records in any
-//! order. No definition or code here refers to a database.
+//! Defines the records that the tables of an office store, and rebuilds an office from these records. The records may
+//! be in any order. Nothing in this module refers to a database.
 
 mod choices;
 pub mod laws;

@@ -1,8 +1,11 @@
-//! The tables of an office in a database: one function for each statement, inside a transaction. Contracts give the
-//! effect of a statement on typed records. If the engine refuses a statement, or an allocation or the disk fails, then
-//! no row changes or the whole transaction is rolled back (`undone`, for an intact disk and an open connection).
-//! Nothing is committed (`inside`). `create_tables_from`, `clear_round_tables` and `migrate_tables` run several
-//! statements: if one of them fails, the effects of those before it may remain inside the transaction.
+//! Statements on the tables of an office in a database. Each function runs one statement inside a transaction, but
+//! `create_tables_from`, `clear_round_tables` and `migrate_tables` run several.
+//!
+//! The contract of a function states the effect of its statements on typed records. A statement fails if the engine
+//! refuses it, or if an allocation or the disk fails. A failed statement changes no row, or the whole transaction is
+//! rolled back. The clause `undone` states this for an intact disk and an open connection. If one of several
+//! statements fails, the effects of the statements before it may remain inside the transaction. No function commits
+//! anything, as the clause `inside` states.
 
 pub mod choices;
 pub mod creating;

@@ -16,7 +16,7 @@ use Rattle.office_state.specs.declared.change.Change.TheVariants.{AddMove}
 use Rattle.office_state.specs.declared.change.Change.TheVariants.{PutRound, ClearRound}
 use Rattle.office_state.specs.declared.change.Change.TheVariants.{KeepList, PutGrade, PutGoing}
 
--- the office in which a person has this home, or none; if the person is unknown, the office as it was
+-- the office after setting or clearing a person's home; the same office if the person is unknown
 abbrev pub with_home : Office → Text → Option Text → Office
 with_home office person home = elim (map.get office.people person) [
   | None ↦ office
@@ -31,18 +31,18 @@ without_person office person = record office {
   grades = map.remove office.grades person;
 }
 
--- the lists with the list of a person; an empty list is not stored
+-- the preference lists after setting a person's list. An empty list is not stored: it removes the person's list.
 abbrev pub with_list : TextMap (List Text) → Text → List Text → TextMap (List Text)
 with_list lists person [] = map.remove lists person
 with_list lists person (code ∷ codes) = map.insert lists person (code ∷ codes)
 
--- the grades with the grade of a person; grade 0 is not stored
+-- the grades after setting a person's grade. Grade 0 is not stored: it removes the person's grade.
 abbrev pub with_grade : TextMap ℕ → Text → ℕ → TextMap ℕ
 with_grade grades person zero = map.remove grades person
 with_grade grades person (suc grade) = map.insert grades person (suc grade)
 
--- the office without the entries of a round: the lists, withdrawals, words and results, and the records of who leaves
--- the college
+-- the office without the entries of a round: the preference lists, withdrawals, words and results, and the records of
+-- who leaves the college
 abbrev pub without_round : Office → Office
 without_round office = record office {
   choices = map.empty;
@@ -105,24 +105,25 @@ abbrev pub applied_all : Office → List Change → Office
 applied_all office [] = office
 applied_all office (change ∷ changes) = applied_all (applied office change) changes
 
--- homes differ before the changes, between any two of them, and after them
+-- no two people share a home before the changes, between any two of them, and after them
 abbrev pub HomesStayDistinct : Office → List Change → Type 0
 HomesStayDistinct office [] = HomesDiffer office
 HomesStayDistinct office (change ∷ changes) =
     HomesDiffer office × HomesStayDistinct (applied office change) changes
 
--- What a store of rows may rely on at each change. `first` is the office before all changes, and `office` is the office
--- just before this change.
+-- What code that stores changes in database rows may rely on at each change. `first` is the office before all
+-- changes, and `office` is the office just before this change.
 -- `PutRoom`: `office` knows the room if and only if `first` knows it.
 -- `PutPerson`: the person is unknown and has not withdrawn.
--- `DropPerson`: the person has not withdrawn and does not leave the college. If the person has a grade, they are known.
+-- `DropPerson`: the person has not withdrawn and does not leave the college. If the person has a grade, they are
+-- known.
 -- `PutWithdrawn`, `PutChoices`, `PutGrade`: the person is known.
 -- `PutWord`: the person is known and has no word yet.
 -- `PutResult`: the person is known and has no result yet.
 -- `AddMove`: the person has no move in that round yet.
--- `KeepList`: the label is new.
+-- `KeepList`: no list is stored under the label yet.
 -- `PutGoing`: the person is known and is not yet recorded as leaving the college.
--- All other changes fit.
+-- For all other changes there is no condition.
 abbrev pub Fits : Office → Office → Change → Type 0
 Fits first office (PutRoom room shut) = knows_room office room ≡ knows_room first room
 Fits first office (PutPerson person name key home) =
@@ -150,8 +151,8 @@ AllFit first office [] = Unit {0}
 AllFit first office (change ∷ changes) =
     Fits first office change × AllFit first (applied office change) changes
 
--- The changes lead from an office to the next one, which is lawful. Homes differ before and after each
--- change, and each change fits.
+-- The changes turn `office` into `next`, and `next` is lawful. No two people share a home before or after any of the
+-- changes, and each change satisfies `Fits`.
 pub record LeadsTo (office next : Office) (changes : List Change) : Type 0 where
   pub leads : applied_all office changes ≡ next
   pub apart : HomesStayDistinct office changes

@@ -1,19 +1,19 @@
-//! The changes of which commands consist.
+//! The elementary changes to an office. A command changes an office by applying a list of these changes.
 pub mod apply;
 
 use room_types::{
     Choices, Grade, Key, Label, ListKind, Listing, Move, Name, PersonId, Phase, RoomCode, Word,
 };
 
-/// One change of an office.
+/// One change to an office.
 #[derive(Drop)]
 pub enum Change {
-    /// Adds a room, or sets whether a room is shut.
+    /// Adds a room. If the room is known, only sets whether it is shut.
     PutRoom {
         room: RoomCode,
         shut: bool,
     },
-    /// Adds a person, or replaces what is stored about a person.
+    /// Adds a person. If the person is known, replaces their name, key and home.
     PutPerson {
         person: PersonId,
         name: Name,
@@ -33,17 +33,17 @@ pub enum Change {
     PutWithdrawn {
         person: PersonId,
     },
-    /// Sets a person's list. An empty list is not stored: it removes the person's list.
+    /// Sets a person's preference list. An empty list is not stored: it removes the person's recorded list.
     PutChoices {
         person: PersonId,
         choices: Choices,
     },
-    /// Sets the word that a person drew.
+    /// Sets the word that was drawn for a person.
     PutWord {
         person: PersonId,
         word: Word,
     },
-    /// Sets a person's result in the round: a room, or none.
+    /// Sets a person's result in the round: a room or no room.
     PutResult {
         person: PersonId,
         room: Option<RoomCode>,
@@ -55,16 +55,16 @@ pub enum Change {
         number: u16,
         phase: Phase,
     },
-    /// Removes all lists, withdrawals, words and results, and the records of who leaves the college.
+    /// Removes all preference lists, withdrawals, words and results, and the records of who leaves the college.
     ClearRound,
-    /// Stores an imported list under a label, with the number of records that it added.
+    /// Stores an imported list under a label. `count` is the number of records that the import added.
     KeepList {
         label: Label,
         kind: ListKind,
         bytes: Listing<u8>,
         count: u16,
     },
-    /// Sets a person's grade. Grade 0 is not stored: it removes the person's grade.
+    /// Sets a person's grade. Grade 0 is not stored: it removes the person's recorded grade.
     PutGrade {
         person: PersonId,
         grade: Grade,

@@ -1,5 +1,6 @@
-//! The state of a college's room exchange office: what it stores, the changes to it, a round's problem and results, and the
-//! test that a state is lawful.
+//! The state of a college's room exchange office. `Office` is the state, and `apply` applies a `Change` to it. The
+//! module `round` computes a round's results, and `sound` tests whether a state is lawful: whether it satisfies all
+//! invariants.
 #![tactic(auto)]
 
 mod change;

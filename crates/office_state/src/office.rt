@@ -21,7 +21,7 @@ use std::alloc::{AllocError, Global};
 /// The result of a participant in a round.
 #[derive(Debug, Drop)]
 pub struct Assigned {
-    /// The room, or `None` for no room.
+    /// The room that the participant gets, or `None` if they get no room.
     pub room: Option<RoomCode>,
 }
 
@@ -42,27 +42,30 @@ impl ExactClone for Assigned {
     ghost same = { λ x y h. h };
 }
 
-/// The rooms and people of a college, the round under way, the moves of earlier rounds, and the imported lists.
+/// Everything that the office stores: the college's rooms and people, the round under way, the moves of earlier
+/// rounds, and the imported lists.
 #[derive(Drop)]
 pub struct Office {
-    /// Each known room, and whether it is shut.
+    /// The known rooms. The value is `true` if the room is shut.
     pub rooms: Table<RoomCodes, bool>,
     pub people: Table<PersonIds, Person>,
     /// The rooms that each person listed, best first. In a lawful office no list is empty.
     pub choices: Table<PersonIds, Choices>,
-    /// Who has withdrawn from the round.
+    /// The people who have withdrawn from the round.
     pub withdrawn: Table<PersonIds, ()>,
-    /// The word that each participant drew.
+    /// The random word that was drawn for each participant. Within a grade, a participant with a smaller word comes
+    /// earlier in the drawn order.
     pub words: Table<PersonIds, Word>,
-    /// The result of each participant: a room, or none.
+    /// The result of each participant: a room or no room.
     pub results: Table<PersonIds, Assigned>,
-    /// The recorded moves of each round. In a lawful office these rounds are over, and no table is empty.
+    /// The recorded moves, by round. In a lawful office each of these rounds is settled or cancelled, and has at
+    /// least one move.
     pub moves: Rounds<RoundMoves>,
     /// The imported lists, by label.
     pub lists: Table<Labels, StoredImport>,
-    /// The recorded grades. In a lawful office none is 0.
+    /// The recorded grades. A person without an entry has grade 0, and a lawful office has no entry for grade 0.
     pub grades: Table<PersonIds, Grade>,
-    /// Who leaves the college after the round.
+    /// The people who leave the college after the round.
     pub going: Table<PersonIds, ()>,
     /// The number of the latest round, or 0 before the first.
     pub number: u16,
@@ -91,7 +94,7 @@ impl Office {
         }
     }
 
-    /// Copies the office. An office without entries is copied without an allocation.
+    /// Copies the office. Does not allocate if all tables are empty.
     ///
     /// # Errors
     ///

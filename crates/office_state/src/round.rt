@@ -1,4 +1,4 @@
-//! The round: its problem, its results, what another list would give, and who moves.
+//! Computes a round: its trading problem, its results, what a participant would get with another list, and who moves.
 pub mod laws;
 mod lists;
 mod names;

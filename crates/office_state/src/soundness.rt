@@ -1,4 +1,4 @@
-//! Whether a state is a lawful office.
+//! Tests whether a state is lawful: whether it satisfies all invariants of an office.
 mod grades;
 mod imports;
 mod leavers;
@@ -27,9 +27,9 @@ use crate::soundness::words::are_valid_words;
 use room_types::OutOfMemory;
 use std::alloc::Global;
 
-/// Returns whether the office obeys its invariants, in n log n steps and one run of the round. Allocates only to compare keys
-/// and homes, and to compute the results again. If it finds a broken invariant before it allocates, it returns `false` and
-/// cannot fail.
+/// Returns whether the office satisfies all its invariants. Takes n log n steps for n entries and listed rooms, and
+/// at most one run of the round. Allocates only to compare keys and homes, and to compute the results again. If the
+/// call finds a broken invariant before it allocates, it returns `false` and cannot fail.
 ///
 /// # Errors
 ///

@@ -1,5 +1,5 @@
--- The calls that serving a connection makes on its stream. Each call is one of the relations `reads`, `writes` and
--- `flushes` of the trait `Stream`.
+-- The calls that the server makes on the stream of a connection. The relations `reads`, `writes` and `flushes` of the
+-- trait `Stream` each describe one call.
 use Rattle.std.specs.Prelude.{◌≡◌, ◌⊎◌, ℕ, zero, suc, ◌+◌, ◌<◌, ◌≤◌, List, [], ◌++◌, length, take, drop, Ok, Err}
 use Rattle.std.specs.declared.io.Error.{Error}
 use Rattle.room_types.specs.declared.stream.Stream.{Ghosts as Calls}
@@ -8,7 +8,8 @@ use Rattle.resident_http.specs.declared.served.Served.{Served}
 use Rattle.resident_http.specs.declared.served.Served.TheVariants.{Answered, ReadFault, Silent, WriteFault}
 
 module _ {T : Type 0} (calls : Calls T) where
-  -- The bytes so far need more, and one read returned at least one byte.
+  -- The bytes `before`, read so far, were an incomplete request. One more read returned at least one byte. `bytes`
+  -- are all bytes read after it.
   pub record ReadsOnce (before bytes : List ℕ) (old new : T) : Type 0 where
     pub buffer_before : List ℕ
     pub buffer : List ℕ
@@ -19,17 +20,17 @@ module _ {T : Type 0} (calls : Calls T) where
     pub within : count ≤ length buffer
     pub joined : bytes ≡ before ++ take count buffer
 
-  -- this number of reads, one after another, returned these bytes
+  -- This number of reads, one after another, returned these bytes in total.
   abbrev pub ReadsEach : ℕ → List ℕ → T → T → Type 0
   ReadsEach zero bytes old new = (bytes ≡ []) × (new ≡ old)
   ReadsEach (suc times) bytes old new =
       (before : List ℕ) × (between : T) × ReadsEach times before old between × ReadsOnce before bytes between new
 
-  -- some number of reads, one after another, returned these bytes
+  -- Some number of reads, one after another, returned these bytes in total.
   abbrev pub Reads : List ℕ → T → T → Type 0
   Reads bytes old new = (times : ℕ) × ReadsEach times bytes old new
 
-  -- one read into a nonempty buffer found the end
+  -- one read into a nonempty buffer returned 0: it found the end of the stream
   abbrev pub FindsEnd : T → T → Type 0
   FindsEnd old new =
       (buffer_before : List ℕ) × (buffer : List ℕ) × (0 < length buffer) × calls.reads old buffer_before buffer (Ok 0) new
@@ -40,12 +41,14 @@ module _ {T : Type 0} (calls : Calls T) where
       (buffer_before : List ℕ) × (buffer : List ℕ) × (error : Error) × (0 < length buffer)
       × calls.reads old buffer_before buffer (Err error) new
 
-  -- The reads returned these bytes. If the bytes need more, one further read found the end.
+  -- Reads, one after another, returned these bytes. If the bytes are an incomplete request, one further read found
+  -- the end of the stream.
   abbrev pub ReadsAll : List ℕ → Asked → T → T → Type 0
   ReadsAll bytes more old new = (between : T) × Reads bytes old between × FindsEnd between new
   ReadsAll bytes asked old new = Reads bytes old new
 
-  -- one write of all the remaining text took at least one byte of it
+  -- One write was given the text after its first `before` bytes, and took at least one byte. Then `sent` bytes of the
+  -- text had been written.
   pub record WritesOnce (text : List ℕ) (before sent : ℕ) (old new : T) : Type 0 where
     pub count : ℕ
     pub called : calls.writes old (drop before text) (Ok count) new
@@ -62,14 +65,16 @@ module _ {T : Type 0} (calls : Calls T) where
   abbrev pub Writes : List ℕ → ℕ → T → T → Type 0
   Writes text sent old new = (times : ℕ) × WritesEach text times sent old new
 
-  -- The writes took the first `sent` bytes of the text, but not all. Then one write of the rest failed or took none.
+  -- Writes, one after another, took the first `sent` bytes of the text, which are not all of it. The next write, of
+  -- the remaining bytes, failed or took no byte.
   abbrev pub FailsToWrite : List ℕ → ℕ → T → T → Type 0
   FailsToWrite text sent old new =
       (between : T) × (sent < length text) × Writes text sent old between
       × (calls.writes between (drop sent text) (Ok 0) new
       ⊎ ((error : Error) × calls.writes between (drop sent text) (Err error) new))
 
-  -- The writes took the whole text, and one flush succeeded. Or a write failed, or that flush did.
+  -- `Answered`: writes took the whole text, and one flush succeeded. `WriteFault`: a write failed, or the flush after
+  -- the whole text failed. The other endings are impossible here.
   abbrev pub Sends : Served → List ℕ → T → T → Type 0
   Sends (Answered status) text old new = (between : T) × Writes text (length text) old between × calls.flushes between (Ok tt) new
   Sends (WriteFault sent) text old new =

@@ -1,4 +1,4 @@
--- Serving one connection, by how it ends.
+-- What serving one connection does to the connection and the handler, for each way in which it can end.
 use Rattle.std.specs.Prelude.{◌≡◌, ◌⊎◌, ℕ, ◌+◌, ◌<◌, ◌≤◌, Bool}
 use Rattle.std.specs.Prelude.{true, false, if◌then◌else◌, List, [], length, take, Option, OnSome}
 use Rattle.std.specs.Io.KnownBytes.{Consumes, IsAtEnd, Keeps}
@@ -15,11 +15,12 @@ use Rattle.resident_http.specs.Serving.{Answers}
 use Rattle.resident_http.specs.declared.served.Served.{Served}
 use Rattle.resident_http.specs.declared.served.Served.TheVariants.{Answered, ReadFault, Silent, WriteFault}
 
--- the greatest number of bytes read from a connection, and of reads
+-- the greatest number of bytes that are read from a connection, and also the greatest number of reads
 abbrev pub connection_limit : ℕ
 connection_limit = 9216
 
--- a stream: its state, its input, its output, and whether a read has found its end
+-- A connection: the state of its stream, the input that it reads, the output that it writes, and whether a read has
+-- found the end.
 pub record Connection (T : Type 0) : Type 0 where
   pub stream : T
   pub input : Input
@@ -48,8 +49,9 @@ pub record IsDelivered (bytes : List ℕ) (before after : Output) : Type 0 where
   pub clear : after.pending ≡ false
   pub well : after.failed ≡ false
 
--- The stream failed. Either fewer than all bytes were written, exactly the first `sent`, and nothing was flushed. Or all
--- were written, and the one flush that followed failed, so they are still pending.
+-- The stream failed in one of two ways. Either a write failed: exactly the first `sent` bytes were written, which are
+-- not all, and nothing was flushed. Or all bytes were written, and the one flush after them failed. Then the bytes,
+-- if there are any, are still pending.
 abbrev pub IsCut : ℕ → List ℕ → Output → Output → Type 0
 IsCut sent bytes before after =
     (after.failed ≡ true)
@@ -57,9 +59,8 @@ IsCut sent bytes before after =
     ⊎ ((sent ≡ length bytes) × Puts before after bytes × (after.flushes ≡ counted before.flushes 1)
     × (0 < sent → after.pending ≡ true)))
 
--- `Answered`: all bytes were written, one flush followed, nothing failed, and the returned status is this one. `WriteFault`: the
--- stream failed, either after the first `sent` bytes, which are not all, or at the one flush that followed all of them. No other
--- ending satisfies this.
+-- `Answered` means that all bytes were written, one flush followed, nothing failed, and the returned status is
+-- `status`. `WriteFault` means that the stream failed, as `IsCut` describes. The other endings are impossible here.
 abbrev pub Delivers : Served → ℕ → List ℕ → Output → Output → Type 0
 Delivers (Answered returned) status bytes before after = (returned ≡ status) × IsDelivered bytes before after
 Delivers (WriteFault sent) status bytes before after = IsCut sent bytes before after
@@ -67,16 +68,17 @@ Delivers Silent status bytes before after = ⊥
 Delivers ReadFault status bytes before after = ⊥
 
 module _ {T H : Type 0} (calls : Calls T) (handles : H → Request → DeskAnswer → H → Type 0) where
-  -- A response to the parsed bytes was written, or a prefix of it, by writes and a flush of the stream.
+  -- A response to the parsed bytes was written and flushed. If the stream failed, only a prefix of the response was
+  -- written, or the flush failed.
   pub record Responds (asked : Asked) (old new : H) (served : Served) (before after : Output) (first last : T) : Type 0 where
     pub answer : Answer
     pub answers : Answers handles asked old answer new
     pub delivers : Delivers served answer.status (bytes_of answer) before after
     pub sends : Sends calls served (bytes_of answer) first last
 
-  -- These bytes were read, with at most one read for each, and the response to them was written. If they need more, one
-  -- further read may have been made, and the stream had ended after at least one byte; otherwise no read found its end. The
-  -- reads led to the stream `between`, and the writes and the flush continued from there.
+  -- `bytes` were read, with at most one read for each byte, and the response to them was written. If they are an
+  -- incomplete request, there is at least one byte, and one further read found the end of the stream. Otherwise no
+  -- read found the end. The reads led to the stream `between`, and the writes and the flush continued from there.
   pub record Replies (old new : H) (served : Served) (before after : Connection T) : Type 0 where
     pub bytes : List ℕ
     pub asked : Asked
@@ -91,7 +93,8 @@ module _ {T H : Type 0} (calls : Calls T) (handles : H → Request → DeskAnswe
         × OnSome before.input.remaining (IsAtEnd after.input.remaining)
     pub responds : Responds asked old new served before.output after.output between after.stream
 
-  -- The stream had ended before any byte, as one read found.
+  -- One read found that the stream had ended before its first byte. Nothing was written, and the handler did not
+  -- change.
   pub record IsSilent (old new : H) (before after : Connection T) : Type 0 where
     pub called : FindsEnd calls before.stream after.stream
     pub read : Consumes before.input.remaining after.input.remaining []
@@ -101,7 +104,8 @@ module _ {T H : Type 0} (calls : Calls T) (handles : H → Request → DeskAnswe
     pub untouched : IsUntouched before.output after.output
     pub same : new ≡ old
 
-  -- The bytes read need more, and a read failed.
+  -- The bytes read were an incomplete request, and the next read failed. Nothing was written, and the handler did not
+  -- change.
   pub record CannotRead (old new : H) (before after : Connection T) : Type 0 where
     pub bytes : List ℕ
     pub between : T
@@ -115,7 +119,7 @@ module _ {T H : Type 0} (calls : Calls T) (handles : H → Request → DeskAnswe
     pub untouched : IsUntouched before.output after.output
     pub same : new ≡ old
 
-  -- serving one connection, by how it ended
+  -- what serving one connection did, for each way in which it ended
   abbrev pub ServesConnection : Served → H → H → Connection T → Connection T → Type 0
   ServesConnection (Answered status) old new before after = Replies old new (Answered status) before after
   ServesConnection Silent old new before after = IsSilent old new before after

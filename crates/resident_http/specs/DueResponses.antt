@@ -1,4 +1,4 @@
--- The responses that are due to a resident, given the desk's answer.
+-- Which response is due to a resident, for each answer of the desk and each fault of a request.
 use Rattle.std.specs.Prelude.{ℕ, List, codes}
 use Rattle.serde_json.specs.Written.{compact_text}
 use Rattle.room_types.specs.declared.fault.TypeFault.{TypeFault}
@@ -13,7 +13,7 @@ use Rattle.resident_requests.specs.Answers.{Answer}
 use Rattle.resident_requests.specs.Bodies.{rooms_data, standing_data}
 use Rattle.resident_requests.specs.Faults.{fault_answer, fault_name, success_answer}
 
--- the error response for a status with a single error name
+-- the error response for a status that has exactly one error name
 abbrev pub status_fault : ℕ → Answer
 status_fault status = fault_answer status (fault_name status)
 
@@ -25,18 +25,19 @@ unavailable_answer = fault_answer 503 (codes "Unavailable")
 abbrev pub standing_answer : Standing → Answer
 standing_answer standing = success_answer (compact_text (standing_data standing))
 
--- the response with the rooms
+-- the response that lists the rooms
 abbrev pub rooms_answer : List RoomRow → Answer
 rooms_answer rows = success_answer (compact_text (rooms_data rows))
 
--- the response to a body that is not a preference list
+-- the response to a body that could not be parsed as a preference list, given the fault
 abbrev pub list_fault : TypeFault → Answer
 list_fault fault.BadValue = status_fault 400
 list_fault fault.OutOfMemory = unavailable_answer
 list_fault fault.TooManyChoices = fault_answer 422 (codes "TooManyChoices")
 list_fault (fault.RoomRepeated room) = fault_answer 422 (codes "RoomRepeated")
 
--- The response to a resident's command that the office refuses. A command of theirs gets no other refusals.
+-- The response to a resident's command that the office refuses. The office refuses such a command only for the
+-- reasons that have their own line here.
 abbrev pub refusal_answer : Refusal → Answer
 refusal_answer (refusal.BadPhase phase) = fault_answer 409 (codes "BadPhase")
 refusal_answer refusal.Withdrawn = fault_answer 409 (codes "Withdrawn")

@@ -10,8 +10,9 @@ use Rattle.resident_requests.specs.Answers.{Answer}
 use Rattle.resident_requests.specs.Asks.{Asks, ask}
 use Rattle.resident_http.specs.Serving.{Serves}
 
--- Two offices agree on what this person can learn about themselves: name, key, home, preference list, whether they have
--- withdrawn or leave the college, and, once it is published, the result. The grade may differ.
+-- Two offices agree on what this person can learn about themselves: name, key, home, preference list, whether they
+-- have withdrawn, and whether they leave the college. Once the round's results are published, the offices also agree
+-- on this person's result. The grade may differ.
 pub record AgreeOnPerson (a b : Office) (person : Text) : Type 0 where
   pub record_of : map.get a.people person ≡ map.get b.people person
   pub choices : choices_of a person ≡ choices_of b person
@@ -19,13 +20,14 @@ pub record AgreeOnPerson (a b : Office) (person : Text) : Type 0 where
   pub going : is_going a person ≡ is_going b person
   pub result : is_published a.phase ≡ true → recorded_result a person ≡ recorded_result b person
 
--- The key belongs to the same person, if to anybody, and the offices agree on that person.
+-- The key has the same owner in both offices, or in both no owner. If it has an owner, the offices agree on that
+-- person.
 pub record AgreeOnKey (a b : Office) (key : Text) : Type 0 where
   pub whose : owner a key ≡ owner b key
   pub person : (person : Text) → owner a key ≡ Some person → AgreeOnPerson a b person
 
--- The offices agree on the rooms, which of them are occupied, and the round and its phase. If the bytes are a request with
--- a key, they agree on that key.
+-- The offices agree on the rooms, on which rooms are occupied, and on the round and its phase. If the bytes are a
+-- request with a key, the offices also agree on the owner of this key.
 pub record AgreeFor (bytes : List ℕ) (a b : Office) : Type 0 where
   pub rooms : a.rooms ≡ b.rooms
   pub occupied : (room : Text) → is_taken a room ≡ is_taken b room
@@ -34,7 +36,7 @@ pub record AgreeFor (bytes : List ℕ) (a b : Office) : Type 0 where
   pub own : (method path key body : List ℕ) (used : ℕ) → Asks bytes (ask method path (Some key) body used)
       → AgreeOnKey a b key
 
--- offices that agree serve the same responses
+-- if two offices agree as `AgreeFor` says, every response that one may serve to the bytes, the other may serve too
 abbrev pub RepliesByOwnRecord : Type 0
 RepliesByOwnRecord =
     (a b : Office) (bytes : List ℕ) (answer : Answer) (next : Office) → AgreeFor bytes a b

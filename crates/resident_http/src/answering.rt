@@ -23,8 +23,8 @@ use resident_requests::{
 use room_types::{Key, Listing, PersonId, RoomRow, TypeFault};
 use std::alloc::Global;
 
-/// Returns the response to the parsed bytes of a connection. No more bytes will come: if the request is incomplete, the
-/// response is 400.
+/// Returns the response to the parsed bytes of a connection. No more bytes will come: if the request is incomplete,
+/// the response is 400.
 pub fn answer_ask<H: Handler>(
     alloc: Global,
     handler: &mut H,
@@ -49,8 +49,8 @@ pub fn answer_ask<H: Handler>(
     }
 }
 
-// Returns the response to a request. Reports an unknown path before a wrong method, and a wrong method before a missing
-// key.
+// Returns the response to a request. Reports an unknown path before a wrong method, and a wrong method before a
+// missing key.
 fn answer_request<H: Handler>(
     alloc: Global,
     handler: &mut H,
@@ -102,7 +102,7 @@ fn authenticate<H: Handler>(
         Authenticates H.handles route key.now body.now handler.old answer handler.new) }
     ensures ready { H.is_ready handler.new }
 {
-    // The key of a request is in its grammar, so only an allocation can fail.
+    // The key was checked against the grammar of keys before, so `Key::read` fails only if an allocation fails.
     let Ok(key) = Key::read(alloc, key) else {
         return Err(ResponseUnavailable);
     };
@@ -110,7 +110,7 @@ fn authenticate<H: Handler>(
     authorize(alloc, handler, route, &me, body)
 }
 
-// Returns the response, given the desk's answer to who owns the key: 403 if nobody does.
+// Returns the response, given the desk's answer to the question who owns the key. The response is 403 if nobody does.
 fn authorize<H: Handler>(
     alloc: Global,
     handler: &mut H,
@@ -130,7 +130,7 @@ fn authorize<H: Handler>(
     }
 }
 
-// Returns the response to the owner of the key, by route.
+// Returns the response to a request by the owner of the key, according to the route.
 fn dispatch<H: Handler>(
     alloc: Global,
     handler: &mut H,
@@ -161,7 +161,7 @@ fn answer_standing(
     prepare_success(alloc, standing_body(alloc, standing)?)
 }
 
-// Returns the response with the rooms, which the desk lists.
+// Asks the desk for the rooms, and returns the response that lists them.
 fn answer_rooms<H: Handler>(
     alloc: Global,
     handler: &mut H,
@@ -177,7 +177,7 @@ fn answer_rooms<H: Handler>(
     }
 }
 
-// Returns the response with these rows.
+// Prepares the response that lists these rooms.
 fn prepare_rooms(alloc: Global, rows: &[RoomRow]) -> Result<PreparedResponse, ResponseUnavailable>
     ensures { WithAnswer result (IsDue (rooms_answer rows.now)) }
 {
@@ -246,7 +246,8 @@ fn prepare_list_fault(
     }
 }
 
-// Prepares every response that the command can get, passes it to the desk, and selects the response to the desk's answer.
+// Prepares a response for each answer that the command can get. Then lets the desk handle the command, and returns
+// the response for the desk's answer.
 fn execute<H: Handler>(
     alloc: Global,
     handler: &mut H,

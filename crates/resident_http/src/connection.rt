@@ -17,13 +17,14 @@ use resident_requests::{AskState, UNAVAILABLE_RESPONSE, read_ask};
 use room_types::{Stream, Watched};
 use std::alloc::Global;
 
-/// The greatest number of bytes read from a connection: the longest head and the longest body.
+/// The greatest number of bytes read from a connection: the length of the longest head plus that of the longest body.
 pub const CONNECTION_LIMIT: usize = 9_216;
 
-/// Reads one request from the stream, passes it to the handler, writes the response, and flushes once. Reads into the
-/// rest of a fixed buffer, without allocating, until the request is complete or refused, or the stream ends. If an
-/// allocation for the response fails, the response is 503, and no command was handled. Does not use the stream after a
-/// failure, nor read after its end. Uses the stream only for these reads, these writes and this flush.
+/// Reads one request from the stream, passes it to the handler, writes the response, and flushes once. Returns how
+/// this ended. The reads fill a fixed buffer and need no allocation. They end when the request is complete or
+/// refused, or when the stream ends. If an allocation for the response fails, the response is 503, and the handler
+/// has handled no command. After a failure, makes no further call on the stream. After the end of the stream, makes
+/// no further read. Makes no other calls on the stream than these reads, these writes and this flush.
 pub fn serve_connection<H: Handler, T: Stream>(
     alloc: Global,
     handler: &mut H,
@@ -57,7 +58,8 @@ pub fn serve_connection<H: Handler, T: Stream>(
     }
 }
 
-// Writes the response to the parsed bytes. No more bytes will come, even if the request is incomplete.
+// Writes the response to the parsed bytes, and flushes. No more bytes will come: the response to an incomplete
+// request is 400.
 fn respond<H: Handler, T: Stream>(
     alloc: Global,
     handler: &mut H,

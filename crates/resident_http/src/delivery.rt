@@ -11,8 +11,8 @@ use crate::served::Served;
 use http::StatusCode;
 use room_types::{Stream, Watched};
 
-/// Writes the whole response, and flushes. Returns `Answered` with this status, or `WriteFault` with the number of bytes
-/// written before a write or the flush failed.
+/// Writes the whole response, and flushes. Returns `Answered` with this status, or `WriteFault` with the number of
+/// bytes written before a write or the flush failed.
 pub fn deliver<T: Stream>(stream: &mut Watched<T>, status: StatusCode, text: &[u8]) -> Served
     requires { watched_failed stream.old ≡ false }
     ensures delivers { Delivers result status text.now
@@ -34,8 +34,8 @@ pub fn deliver<T: Stream>(stream: &mut Watched<T>, status: StatusCode, text: &[u
     }
 }
 
-// Writes the whole text, or returns the number of bytes written before a write failed. A write that takes no bytes counts
-// as failed.
+// Writes the whole text, or returns the number of bytes written before a write failed. A write that takes no bytes
+// counts as failed.
 fn send_all<T: Stream>(stream: &mut Watched<T>, text: &[u8]) -> Result<(), usize>
     requires { watched_failed stream.old ≡ false }
     ensures sent { OnOk result (Puts
@@ -57,7 +57,7 @@ fn send_all<T: Stream>(stream: &mut Watched<T>, text: &[u8]) -> Result<(), usize
     ensures ended { watched_ended stream.new ≡ watched_ended stream.old }
     ensures wasted { watched_wasted stream.new ≡ watched_wasted stream.old }
 {
-    // Reading the counter makes its bound known to the prover.
+    // Calling `taken` makes the bound of this counter known to the prover.
     let _taken = stream.taken();
     let mut sent = 0;
     while sent < text.len() {

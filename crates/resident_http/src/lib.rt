@@ -1,5 +1,5 @@
-//! Serves residents over HTTP. An exchange reads one request from a connection, lets the desk handle it, and writes the
-//! response. `server` listens on a port and carries out one exchange after another.
+//! Serves residents over HTTP. For each connection, the server reads one request, lets the desk handle it, and writes
+//! the response. The module `server` listens on a port and serves one connection after another.
 #![tactic(auto)]
 
 mod answering;

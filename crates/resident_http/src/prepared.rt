@@ -10,15 +10,15 @@ use resident_requests::{HttpAnswer, Method, answer_bytes, fault_name};
 use room_types::{Listing, OutOfMemory};
 use std::alloc::Global;
 
-/// The bytes of a response, with its status.
+/// A response whose bytes are ready to be written, with its status.
 #[derive(Debug, Drop)]
 pub struct PreparedResponse {
     pub status: StatusCode,
     pub bytes: Vec<u8>,
 }
 
-/// There is no prepared response to write, so the constant 503 response takes its place: an allocation failed, or the desk was
-/// unavailable.
+/// There is no prepared response to write, because an allocation failed or the desk was unavailable.
+/// `serve_connection` then writes the constant `UNAVAILABLE_RESPONSE` instead.
 #[derive(Clone, Copy, Debug, PartialEq, Eq)]
 pub struct ResponseUnavailable;
 
@@ -28,7 +28,7 @@ impl From<OutOfMemory> for ResponseUnavailable {
     }
 }
 
-/// Prepares this response.
+/// Prepares this response: builds its bytes. Fails if an allocation fails.
 fn prepare(alloc: Global, answer: HttpAnswer) -> Result<PreparedResponse, ResponseUnavailable>
     ensures { IfOk result (λ response. IsPrepared response answer) }
 {
@@ -62,8 +62,8 @@ pub fn prepare_fault(
     prepare(alloc, answer)
 }
 
-/// Prepares the error response for a status with a single error name, other than 405, whose response
-/// `prepare_wrong_method` prepares.
+/// Prepares the error response for a status that has exactly one error name. The status must not be 405:
+/// `prepare_wrong_method` prepares that response.
 pub fn status_fault(
     alloc: Global,
     status: StatusCode,
@@ -75,7 +75,7 @@ pub fn status_fault(
     prepare_fault(alloc, status, fault_name(status))
 }
 
-/// Prepares the response that names the method to use.
+/// Prepares the response to a request with a wrong method. The response names the method to use.
 pub fn prepare_wrong_method(
     alloc: Global,
     allow: Method,

@@ -9,8 +9,8 @@ use office_store::Answer;
 use room_types::Listing;
 use std::alloc::Global;
 
-/// A response for each answer that a resident's command can get. They are prepared before the desk handles the command, so
-/// that nothing has to be allocated once it has taken effect.
+/// A prepared response for each answer that a resident's command can get. `new` prepares them before the desk handles
+/// the command. Once the command has taken effect, its response needs no allocation.
 #[derive(Drop)]
 pub struct CommandResponses {
     pub success: PreparedResponse,
@@ -24,7 +24,7 @@ pub struct CommandResponses {
 impl CommandResponses {
     ghost use Rattle.std.specs.Prelude.{◌≡◌, ℕ, IfOk, List};
 
-    /// Prepares the responses, with this body for success.
+    /// Prepares all responses. The success response has this body. Fails if an allocation fails.
     pub fn new(alloc: Global, body: Listing<u8>) -> Result<CommandResponses, ResponseUnavailable>
         ensures { IfOk result (λ responses. AreCommandResponses responses body) }
     {
@@ -38,8 +38,8 @@ impl CommandResponses {
         })
     }
 
-    /// Returns the response to the desk's answer. Fails if the desk is unavailable, and for a refusal that no resident's
-    /// command gets.
+    /// Returns the response to the desk's answer. Fails if the desk was unavailable, or if the answer is a refusal
+    /// that a resident's command never gets.
     pub fn response_to(self, answer: &Answer) -> Result<PreparedResponse, ResponseUnavailable>
         ensures { (body : List ℕ) → AreCommandResponses self body
             → WithAnswer result (λ due. due ≡ command_answer body answer.now) }

@@ -1,4 +1,4 @@
-//! Serves residents at a desk: the connections of a listener, one after another.
+//! Listens on a port and serves residents at a desk, one connection after another.
 
 pub mod listener;
 pub mod serving;

@@ -18,9 +18,9 @@ use sqlite::{Alter, MemStore};
 use std::alloc::Global;
 
 /// Serves one resident: reads one request, lets the desk handle it, and writes the response, as `serve_connection`
-/// does. If the disk returned what was written to it, the response is one that `serve_connection` may write for the bytes
-/// read at the office that the desk represents. The desk then represents the office after this request, even if the
-/// response could not be written.
+/// does. If the disk returned what was written to it, the response is one that the office represented by the desk may
+/// serve to the bytes read. The desk then represents the office after this request, even if the response could not be
+/// written.
 pub fn serve_one<S: Alter, T: Stream>(
     alloc: Global,
     desk: &mut Desk<S>,
@@ -43,8 +43,9 @@ pub fn serve_one<S: Alter, T: Stream>(
     serve_connection(alloc, desk, stream)
 }
 
-/// Does what `serve_one` does, over a database in memory. This needs no premise about a disk: the response is one that
-/// the office shown by the desk serves to the bytes read, and the desk then shows the office after this request.
+/// Does what `serve_one` does, for a desk over a database in memory. This needs no premise about a disk. The response
+/// is one that the office shown by the desk may serve to the bytes read. The desk then shows the office after this
+/// request.
 pub fn serve_one_in_memory<T: Stream>(
     alloc: Global,
     desk: &mut Desk<MemStore>,

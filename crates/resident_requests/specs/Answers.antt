@@ -5,7 +5,7 @@ use Rattle.std.specs.List.{concat, list_any}
 use Rattle.resident_requests.specs.declared.method.Method.{Method}
 use Rattle.resident_requests.specs.declared.method.Method.TheVariants as method
 
--- a response: its status, the method that the path takes if the request has another, and the body
+-- An HTTP response. `allow` is the method that the path takes, if the request has a different method.
 pub record Answer : Type 0 where
   pub status : ℕ
   pub allow : Option Method
@@ -16,12 +16,13 @@ method_text method.Get = codes "GET"
 method_text method.Put = codes "PUT"
 method_text method.Post = codes "POST"
 
--- a status that responses have
+-- the status is one that a response of this server may have
 abbrev pub is_response_status : ℕ → Bool
 is_response_status status =
     list_any (λ known. known == status) (200 ∷ 400 ∷ 403 ∷ 404 ∷ 405 ∷ 409 ∷ 413 ∷ 417 ∷ 422 ∷ 501 ∷ 503 ∷ [])
 
--- the status is one that responses have, and `allow` is present exactly if the status is 405
+-- The response is well-formed: `is_response_status` holds for its status, and `allow` is present exactly if the
+-- status is 405.
 pub record IsAnswer (answer : Answer) : Type 0 where
   pub answered : is_response_status answer.status ≡ true
   pub allow : is_some answer.allow ≡ (answer.status == 405)
@@ -44,12 +45,12 @@ reason status =
 abbrev pub line_end : List ℕ
 line_end = codes "\r\n"
 
--- the field `Allow`, if a method is given
+-- the bytes of the field `Allow` for a method, or no bytes without a method
 abbrev pub allow_line : Option Method → List ℕ
 allow_line None = []
 allow_line (Some method) = concat (codes "Allow: " ∷ method_text method ∷ line_end ∷ [])
 
--- the status line, the fields and the empty line
+-- the bytes of a response's head: the status line, the fields, and the empty line after them
 abbrev pub head_text : ℕ → Option Method → ℕ → List ℕ
 head_text status allow body_length =
     concat (
@@ -62,6 +63,6 @@ head_text status allow body_length =
     ∷ []
     )
 
--- the bytes of a response
+-- the bytes of a response: the head, then the body
 abbrev pub bytes_of : Answer → List ℕ
 bytes_of answer = head_text answer.status answer.allow (length answer.body) ++ answer.body

@@ -1,4 +1,5 @@
--- The JSON of requests and responses (RFC 8259), with each member in the order in which it is written.
+-- The JSON values in requests and responses (RFC 8259). Each definition gives an object's members in the order in
+-- which they are written.
 use Rattle.std.specs.Prelude.{ℕ, true, List, [], ◌∷◌, map, codes, Option, Some, None, option_and_then, if◌then◌else◌}
 use Rattle.std.specs.Prelude.{Result, Ok, Err}
 use Rattle.std.specs.Option.{option_map}
@@ -27,11 +28,11 @@ abbrev pub text_or_null : Option Text → Data
 text_or_null None = null
 text_or_null (Some text) = string text
 
--- the recorded preference list
+-- the JSON value that confirms a recorded preference list
 abbrev pub choices_data : List Text → Data
 choices_data choices = object (member (codes "choices") (text_array choices) no_members)
 
--- a resident's own record
+-- the JSON value with a resident's own record
 abbrev pub standing_data : Standing → Data
 standing_data standing =
     object (member (codes "choices") (text_array standing.choices)
@@ -45,7 +46,7 @@ standing_data standing =
     (member (codes "shown") (boolean standing.shown)
     (member (codes "withdrawn") (boolean standing.withdrawn) no_members))))))))))
 
--- a room and its state, without its occupant
+-- the JSON value with a room's code and state, but without its occupant
 abbrev pub room_data : RoomRow → Data
 room_data row =
     object (member (codes "room") (string row.room) (member (codes "state") (string (state_text row.state)) no_members))
@@ -53,47 +54,47 @@ room_data row =
 abbrev pub rooms_data : List RoomRow → Data
 rooms_data rows = array (items_of (map room_data rows))
 
--- the confirmation of a withdrawal
+-- the JSON value that confirms a withdrawal
 abbrev pub withdrawn_data : Data
 withdrawn_data = object (member (codes "withdrawn") (boolean true) no_members)
 
--- the name of an error
+-- the JSON value with the name of an error
 abbrev pub fault_data : Text → Data
 fault_data name = object (member (codes "error") (string name) no_members)
 
 -- ---- requests
 
--- the JSON value in the bytes, if they are UTF-8 and hold one
+-- the JSON value that the bytes encode, or `None` if they are not UTF-8 or not JSON
 abbrev pub json_of : List ℕ → Option Data
 json_of bytes = if is_utf8 bytes then read bytes else None
 
--- the room code in a value
+-- the room code in a JSON value, or `None` if the value is not a string with a room code
 abbrev pub code_in : Data → Option Text
 code_in value = option_and_then (λ text. if is_room_code text then Some text else None) (as_str value)
 
--- the code followed by the others, or `None` if the others are `None`
+-- the list of `code` and then the codes in `others`, or `None` if `others` is `None`
 abbrev pub code_before : Text → Option (List Text) → Option (List Text)
 code_before code others = option_map (λ codes. code ∷ codes) others
 
--- the room codes of an array's items, if each item is one
+-- the room codes in an array's items, or `None` if an item is not a room code
 abbrev pub codes_in : Items → Option (List Text)
 codes_in no_items = Some []
 codes_in (item value items) = option_and_then (λ code. code_before code (codes_in items)) (code_in value)
 
--- the room codes of a body, if it is an array of them
+-- the room codes in the body of a request, or `None` if the body is not a JSON array of room codes
 abbrev pub codes_of_body : List ℕ → Option (List Text)
 codes_of_body body = option_and_then codes_in (option_and_then as_array (json_of body))
 
--- these codes, unless there is a fault
+-- the codes if there is no fault, and otherwise the fault
 abbrev pub unless_fault : List Text → Option TypeFault → Result (List Text) TypeFault
 unless_fault codes None = Ok codes
 unless_fault codes (Some fault) = Err fault
 
--- these codes as a preference list, or why they are not one
+-- the preference list with these codes, or the reason why they are not a preference list
 abbrev pub choices_from : Option (List Text) → Result (List Text) TypeFault
 choices_from None = Err BadValue
 choices_from (Some codes) = unless_fault codes (choices_fault codes)
 
--- the preference list in the body of a request, or its fault
+-- the preference list in the body of a request, or the reason why the body is not one
 abbrev pub choices_of_body : List ℕ → Result (List Text) TypeFault
 choices_of_body body = choices_from (codes_of_body body)

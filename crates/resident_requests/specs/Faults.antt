@@ -7,12 +7,12 @@ use Rattle.resident_requests.specs.Answers.{Answer}
 use Rattle.resident_requests.specs.Bodies.{fault_data}
 use Rattle.resident_requests.specs.declared.method.Method.{Method}
 
--- a status with a single error name
+-- the status has exactly one error name
 abbrev pub has_one_name : ℕ → Bool
 has_one_name status =
     list_any (λ known. known == status) (400 ∷ 403 ∷ 404 ∷ 405 ∷ 413 ∷ 417 ∷ 501 ∷ 503 ∷ [])
 
--- the error name of such a status
+-- the error name of a status for which `has_one_name` holds
 abbrev pub fault_name : ℕ → Text
 fault_name status =
     if status == 400 then codes "BadRequest"
@@ -24,7 +24,8 @@ fault_name status =
     else if status == 501 then codes "NotImplemented"
     else codes "Unavailable"
 
--- The error names of a status. 405 has none here, because its response also names a method.
+-- The error names that an error response with this status may have. There are none for 405, because the response to a
+-- wrong method also names a method: see `wrong_method_answer`.
 abbrev pub fault_names : ℕ → List Text
 fault_names status =
     if status == 405 then []
@@ -33,7 +34,7 @@ fault_names status =
     else if has_one_name status then fault_name status ∷ []
     else []
 
--- the name is an error name of the status
+-- the name is one of the `fault_names` of the status
 abbrev pub names_fault : ℕ → Text → Bool
 names_fault status name = list_any (text_eq name) (fault_names status)
 

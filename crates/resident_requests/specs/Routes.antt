@@ -1,4 +1,4 @@
--- The paths of requests, the method of each, and what a request wants.
+-- Which route a path has, which method a route takes, and how the server routes a request.
 use Rattle.std.specs.Prelude.{ℕ, List, codes, if◌then◌else◌, Option, Some, None}
 use Rattle.std.specs.Str.{bytes_eq}
 use Rattle.room_types.specs.Texts.{Text}
@@ -25,7 +25,7 @@ method_of route.Withdrawal = Post
 method_of route.Standing = Get
 method_of route.Rooms = Get
 
--- a `Routed` as a value, which holds the key that `Routed` borrows
+-- the result of routing a request, like `Routed`, but with a list of bytes in place of the borrowed key
 pub data Wanted : Type 0 where
   unknown : Wanted
   wrong_method : (allow : Method) → Wanted
@@ -46,7 +46,8 @@ abbrev pub with_method : List ℕ → Option Text → Route → Wanted
 with_method method key route =
     if bytes_eq method (method_text (method_of route)) then with_key route key else wrong_method (method_of route)
 
--- The route and the key of a request, or its first error: an unknown path, then a wrong method, then a missing key.
+-- The route and the key of a request, or its first error. An unknown path comes before a wrong method, and a wrong
+-- method comes before a missing key.
 abbrev pub wanted_of : List ℕ → Text → Option Text → Wanted
 wanted_of method path key = on_route (route_of path)
   where

@@ -9,13 +9,13 @@ use std::alloc::{AllocError, Global};
 use std::marker::Model;
 
 /// An HTTP response. Its status is one of those that `is_response_status` lists. `allow` is present exactly if the
-/// status is 405. The body should be JSON, since the field `Content-Type` says that it is. `HttpAnswer` does not ensure
-/// this.
+/// status is 405. The body should be JSON, because `answer_bytes` writes a field `Content-Type` that says so. The
+/// type does not check the body.
 #[derive(Debug, Drop)]
 pub struct HttpAnswer {
     /// The status.
     pub status: StatusCode,
-    /// The method that the path takes, if the request has another.
+    /// The method that the path takes, if the request has a different method.
     pub allow: Option<Method>,
     /// The bytes of the body.
     pub body: Listing<u8>,
@@ -32,7 +32,8 @@ impl Model for HttpAnswer {
         IsAnswer (record { status = a.status; allow = a.allow; body = a.body }) };
 }
 
-/// The bytes of the response with status 503, for use when an allocation fails.
+/// The bytes of the response with status 503. They are a constant, because the response is also needed when an
+/// allocation fails.
 pub const UNAVAILABLE_RESPONSE: &[u8] = b"HTTP/1.1 503 Service Unavailable\r\n\
     Content-Type: application/json\r\n\
     Content-Length: 23\r\n\
@@ -54,7 +55,7 @@ pub fn answer_bytes(alloc: Global, answer: &HttpAnswer) -> Result<Vec<u8>, OutOf
     Ok(bytes)
 }
 
-// The status line, the fields and the empty line.
+// Returns the head of a response: the status line, the fields, and the empty line after them.
 fn head_text(
     alloc: Global,
     status: StatusCode,
@@ -86,7 +87,7 @@ fn push_allow(text: &mut String, allow: Option<Method>) -> Result<(), AllocError
     Ok(())
 }
 
-// The reason phrase of the status.
+// Returns the reason phrase of the status.
 fn reason(status: StatusCode) -> &'static str
     requires { is_response_status status ≡ true }
     ensures { result.now ≡ reason status }
@@ -103,7 +104,8 @@ fn reason(status: StatusCode) -> &'static str
         422 => "Unprocessable Entity",
         501 => "Not Implemented",
         503 => "Service Unavailable",
-        // A status may be any number from 100 to 999, so the match needs this arm. The contract proves it unreachable.
+        // A status may be any number from 100 to 999, so the match needs this arm. The contract proves the arm
+        // unreachable.
         _ => unreachable!(),
     }
 }

@@ -24,7 +24,7 @@ pub const FIELD_LIMIT: usize = 64;
 /// The greatest number of bytes of a body.
 pub const BODY_LIMIT: u16 = 1_024;
 
-/// The request in the bytes of a connection, as far as they have been read. It borrows from these bytes.
+/// The result of parsing the bytes that have been read from a connection so far. It borrows from these bytes.
 #[derive(Clone, Copy, Debug)]
 pub enum AskState<'b> {
     /// The request is incomplete: more bytes are needed.
@@ -42,15 +42,15 @@ pub enum AskState<'b> {
         /// The length of the head and the body, in bytes.
         used: usize,
     },
-    /// The bytes are refused with this status.
+    /// The bytes are refused: the response has this status.
     Fault(StatusCode),
 }
 
 /// Parses the request at the start of the bytes: the head, and as many bytes after it as the head announces. Ignores
 /// the bytes after the body. Does not allocate.
 ///
-/// A head follows the default grammar of `httparse`; for example, a line may end with a line feed alone. Of these
-/// faults, the first that applies counts:
+/// A head follows the default grammar of `httparse`; for example, a line may end with a line feed alone. If several
+/// of these faults apply, returns the first:
 ///
 /// - 400: the head is not HTTP/1.0 or HTTP/1.1, is longer than `HEAD_LIMIT`, has more than `FIELD_LIMIT` fields, has
 ///   more than one field `Host`, or has none in HTTP/1.1.
@@ -82,7 +82,7 @@ pub fn read_ask(bytes: &[u8]) -> AskState<'_>
     }
 }
 
-// The bytes within which a head must end.
+// Returns the first `HEAD_LIMIT` bytes, or all if there are fewer. A head must end within them.
 fn first_bytes(bytes: &[u8]) -> &[u8]
     ensures value { result.now ≡ window bytes.now }
     ensures all { bytes.now ≡ result.now ++ drop (length result.now) bytes.now }
@@ -95,7 +95,7 @@ fn first_bytes(bytes: &[u8]) -> &[u8]
     &bytes[..HEAD_LIMIT]
 }
 
-// The result for a complete head and the bytes after it.
+// Returns the result for a complete head and the bytes after it.
 #[tactic(auto, unfolding(crate::specs::Asks::asked_of))]
 fn asked_of<'b>(
     window: &'b [u8],
@@ -137,7 +137,7 @@ fn asked_of<'b>(
     }
 }
 
-// Whether there is more than one field `Host`, or none in HTTP/1.1.
+// Returns whether the head has more than one field `Host`, or is HTTP/1.1 and has none.
 fn has_bad_host(window: &[u8], headers: &[HeaderSpan], minor: u8) -> bool
     requires { All (IsHeaderWithin (length window.now)) headers.now }
     ensures { let fields = map (header_bytes window.now) headers.now in
@@ -161,7 +161,7 @@ fn has_field(window: &[u8], headers: &[HeaderSpan], name: &[u8]) -> bool
     }
 }
 
-// The resident's key, if there is exactly one field `Room-Key` and its value is in the grammar of keys.
+// Returns the resident's key, if there is exactly one field `Room-Key` and its value is in the grammar of keys.
 fn key_of<'b>(window: &'b [u8], headers: &[HeaderSpan]) -> Option<&'b str>
     requires { All (IsHeaderWithin (length window.now)) headers.now }
     ensures { let fields = map (header_bytes window.now) headers.now in
@@ -174,7 +174,8 @@ fn key_of<'b>(window: &'b [u8], headers: &[HeaderSpan]) -> Option<&'b str>
     }
 }
 
-// The length of the body, or the status of the fault. The length is 0 without a field `Content-Length`.
+// Returns the length of the body, or the status of a fault in the fields `Content-Length`. Without such a field, the
+// length is 0.
 fn body_length(window: &[u8], headers: &[HeaderSpan]) -> Result<usize, StatusCode>
     requires { All (IsHeaderWithin (length window.now)) headers.now }
     ensures value { let fields = map (header_bytes window.now) headers.now in
@@ -189,7 +190,8 @@ fn body_length(window: &[u8], headers: &[HeaderSpan]) -> Result<usize, StatusCod
     }
 }
 
-// The length in the value of a field `Content-Length`, or the status of the fault.
+// Returns the length in the value of a field `Content-Length`. Fails with status 400 if the value is not decimal
+// digits, and with status 413 if the length is above `BODY_LIMIT`.
 fn body_length_in(text: &[u8]) -> Result<usize, StatusCode>
     ensures value { result ≡ body_length (text.now ∷ []) }
     ensures early { IfErr result (λ status. is_early_status status ≡ true) }
@@ -205,7 +207,7 @@ fn body_length_in(text: &[u8]) -> Result<usize, StatusCode>
     Ok(length)
 }
 
-// The value, if it is in the grammar of keys.
+// Returns the value as text, if it is in the grammar of keys.
 fn key_text(value: &[u8]) -> Option<&str>
     ensures { option_map (λ k. k.now) result ≡ key_of (value.now ∷ []) }
 {
@@ -215,7 +217,7 @@ fn key_text(value: &[u8]) -> Option<&str>
     Keys::is_text(text).then_some(text)
 }
 
-// The bytes as text.
+// Returns the bytes as text.
 fn text_of(bytes: &[u8]) -> &str
     requires { IsUtf8 bytes.now }
     ensures { result.now ≡ bytes.now }
@@ -226,7 +228,7 @@ fn text_of(bytes: &[u8]) -> &str
     }
 }
 
-// The target up to its first question mark.
+// Returns the part of the target before its first question mark.
 fn path_of(target: &str) -> &str
     ensures { result.now ≡ path_of target.now }
 {

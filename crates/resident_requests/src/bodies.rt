@@ -55,7 +55,7 @@ pub fn fault_body(alloc: Global, name: &str) -> Result<Listing<u8>, OutOfMemory>
     written_json(alloc, &value)
 }
 
-// The compact text of the value.
+// Returns the compact JSON text of the value.
 fn written_json(alloc: Global, value: &Value) -> Result<Listing<u8>, OutOfMemory>
     requires { has_float (view value.now) ≡ false }
     ensures { IfOk result (λ body. body ≡ compact_text (view value.now)) }

@@ -11,8 +11,10 @@ use std::alloc::Global;
 ///
 /// # Errors
 ///
-/// `BadValue` if the body is not such an array; `TooManyChoices` or `RoomRepeated` if the codes are not a valid list;
-/// `OutOfMemory` if an allocation fails. An empty body never fails with `OutOfMemory`.
+/// - `BadValue` if the body is not such an array.
+/// - `TooManyChoices` if the array has too many codes.
+/// - `RoomRepeated` if a code occurs in the array more than once.
+/// - `OutOfMemory` if an allocation fails. For an empty body, the error is always `BadValue`.
 pub fn choices_of_body(alloc: Global, body: &[u8]) -> Result<Choices, TypeFault>
     ensures value { IfOk result (λ choices. choices_of_body body.now ≡ Ok choices) }
     ensures fault { IfErr result (λ fault.
@@ -27,7 +29,8 @@ pub fn choices_of_body(alloc: Global, body: &[u8]) -> Result<Choices, TypeFault>
     Choices::read(codes)
 }
 
-// The JSON value of the bytes.
+// Parses the bytes as JSON. Fails with `BadValue` if they are not UTF-8 or not JSON, and with `OutOfMemory` if an
+// allocation fails.
 fn json_value(alloc: Global, bytes: &[u8]) -> Result<Value, TypeFault>
     ensures value { IfOk result (λ value. json_of bytes.now ≡ Some (view value)) }
     ensures fault { IfErr result (λ fault.
@@ -41,7 +44,8 @@ fn json_value(alloc: Global, bytes: &[u8]) -> Result<Value, TypeFault>
     }
 }
 
-// The room codes of an array's items.
+// Returns the room codes in an array's items. Fails with `BadValue` if an item is not a room code, and with
+// `OutOfMemory` if an allocation fails.
 fn room_codes(alloc: Global, items: &[Value]) -> Result<Vec<RoomCode>, TypeFault>
     ensures codes { IfOk result (λ codes. codes_in (items_view items.now) ≡ Some codes.items) }
     ensures fault { IfErr result (λ fault. (fault ≡ TypeFault.OutOfMemory)
@@ -62,7 +66,8 @@ fn push_code(codes: &mut Vec<RoomCode>, code: RoomCode) -> Result<(), OutOfMemor
     Ok(())
 }
 
-// The room code in a value.
+// Returns the room code in a JSON value. Fails with `BadValue` if the value is not a string with a room code, and
+// with `OutOfMemory` if an allocation fails.
 fn code_in(alloc: Global, value: &Value) -> Result<RoomCode, TypeFault>
     ensures code { IfOk result (λ code. code_in (view value.now) ≡ Some code) }
     ensures fault { IfErr result (λ fault. (fault ≡ TypeFault.OutOfMemory)

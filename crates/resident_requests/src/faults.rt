@@ -22,9 +22,8 @@ impl HttpAnswer {
         }
     }
 
-    /// Returns an error response. Its body contains the name of the error, which must be one of the error names of the
-    /// status. The statuses 200 and 405 have none here: 200 is no error, and `wrong_method` returns the response for
-    /// 405.
+    /// Returns an error response. Its body contains the name of the error, which must be one of the error names of
+    /// the status. The status can be neither 200, which is no error, nor 405, whose response `wrong_method` returns.
     ///
     /// # Errors
     ///
@@ -41,7 +40,7 @@ impl HttpAnswer {
         })
     }
 
-    /// Returns the response to a wrong method, which names the method to use.
+    /// Returns the response to a request with a wrong method. The response names the method to use.
     ///
     /// # Errors
     ///
@@ -73,7 +72,8 @@ pub fn fault_name(status: StatusCode) -> &'static str
         417 => "ExpectationFailed",
         501 => "NotImplemented",
         503 => "Unavailable",
-        // A status may be any number from 100 to 999, so the match needs this arm. The contract proves it unreachable.
+        // A status may be any number from 100 to 999, so the match needs this arm. The contract proves the arm
+        // unreachable.
         _ => unreachable!(),
     }
 }

@@ -30,7 +30,7 @@ pub fn find_fields(buf: &[u8], headers: &[HeaderSpan], name: &[u8]) -> Found
     found
 }
 
-// The result after one more field.
+// Returns the search result `found`, updated for one more field. The field counts only if it has this name.
 fn with_field(buf: &[u8], found: Found, header: HeaderSpan, name: &[u8]) -> Found
     requires { IsHeaderWithin (length buf.now) header }
     ensures { (values : List (List ℕ)) → Finds buf.now found values

@@ -7,14 +7,16 @@ ghost use Rattle.resident_requests.specs.Asks.{Asked, Asks, BeginsTooManyFields,
 
 use crate::answer::UNAVAILABLE_RESPONSE;
 
-/// `UNAVAILABLE_RESPONSE` has exactly the bytes of the error response 503 `Unavailable`.
+/// The bytes of `UNAVAILABLE_RESPONSE` are those of the error response with status 503 and the error name
+/// `Unavailable`.
 pub fn unavailable_is_an_answer()
     ensures { UNAVAILABLE_RESPONSE.now ≡ bytes_of (fault_answer 503 (codes "Unavailable")) }
 {}
 
-/// The request in the bytes of a connection does not depend on how these are split into chunks. Once the bytes so far
-/// give a request, they give the same request whatever bytes follow. After a fault, no bytes that follow give a
-/// request. The fault can change only if the bytes so far begin too many fields or end within the target.
+/// How a connection's bytes are split into chunks does not change which request they give. Once the bytes so far give
+/// a request, they give the same request after any further bytes. Once they give a fault, no further bytes turn it
+/// into a request. Further bytes can change the fault only in two cases: the bytes so far begin a head with too many
+/// fields, or they end within the request target.
 pub fn findings_stay()
     ensures request { (bytes next : List ℕ) (asked later : Asked)
         → Asks bytes asked → is_request asked ≡ true

@@ -1,4 +1,4 @@
-//! The methods of the paths.
+//! The HTTP methods that the paths take.
 ghost use Rattle.std.specs.Prelude.{◌≡◌, Some};
 ghost use Rattle.resident_requests.specs.Answers.{method_text};
 
@@ -16,7 +16,7 @@ pub enum Method {
 }
 
 impl Method {
-    /// Returns the method, as written in a request.
+    /// Returns the name of the method, as it stands in a request.
     pub fn as_str(self) -> &'static str
         ensures { result.now ≡ method_text self }
     {

@@ -1,4 +1,4 @@
-//! The paths of requests.
+//! Routes requests by their paths.
 ghost use Rattle.std.specs.Prelude.{◌≡◌, IfOk, option_map};
 ghost use Rattle.resident_requests.specs.Inner.RouteRows.{route_rows};
 ghost use Rattle.resident_requests.specs.Routes.{method_of, route_of, seen_wanted, wanted_of, with_method};
@@ -55,7 +55,8 @@ pub enum Routed<'b> {
     },
 }
 
-/// Routes a request by its path, method and key. Reports an unknown path first, then a wrong method, then a missing key.
+/// Routes a request by its path, method and key. Reports an unknown path first, then a wrong method, then a missing
+/// key.
 ///
 /// # Errors
 ///
@@ -89,7 +90,7 @@ fn with_method<'b>(method: &[u8], key: Option<&'b str>, route: Route) -> Routed<
     }
 }
 
-// The route of the path.
+// Returns the route of the path, if it has one.
 fn route_of(alloc: Global, path: &str) -> Result<Option<Route>, OutOfMemory>
     ensures { IfOk result (λ route. route ≡ route_of path.now) }
 {
@@ -97,7 +98,7 @@ fn route_of(alloc: Global, path: &str) -> Result<Option<Route>, OutOfMemory>
     Ok(find(&router, path))
 }
 
-// The route that the router finds for the path.
+// Returns the route that the router finds for the path.
 fn find(router: &Router<Route>, path: &str) -> Option<Route>
     requires { router.now ≡ route_rows }
     ensures { result ≡ route_of path.now }
@@ -108,7 +109,8 @@ fn find(router: &Router<Route>, path: &str) -> Option<Route>
     }
 }
 
-// The router of the paths. The paths differ and have no parameters, so only an allocation can fail.
+// Returns a router with all paths of the server. The paths differ and have no parameters, so this fails only if an
+// allocation fails.
 fn router(alloc: Global) -> Result<Router<Route>, OutOfMemory>
     ensures { IfOk result (λ router. router ≡ route_rows) }
 {

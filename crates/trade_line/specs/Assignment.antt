@@ -1,5 +1,5 @@
--- Assignments: functions from people to a room or nothing, and when they are individually rational and Pareto
--- efficient.
+-- Assignments: functions that give each person a room or nothing. Definitions of individually rational and of Pareto
+-- efficient assignments.
 use Rattle.std.specs.Prelude.{◌≡◌, ℕ, ◌<◌, ◌≤◌, Option, Some, None, List, slice_index_or}
 use Rattle.trade_line.specs.Market.{Market, floor}
 use Rattle.trade_line.specs.Rank.{rank}
@@ -17,7 +17,7 @@ given_in rooms p = slice_index_or rooms p None
 abbrev pub IsIndividuallyRational : Market → (ℕ → Option ℕ) → Type 0
 IsIndividuallyRational m f = (p : ℕ) → p < m.people → rank m p (f p) ≤ rank m p (floor m p)
 
--- each assignment at which nobody is worse off than at f gives everybody what f gives
+-- if nobody is worse off at another assignment than at f, then that assignment gives everybody what f gives
 abbrev pub IsEfficient : Market → (ℕ → Option ℕ) → Type 0
 IsEfficient m f =
     (a : ℕ → Option ℕ) → IsAssignment m a

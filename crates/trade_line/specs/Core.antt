@@ -1,7 +1,7 @@
--- The strict core among tenants: the assignments at which no group of tenants, by trading their own homes among
--- themselves, can make one of them better off and none of them worse off (Shapley and Scarf 1974). If no room is
--- vacant, exactly one assignment is in the strict core (Roth and Postlewaite 1977, where everybody is a tenant; here
--- there may be newcomers too).
+-- The strict core among tenants (Shapley and Scarf 1974). An assignment is in the strict core if no group of tenants,
+-- by trading their own homes among themselves, can make one of them better off and none of them worse off. If no room
+-- is vacant, exactly one assignment is in the strict core (Roth and Postlewaite 1977, where everybody is a tenant;
+-- here there may be newcomers too).
 use Rattle.std.specs.Prelude.{◌≡◌, ℕ, ◌<◌, ◌≤◌, Bool, true, Option, Some}
 use Rattle.trade_line.specs.Market.{Market, home}
 use Rattle.trade_line.specs.Rank.{rank}
@@ -28,7 +28,8 @@ pub record IsUniqueInStrictCore (m : Market) (g : ℕ → Option ℕ) : Type 0 w
       (f : ℕ → Option ℕ) → IsAssignment m f → IsInStrictCore m f
       → (p : ℕ) → p < m.people → f p ≡ g p
 
--- tenants who get one another's homes by g, and rank only homes of the group above what they get
+-- the members of the group are tenants who get one another's homes by g, and they rank only homes of the group above
+-- what they get
 pub record IsSelfContained (m : Market) (g : ℕ → Option ℕ) (group : ℕ → Bool) : Type 0 where
   pub apart : TradesApart m group g
   pub above :
@@ -42,7 +43,7 @@ KeepsSelfContained m g =
     → (f : ℕ → Option ℕ) → IsAssignment m f → IsInStrictCore m f
     → (p : ℕ) → group p ≡ true → f p ≡ g p
 
--- an assignment is in the strict core if and only if no group has a better trade apart
+-- an assignment is in the strict core if and only if no group has a better trade apart (`HasNoBetterTradeApart`)
 pub record IsStrictCoreByTradesApart (m : Market) : Type 0 where
   pub core : (f : ℕ → Option ℕ) → HasNoBetterTradeApart m f → IsInStrictCore m f
   pub apart : (f : ℕ → Option ℕ) → IsInStrictCore m f → HasNoBetterTradeApart m f

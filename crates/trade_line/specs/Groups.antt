@@ -11,8 +11,8 @@ abbrev pub OthersKeep : Market → (ℕ → Bool) → List (List ℕ) → Type 0
 OthersKeep m group lists =
     (q : ℕ) → q < m.people → group q ≡ false → list_of (with_lists m lists) q ≡ list_of m q
 
--- nobody in the group loses: by their own recorded list, each of them ranks what they get with the other lists at least
--- as high as what they get with the recorded lists
+-- nobody in the group loses: by their own recorded list, each of them ranks what they get with the other lists at
+-- least as high as what they get with the recorded lists
 abbrev pub NoneLoses : Market → (ℕ → Bool) → List (List ℕ) → Type 0
 NoneLoses m group lists =
     (q : ℕ) → q < m.people → group q ≡ true

@@ -22,7 +22,7 @@ floor m p = home m p
 abbrev pub list_of : Market → ℕ → List ℕ
 list_of m p = slice_index_or m.lists p []
 
--- whether the option is room r
+-- whether the option is `Some r`
 abbrev pub is_room : ℕ → Option ℕ → Bool
 is_room r None = false
 is_room r (Some x) = x == r
@@ -51,7 +51,7 @@ abbrev pub HomesDiffer : Market → Type 0
 HomesDiffer m = (p q r : ℕ) → p < m.people → q < m.people → home m p ≡ Some r → home m q ≡ Some r
     → p ≡ q
 
--- each list ranks its rooms strictly: none has a room twice
+-- each list ranks its rooms strictly: no list has a room twice
 abbrev pub ListsAreStrict : Market → Type 0
 ListsAreStrict m = (p : ℕ) → p < m.people → AllPairs ◌≢◌ (list_of m p)
 

@@ -1,5 +1,5 @@
--- Markets with other lists, and strategy-proofness: nobody gains by handing in another list (Roth 1982; Abdulkadiroglu
--- and Sönmez 1999).
+-- Markets with other lists, and strategy-proofness: nobody gains by handing in another list (Roth 1982;
+-- Abdulkadiroglu and Sönmez 1999).
 use Rattle.std.specs.Prelude.{◌≡◌, ◌≢◌, ℕ, ◌<◌, ◌≤◌, List, Some, All, AllPairs, slice_set}
 use Rattle.trade_line.specs.Market.{Market, IsMarket, home}
 use Rattle.trade_line.specs.Rank.{rank}
@@ -29,7 +29,7 @@ abbrev pub IsListFor : Market → ℕ → List ℕ → Type 0
 IsListFor m p l = IsListIndexed m p l × AllPairs ◌≢◌ l × LacksOwn m p l
 
 -- the fault is for the first rule that the person or the list breaks; if the person and the rooms are in range, the
--- fault may be out of memory instead, even if no rule is broken
+-- fault may be `OutOfMemory` instead, even if no rule is broken
 abbrev pub IsFirstListFault : Market → ℕ → List ℕ → TradeFault → Type 0
 IsFirstListFault m p l BadIndex = ¬ IsListIndexed m p l
 IsFirstListFault m p l HomeShared = ⊥
@@ -38,7 +38,8 @@ IsFirstListFault m p l OwnRoomListed =
     IsListIndexed m p l × AllPairs ◌≢◌ l × ¬ LacksOwn m p l
 IsFirstListFault m p l OutOfMemory = IsListIndexed m p l
 
--- nobody gets, with another list, what their own list ranks above what they get with their own list
+-- nobody gains by handing in another list: a person's own list does not rank what they get with the other list above
+-- what they get with the own list
 abbrev pub IsStrategyproof : Market → Type 0
 IsStrategyproof m =
     (p : ℕ) (l : List ℕ) → p < m.people → IsMarket (with_list m p l)

@@ -8,8 +8,8 @@ abbrev pub place : ℕ → List ℕ → ℕ
 place x [] = 0
 place x (y ∷ ys) = cond (y == x) 0 (suc (place x ys))
 
--- how p ranks a room or nothing, the best at 0: the listed rooms by their place on the list, then the floor, then all
--- else, of equal rank
+-- the rank that p gives to a room or to nothing, where 0 is the best: a listed room ranks by its place on the list,
+-- the floor ranks next, and everything else ranks last, all equal
 abbrev pub rank : Market → ℕ → Option ℕ → ℕ
 rank m p None = cond (is_none (home m p)) (length (list_of m p)) (length (list_of m p) + 1)
 rank m p (Some x) = cond (among (list_of m p) x) (place x (list_of m p)) (cond (is_room x (home m p)) (length (list_of m p)) (length (list_of m p) + 1))

@@ -5,8 +5,8 @@ use Rattle.trade_line.specs.Cycles.{AreCycles}
 use Rattle.trade_line.specs.Market.{Market}
 use Rattle.trade_line.specs.TopTradingCycles.{Stage, wish, leave}
 
--- f gives everybody who remains what a series of removals from this stage gives: each person who leaves gets what they
--- wish for when they leave
+-- some series of removals from this stage continues until nobody remains, and f gives each person what they wish for
+-- when they leave
 pub data IsGivenByRemovals (m : Market) (f : ℕ → Option ℕ) : Stage → Type 0 where
   over : {s : Stage} → ((p : ℕ) → s.people p ≡ false) → IsGivenByRemovals m f s
   remove : {s : Stage} (group : ℕ → Bool) → AreCycles m s group

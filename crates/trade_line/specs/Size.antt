@@ -2,7 +2,7 @@
 use Rattle.std.specs.Prelude.{ℕ}
 use Rattle.trade_line.specs.Market.{Market}
 
--- how many people and rooms
+-- a number of people and a number of rooms
 pub record Size : Type 0 where
   pub people : ℕ
   pub rooms : ℕ

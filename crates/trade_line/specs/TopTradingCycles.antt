@@ -16,11 +16,11 @@ pub record Stage : Type 0 where
 unfoldable pub start : Market → Stage
 start m = record { people = λ p. nat_lt p m.people; rooms = λ r. nat_lt r m.rooms }
 
--- the first remaining room on the list of p, or else the floor
+-- the first remaining room on the list of p, or else the floor of p
 unfoldable pub wish : Market → Stage → ℕ → Option ℕ
 wish m s p = or_else (find s.rooms (list_of m p)) (floor m p)
 
--- the first remaining person, and 0 if nobody remains
+-- the first remaining person in priority order, or 0 if nobody remains
 unfoldable pub first : Market → Stage → ℕ
 first m s = unwrap_or (first_below m.people s.people) 0
 
@@ -29,7 +29,7 @@ abbrev pub tenant_or_first : Market → Stage → Option ℕ → ℕ
 tenant_or_first m s None = first m s
 tenant_or_first m s (Some t) = cond (s.people t) t (first m s)
 
--- the person to whom a room points
+-- the person to whom a room points: its tenant if the tenant remains, or else the first remaining person
 unfoldable pub holder : Market → Stage → ℕ → ℕ
 holder m s r = tenant_or_first m s (tenant m r)
 
@@ -45,12 +45,13 @@ successor m s p = target m s p (wish m s p)
 abbrev pub remaining_count : Market → Stage → ℕ
 remaining_count m s = count_below m.people s.people
 
--- p remains, and 1 to `remaining_count` steps from a person to their successor lead from p back to p
+-- p remains, and some number of steps, from 1 to `remaining_count`, leads from p back to p; each step goes from a
+-- person to their successor
 unfoldable pub is_on_cycle : Market → Stage → ℕ → Bool
 is_on_cycle m s p = s.people p
     && some_below (remaining_count m s) (λ k. iterate (successor m s) (suc k) p == p)
 
--- whether one of the group wishes for r
+-- whether somebody in the group wishes for r
 unfoldable pub taken : Market → Stage → (ℕ → Bool) → ℕ → Bool
 taken m s group r = some_below m.people (λ p. group p && is_room r (wish m s p))
 
@@ -65,12 +66,12 @@ leave m s group = record {
 abbrev pub step : Market → Stage → Stage
 step m s = leave m s (is_on_cycle m s)
 
--- what p gets in the next k steps
+-- what p gets in the next k steps from the stage, or `None` if p does not leave in these steps
 unfoldable pub gets_within : Market → ℕ → Stage → ℕ → Option ℕ
 gets_within m zero s p = None
 gets_within m (suc k) s p = cond (is_on_cycle m s p) (wish m s p) (gets_within m k (step m s) p)
 
--- what p gets
+-- what p gets from the start, in as many steps as there are people
 unfoldable pub gets : Market → ℕ → Option ℕ
 gets m p = gets_within m m.people (start m) p
 

@@ -31,7 +31,7 @@ impl Model for Bench {
 }
 
 impl Bench {
-    /// Allocates the bench for a run of the problem. With no people and no rooms it does not allocate.
+    /// Allocates the bench for a run of the problem. Does not allocate if the problem has no people and no rooms.
     ///
     /// # Errors
     ///
@@ -58,7 +58,8 @@ impl Bench {
         })
     }
 
-    // Converts the bench into the state of a run before its first turn, and the cursors, each at the start of its list.
+    // Splits the bench into two parts: the state of a run before the first turn, and the cursors of the people. Each
+    // cursor is at the start of its person's list.
     pub(crate) fn into_progress(self) -> (Progress, Vec<usize>)
         ensures fresh { IsFresh result.0.asked.items result.0.remaining.items result.0.given.items
             result.1.items }

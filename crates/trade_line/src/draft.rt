@@ -43,8 +43,8 @@ fn are_lists_known(lists: &[Vec<usize>], room_count: usize) -> bool
     lists.iter().all(|list| is_list_known(list, room_count))
 }
 
-// Returns whether the list has no room twice. For each room, `last` has the last person on whose list it was read; the
-// call sets the entries of the rooms that it reads to `person`.
+// Returns whether the list has no room twice. For each room, `last` has the last person on whose list the room was
+// read. The call sets the entry of each room that it reads to `person`.
 pub(crate) fn is_distinct(list: &[usize], person: usize, last: &mut [usize]) -> bool
     requires known { All (λ room. room < length last.old) list.now }
     requires unmarked { All (λ other. other ≢ person) last.old }
@@ -72,7 +72,8 @@ pub(crate) fn lacks(list: &[usize], home: Option<usize>) -> bool
 }
 
 impl Draft {
-    // Returns whether there is one home entry and one list for each person, and each room is below the number of rooms.
+    // Returns whether there is one home entry and one list for each person, and each room is below the number of
+    // rooms.
     pub(crate) fn is_indexed(&self) -> bool
         ensures { IsTrue result ↔ IsIndexed (drafted self.now) }
     {
@@ -83,7 +84,8 @@ impl Draft {
             && are_lists_known(&self.lists, self.room_count)
     }
 
-    // Returns the tenant of each room, or `HomeShared` if two people have the same home.
+    // Returns the tenant of each room, if any. Returns `HomeShared` if two people have the same home, and
+    // `OutOfMemory` if the allocation fails.
     pub(crate) fn tenants(&self, alloc: Global) -> Result<Vec<Option<usize>>, TradeFault>
         requires { IsIndexed (drafted self.now) }
         ensures tenants { IfOk result (λ tenants. IsTenants (drafted self.now) tenants.items) }

@@ -8,8 +8,8 @@ use std::alloc::{AllocError, AllocFailed};
 use std::error::Error;
 use std::fmt;
 
-/// Why a problem or a list is refused. The variants are in the order of the checks. `OutOfMemory` may come in place of
-/// any fault but `BadIndex`.
+/// Why a problem or a list is refused. The variants are in the order of the checks. `OutOfMemory` may come in place
+/// of any fault but `BadIndex`.
 #[derive(Clone, Copy, Debug, PartialEq, Eq)]
 pub enum TradeFault {
     /// The length of a vector is not the number of people, or a room or a person is out of range.

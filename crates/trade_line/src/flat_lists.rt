@@ -6,11 +6,12 @@ use crate::out_of_memory::OutOfMemory;
 use std::alloc::Global;
 use std::marker::Model;
 
-// Lists, stored one after the other in one vector, so that a read of a list does not follow a pointer of that list.
+// Lists that are stored one after the other in one vector. So reading a list does not follow a separate pointer for
+// that list.
 #[derive(Drop)]
 pub(crate) struct FlatLists {
     entries: Vec<usize>,
-    // The start of each list, and then the end of the last.
+    // The place in `entries` at which each list starts, and then the place at which the last list ends.
     starts: Vec<usize>,
 }
 
@@ -53,7 +54,7 @@ impl FlatLists {
         self.starts.len() - 1
     }
 
-    // Copies the lists, with `list` in place of the person's.
+    // Copies the lists, with `list` in place of the list of `person`.
     pub(crate) fn with_list(
         &self,
         alloc: Global,

@@ -8,12 +8,12 @@ use crate::out_of_memory::OutOfMemory;
 use std::alloc::Global;
 use std::marker::Model;
 
-/// The queue of people who wait for their turn, as a list with the front first. Only `whole` allocates. The contract of `run`
-/// holds for every implementation.
+/// The queue of people who wait for their turn, as a list with the front first. Only `whole` allocates. The contract
+/// of `run` holds for every implementation.
 pub trait Line: Drop {
     ghost people: { Self → List ℕ };
 
-    /// Creates the line of the people below `count`, in ascending order.
+    /// Creates the line of the people numbered below `count`, in ascending order.
     ///
     /// # Errors
     ///
@@ -49,9 +49,9 @@ pub trait Line: Drop {
         ensures { people self.new ≡ without person (people self.old) };
 }
 
-/// A line in one vector, the front first. `holds`, `bring_to_front`, `drop_front` and `drop_member` take time linear in its
-/// length, so a run over it takes time quadratic in people. Use `LinkedLine` for runs; tests compare it with this simpler
-/// line.
+/// A line in one vector, the front first. `holds`, `bring_to_front`, `drop_front` and `drop_member` take time linear
+/// in the length of the line. So the calls of the line in a run take time quadratic in the number of people. Use
+/// `LinkedLine` for runs; tests compare `LinkedLine` with this simpler line.
 #[derive(Drop)]
 pub struct VecLine {
     order: Vec<usize>,
@@ -66,7 +66,7 @@ impl Model for VecLine {
 impl Line for VecLine {
     ghost people = { λ line. line };
 
-    // An empty line does not allocate.
+    // Creating an empty line does not allocate.
     fn whole(alloc: Global, count: usize) -> Result<Self, OutOfMemory>
         ensures line { IfOk result (λ line. line ≡ range_with_len 0 count) }
         ensures memory { OnErr result (0 < count) }

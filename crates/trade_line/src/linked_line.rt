@@ -7,12 +7,13 @@ use crate::out_of_memory::OutOfMemory;
 use std::alloc::Global;
 use std::marker::Model;
 
-/// A line as a doubly linked list. Two vectors have, for each person, the next and the previous one. `whole` takes time and
-/// memory linear in `count`; all other calls take constant time and do not allocate.
+/// A line as a doubly linked list. Two vectors have, for each person, the next and the previous one. `whole` takes
+/// time and memory linear in `count`; all other calls take constant time and do not allocate.
 #[derive(Drop)]
 pub struct LinkedLine {
     // The number of people, `waits.len()`, is a sentinel: it follows the last person and precedes the first, so the
-    // ends of the line are no special cases. `next` and `previous` have one more entry than `waits`, for the sentinel.
+    // ends of the line are no special cases. `next` and `previous` have one more entry than `waits`, for the
+    // sentinel.
     next: Vec<usize>,
     previous: Vec<usize>,
     waits: Vec<bool>,

@@ -1,4 +1,5 @@
-//! Top trading cycles in simultaneous steps, as in the definition: slow and simple. Tests compare `run` with it.
+//! A slow and simple program for top trading cycles, in simultaneous steps as in the definition. Tests compare `run`
+//! with this program.
 ghost use Rattle.std.specs.Prelude.{◌≡◌, ◌<◌, IfOk, OnErr, Some, None, length, replicate, true, false};
 ghost use Rattle.trade_line.specs.TopTradingCycles.{wish, first, successor, remaining_count, is_on_cycle, step, ttc};
 ghost use Rattle.trade_line.specs.Inner.Plain.{remains, AreMarks, Gives};
@@ -15,7 +16,8 @@ struct Remaining {
     rooms: Vec<bool>,
 }
 
-// Returns the best remaining room on the person's list, or else the floor.
+// Returns the best remaining room on the person's list, or else the person's floor: their home, or `None` for a
+// newcomer.
 fn wish(problem: &Problem, stage: &Remaining, person: usize) -> Option<usize>
     requires marks { AreMarks problem.now stage.now }
     requires person { person < problem.now.people }
@@ -40,7 +42,8 @@ fn first(problem: &Problem, stage: &Remaining) -> usize
     0
 }
 
-// Returns the person to whom the wish of `person` points.
+// Returns the person to whom the wish of `person` points. A wish for a room points to the tenant if the tenant
+// remains, and to the first remaining person otherwise. A wish for no room points to `person`.
 fn successor(problem: &Problem, stage: &Remaining, person: usize) -> usize
     requires marks { AreMarks problem.now stage.now }
     requires remains { (remains stage.now).people person ≡ true }
@@ -70,7 +73,8 @@ fn count(problem: &Problem, stage: &Remaining) -> usize
     count
 }
 
-// Returns whether the person remains and is on a cycle, that is, whether the wishes lead from the person back to them.
+// Returns whether the person remains and is on a cycle, that is, whether the wishes lead from the person back to
+// them.
 fn is_on_cycle(problem: &Problem, stage: &Remaining, person: usize) -> bool
     requires marks { AreMarks problem.now stage.now }
     requires person { person < problem.now.people }
@@ -139,9 +143,9 @@ fn nothing(alloc: Global, problem: &Problem) -> Result<Vec<Option<usize>>, OutOf
     Ok(vec![in alloc; None; problem.people()]?)
 }
 
-/// Returns the room of each person, in priority order, by top trading cycles in simultaneous steps (Shapley and Scarf 1974;
-/// Abdulkadiroglu and Sönmez 1999). Takes as many steps as there are people, and each step finds for everybody whether they
-/// are on a cycle. `run` gives the same rooms faster. Without people, the call does not allocate.
+/// Returns the room of each person, in priority order, by top trading cycles in simultaneous steps (Shapley and Scarf
+/// 1974; Abdulkadiroglu and Sönmez 1999). Takes as many steps as there are people. Each step finds for everybody
+/// whether they are on a cycle. `run` gives the same rooms faster. Does not allocate if there are no people.
 ///
 /// # Errors
 ///

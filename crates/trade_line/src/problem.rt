@@ -12,8 +12,8 @@ use crate::flat_lists::FlatLists;
 use std::alloc::Global;
 use std::marker::Model;
 
-/// A well-formed problem of room exchange (Abdulkadiroglu and Sönmez 1999). People are numbered from 0 in priority order,
-/// rooms from 0.
+/// A well-formed problem of room exchange (Abdulkadiroglu and Sönmez 1999). People are numbered from 0 in priority
+/// order, and rooms are numbered from 0.
 #[derive(Drop)]
 pub struct Problem {
     order_len: usize,
@@ -33,9 +33,9 @@ impl Model for Problem {
 }
 
 impl Problem {
-    /// Creates the problem of `order_len` people and `room_count` rooms. For each person, in priority order, `homes` has the
-    /// room where they live, if any, and `lists` has the rooms that they list, best first. Takes time linear in people, rooms
-    /// and list entries.
+    /// Creates the problem of `order_len` people and `room_count` rooms. For each person, in priority order, `homes`
+    /// has the room where they live, if any, and `lists` has the rooms that they list, best first. Takes time linear
+    /// in people, rooms and list entries.
     ///
     /// # Errors
     ///
@@ -114,7 +114,8 @@ impl Problem {
         self.tenants[room]
     }
 
-    // Checks that the person can hand in the list, and returns the first fault if they cannot.
+    // Checks that the person can hand in the list. Returns the first fault if they cannot, or `OutOfMemory` if the
+    // allocation fails.
     fn check_list(&self, alloc: Global, person: usize, list: &[usize]) -> Result<(), TradeFault>
         ensures fits { OnOk result (IsListFor self.now person list.now) }
         ensures first_fault { IfErr result (IsFirstListFault self.now person list.now) }
@@ -133,7 +134,7 @@ impl Problem {
         Ok(())
     }
 
-    // Copies the problem, with `list` as the person's list.
+    // Checks the list as `check_list` does, and then copies the problem with `list` as the person's list.
     pub(crate) fn with_list(
         &self,
         alloc: Global,

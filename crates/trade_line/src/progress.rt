@@ -2,7 +2,7 @@
 ghost use Rattle.std.specs.Prelude.{◌≡◌, ◌<◌, slice_set, vec_len, IfSome, true};
 ghost use Rattle.trade_line.specs.Inner.Queue.{close};
 
-// Who has asked, which rooms remain, and what each person got.
+// Records who has asked, which rooms remain, and what each person got.
 #[derive(Drop)]
 pub(crate) struct Progress {
     pub(crate) asked: Vec<bool>,
@@ -11,7 +11,7 @@ pub(crate) struct Progress {
 }
 
 impl Progress {
-    // Gives the person `room`, which may be no room. A room that is given no longer remains.
+    // Gives `room` to the person, or nothing if `room` is `None`. A room that is given no longer remains.
     pub(crate) fn grant(&mut self, person: usize, room: Option<usize>)
         requires person { person < vec_len self.old.given }
         requires room { IfSome room (λ r. r < vec_len self.old.remaining) }

@@ -2,8 +2,8 @@
 ghost use Rattle.std.specs.Prelude.{◌≡◌, ◌+◌, ◌<◌, ◌≤◌, ◌^◌, length, find, drop, All};
 ghost use Rattle.trade_line.specs.Inner.Reads.{is_marked, reads, skipped};
 
-// What a read of a list finds: the first remaining room, its place, and the number of entries read. If no room remains, the
-// place is the list's end.
+// The result of reading a list: the first remaining room, the place of that room on the list, and the number of
+// entries read. If no room remains, the place is the list's end.
 #[derive(Clone, Copy)]
 pub(crate) struct Found {
     pub(crate) room: Option<usize>,
@@ -11,7 +11,7 @@ pub(crate) struct Found {
     pub(crate) looks: usize,
 }
 
-// Reads the list from the place `from` up to the first remaining room.
+// Reads the list from the place `from` up to the first remaining room, or to the end if no room remains.
 pub(crate) fn read_on(list: &[usize], from: usize, remaining: &[bool]) -> Found
     requires from { from ≤ length list.now }
     requires known { All (λ r. r < length remaining.now) list.now }

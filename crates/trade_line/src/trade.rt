@@ -20,8 +20,8 @@ use crate::problem::Problem;
 use crate::progress::Progress;
 use crate::reading::read_on;
 
-// Closes a loop: the people from the front of the line up to `tenant` leave. The first of them gets `room`, the home of the
-// last; each other one gets the home of the person before them in the line.
+// Closes a loop: the people from the front of the line up to `tenant` leave. The first of them gets `room`, the home
+// of the last; each other one gets the home of the person before them in the line.
 fn close_loop<L: Line>(
     problem: &Problem,
     tenant: usize,
@@ -44,8 +44,8 @@ fn close_loop<L: Line>(
     }
 }
 
-// Serves the person at the front, who asks for `room`. Grants the room, moves its tenant to the front, or closes a
-// loop.
+// Serves the person at the front, who asks for `room`. If the tenant of the room still waits and has asked, closes a
+// loop. If the tenant still waits and has not asked, moves the tenant to the front. Otherwise grants the room.
 fn serve<L: Line>(
     problem: &Problem,
     person: usize,
@@ -113,14 +113,16 @@ fn turn<L: Line>(
 /// Carries out the exchange by "you request my house, I get your turn" (Abdulkadiroglu and Sönmez 1999). Each person
 /// gets what top trading cycles give them.
 ///
-/// On each turn, the person at the front of the line asks for the best remaining room on their list. If no listed room
-/// remains, they take their floor: their home, or nothing for a newcomer. If the tenant of the room still waits and has
-/// not asked, the tenant moves to the front and asks first. If the tenant still waits and has asked, the people from
-/// the front up to the tenant form a loop and leave: the first gets the home of the last, and each other one gets the
-/// home of the person before them in the line. In all other cases the person gets the room, or the floor, and leaves.
+/// On each turn, the person at the front of the line asks for the best remaining room on their list. If no listed
+/// room remains, they take their floor: their home, or nothing for a newcomer. If the tenant of the room still waits
+/// and has not asked, the tenant moves to the front and asks first. If the tenant still waits and has asked, the
+/// people from the front up to the tenant form a loop and leave: the first gets the home of the last, and each other
+/// one gets the home of the person before them in the line. In all other cases the person gets the room, or the
+/// floor, and leaves.
 ///
 /// Each person has a cursor on their list, which never moves back. An ask reads on from the cursor, skips the rooms
-/// that are gone, and leaves the cursor at the entry that the person asks for.
+/// that are gone, and leaves the cursor at the entry that the person asks for, or at the end of the list if no room
+/// on it remains.
 ///
 /// `line` must hold all people in priority order, and `bench` must be made for the problem's numbers of people and
 /// rooms. A run does not allocate. Over a `LinkedLine`, a run takes time linear in its asks and looks. Over a

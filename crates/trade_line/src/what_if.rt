@@ -12,14 +12,14 @@ use crate::problem::Problem;
 use crate::trade::run;
 use std::alloc::Global;
 
-/// Returns the room that the person gets if they hand in `list` instead of their own list and all others keep theirs,
-/// or `None` if the person gets no room. The person's own list does not rank the result above what they get with their
-/// own list.
+/// Returns the room that the person gets if they hand in `list` in place of their recorded list and all others keep
+/// theirs. Returns `None` if the person then gets no room. The recorded list does not rank the result above what the
+/// person gets with the recorded list.
 ///
 /// # Errors
 ///
-/// The first fault of the person or the list, in the order of `TradeFault`. `OutOfMemory` may come in place of success
-/// or of any fault but `BadIndex`, because the call checks indices before it allocates.
+/// The first fault of the person or the list, in the order of `TradeFault`. `OutOfMemory` may come in place of
+/// success or of any fault but `BadIndex`, because the call checks indices before it allocates.
 pub fn run_with_list(
     alloc: Global,
     problem: &Problem,

@@ -1,4 +1,4 @@
--- Cancels the round. Its number is not used again.
+-- Cancels the round. No later round gets the cancelled round's number.
 use Rattle.std.specs.Prelude.{not, List, [], ◌∷◌}
 use Rattle.room_types.specs.declared.phase.Phase.TheVariants.{Idle}
 use Rattle.office_state.specs.Change.{without_round}

@@ -1,4 +1,4 @@
--- The decision of a command by its checks.
+-- How the checks of a command determine the decision.
 use Rattle.std.specs.Prelude.{◌≡◌, Bool, true, not, ◌||◌, List, Option, None, Some, ◌⊎◌, MatchResult}
 use Rattle.std.specs.Prelude.{Result}
 use Rattle.office_state.specs.Empty.{is_empty}
@@ -10,8 +10,9 @@ use Rattle.office_core.specs.declared.refusal.Refusal.{Refusal}
 use Rattle.office_core.specs.declared.refusal.Refusal.TheVariants.{OutOfMemory}
 use Rattle.office_core.specs.declared.reply.Reply.{Reply}
 
--- Whether deciding needs memory. A refusal needs memory exactly if it names a room (its code is copied) or a record
--- (the list is read to find it). If no refusal applies, the changes need memory, if there are any.
+-- Whether deciding needs memory. A refusal needs memory exactly if it names a room or a record: the office copies the
+-- room's code, or reads the list to find the record. If no refusal applies, deciding needs memory exactly if there
+-- are changes.
 abbrev pub refusal_allocates : List Change → Option Refusal → Bool
 refusal_allocates changes None = not (is_empty changes)
 refusal_allocates changes (Some refusal) = names_room refusal || names_record refusal
@@ -29,8 +30,8 @@ pub record IsDecision (checks : List Check) (reply : Reply) (changes : List Chan
   pub replied : decision.reply ≡ reply
   pub changed : decision.changes.items ≡ changes
 
--- The result is the reply and the changes if no check refuses, else the first refusal that applies. In both cases it
--- may be `OutOfMemory` instead if deciding needs memory.
+-- If no check refuses, the result has this reply and these changes. Otherwise, the result is the first refusal that
+-- applies. In both cases, the result may be `OutOfMemory` instead if deciding needs memory.
 abbrev pub IsDecided : List Check → Reply → List Change → Result Decision Refusal → Type 0
 IsDecided checks reply changes result =
     MatchResult result (IsDecision checks reply changes) (IsRefusal changes checks)

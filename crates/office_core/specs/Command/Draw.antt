@@ -1,4 +1,4 @@
--- Gives each participant a lottery number: the first word goes to the first participant by identifier, and so on.
+-- Gives each participant a lottery number: the participants, sorted by identifier, get the words in order.
 use Rattle.std.specs.Prelude.{ℕ, eqb, not, List, [], ◌∷◌, ◌++◌, length, map as map_list}
 use Rattle.std.specs.List.{zip}
 use Rattle.std.specs.FinMap as map
@@ -34,7 +34,7 @@ next office words =
 abbrev pub reply_to : Office → List ℕ → Reply
 reply_to office words = reply.Drawn (length (participants office))
 
--- a change for each word
+-- for each person, a change that gives the person the word at the same position
 abbrev pub word_changes : List Text → List ℕ → List Change
 word_changes people words = map_list (λ e. PutWord e.0 e.1) (zip people words)
 

@@ -1,5 +1,5 @@
--- Records that a person leaves the college after the round. The round trades their room as a vacant one. A repeat
--- changes nothing.
+-- Records that a person leaves the college after the round. The round trades their room as a vacant one. If this is
+-- already recorded, the command changes nothing.
 use Rattle.std.specs.Prelude.{not, ◌&&◌, List, [], ◌∷◌, if◌then◌else◌}
 use Rattle.std.specs.Option.{is_some}
 use Rattle.std.specs.FinMap as map
@@ -15,7 +15,7 @@ use Rattle.office_core.specs.declared.refusal.Refusal.TheVariants.{Withdrawn}
 use Rattle.office_core.specs.declared.reply.Reply.{Reply}
 use Rattle.office_core.specs.declared.reply.Reply.TheVariants as reply
 
--- A repeat is accepted even if the person has no home.
+-- If the departure is already recorded, the office does not check that the person has a home.
 abbrev pub checks : Office → Text → List Check
 checks office person =
     (not (is_open office.phase), BadPhase office.phase)

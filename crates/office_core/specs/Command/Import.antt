@@ -35,7 +35,7 @@ use Rattle.office_core.specs.declared.refusal.Refusal.TheVariants.{ListDiffers, 
 use Rattle.office_core.specs.declared.reply.Reply.{Reply}
 use Rattle.office_core.specs.declared.reply.Reply.TheVariants as reply
 
--- a kind of list: the form of its records, and the command of each
+-- a kind of list: the form of its records, and the command that each record stands for
 pub record EntryCommand : Type 1 where
   pub Entry : Type 0
   pub form : ListForm Entry
@@ -93,8 +93,8 @@ office_after command office [] = office
 office_after command office (entry ∷ entries) =
     office_after command (command.next office entry) entries
 
--- the refusal for the first entry whose command the office refuses after the commands of the entries before it; `at` is
--- the record number of the first entry of this list
+-- The office carries out the commands of the entries in order until it refuses one. The value is the refusal for the
+-- record of that entry, or `None` if the office refuses no command. `at` is the record number of the first entry.
 abbrev pub first_denied : (command : EntryCommand) → Office → ℕ → List command.Entry → Option Refusal
 first_denied command office at [] = None
 first_denied command office at (entry ∷ entries) =
@@ -107,7 +107,8 @@ abbrev pub bad_list : ListFault → Refusal
 bad_list (list.Bad at cause) = BadRecord at cause
 bad_list list.OutOfMemory = OutOfMemory
 
--- the refusal of a list: for its first bad record or, if no record is bad, for the first whose command is refused
+-- the refusal of a list: for the first record that cannot be parsed or, if all can be parsed, for the first record
+-- whose command the office refuses
 abbrev pub list_refusal : EntryCommand → Office → List ℕ → Option Refusal
 list_refusal command office bytes =
     option_map_or (λ fault. Some (bad_list fault)) (list_fault command.form (records_of bytes))
@@ -120,7 +121,7 @@ refusal_of People = list_refusal person_command
 refusal_of Choices = list_refusal choices_command
 refusal_of Grades = list_refusal grade_command
 
--- the office after all records of a list of this kind
+-- the office after the commands of all records of a list of this kind
 abbrev pub office_with : ListKind → Office → List ℕ → Office
 office_with Rooms office bytes = office_after room_command office (entries_in room_command bytes)
 office_with People office bytes = office_after person_command office (entries_in person_command bytes)
@@ -165,11 +166,11 @@ abbrev pub check_of : Option Refusal → List Check
 check_of None = []
 check_of (Some refusal) = (true, refusal) ∷ []
 
--- the checks of a list under a known label
+-- the checks of a list if a list is already stored under its label
 abbrev pub known_label_checks : StoredImport → ListKind → List ℕ → List Check
 known_label_checks kept kind bytes = (not (is_same_import kept kind bytes), ListDiffers) ∷ []
 
--- the checks of a list under a new label
+-- the checks of a list if no list is stored under its label
 abbrev pub new_label_checks : Office → ListKind → List ℕ → List Check
 new_label_checks office kind bytes =
     (not (may_import kind office.phase), BadPhase office.phase)
@@ -190,7 +191,7 @@ keeping office label kind bytes =
           (record { kind = kind; bytes = bytes; count = record_count bytes });
     }
 
--- the checks, by whether a list is stored under the label
+-- the checks of a list; the first argument is the list that is stored under the label, if there is one
 abbrev pub checks_where : Option StoredImport → Office → ListKind → List ℕ → List Check
 checks_where (Some kept) office kind bytes = known_label_checks kept kind bytes
 checks_where None office kind bytes = new_label_checks office kind bytes

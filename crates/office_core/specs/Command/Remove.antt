@@ -1,4 +1,4 @@
--- Removes a person without a home, with the person's grade. Recorded moves remain.
+-- Removes a person who has no home. This also removes the person's grade. The recorded moves remain.
 use Rattle.std.specs.Prelude.{not, List, [], ◌∷◌}
 use Rattle.std.specs.Option.{is_some}
 use Rattle.room_types.specs.Texts.{Text}

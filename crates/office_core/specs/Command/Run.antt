@@ -24,7 +24,7 @@ next office = record office { results = round_results office; phase = Ran }
 abbrev pub reply_to : Office → Reply
 reply_to office = reply.Ran (length (participants office))
 
--- a change for each result
+-- the change that records a result
 abbrev pub result_change : Text × Assigned → Change
 result_change entry = PutResult entry.0 entry.1.room
 

@@ -51,11 +51,11 @@ first_out moves = departures moves ++ swaps moves
 abbrev pub arriving : Move → Change
 arriving move = PutHome move.person move.to
 
--- First those who move into no room leave their rooms, then those who swap leave theirs. Then everybody arrives, in the
--- order of the list for the day of moving. When somebody arrives in a room, the old tenant, if there was one, has
--- already left it. So no room is ever the home of two people. The arrival of those who move into no room changes
--- nothing. Then the moves are recorded, the round's lists, withdrawals, leavers, words and results are cleared, and the
--- phase becomes `Idle`.
+-- First, those who move into no room leave their old rooms. Next, those who swap leave their old rooms. Then all who
+-- move arrive in their new rooms, by wave and by identifier within a wave, with swaps last. When somebody arrives in
+-- a room, the room's old tenant has already left it. So no room is ever the home of two people. For those who move
+-- into no room, the change of arrival has no effect. Then come the changes that record the moves. The last two
+-- changes clear the round's lists, withdrawals, departing tenants, words and results, and set the phase to `Idle`.
 abbrev pub changes_of : Office → List Change
 changes_of office =
     map leaving (first_out (settled_moves office))

@@ -1,4 +1,4 @@
--- Takes a person out of the round. A repeat changes nothing.
+-- Takes a person out of the round. If the person has already withdrawn, the command changes nothing.
 use Rattle.std.specs.Prelude.{not, List, [], ◌∷◌, if◌then◌else◌}
 use Rattle.std.specs.FinMap as map
 use Rattle.room_types.specs.Texts.{Text}

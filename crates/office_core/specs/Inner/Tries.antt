@@ -17,7 +17,8 @@ use Rattle.office_core.specs.declared.command.import.register.Register.{Register
 use Rattle.office_core.specs.declared.refusal.Refusal.{Refusal}
 use Rattle.office_core.specs.declared.refusal.Refusal.TheVariants.{BadRecord, OutOfMemory}
 
--- the refusal of a list if the office refuses the command of record `at` with this refusal; `OutOfMemory` is unchanged
+-- the refusal of a list when the office refuses the command of record `at` with this refusal; `OutOfMemory` stays
+-- `OutOfMemory`
 abbrev pub denial_of : ℕ → Refusal → Refusal
 denial_of at refusal =
     if is_out_of_memory refusal then OutOfMemory else BadRecord at (Denied (number_of refusal))
@@ -48,12 +49,12 @@ abbrev pub HasHomes : {X : Type 0} → TextMap Person → TextMap X → Type 0
 HasHomes people homes =
     (room : Text) → map.contains_key homes room ≡ is_some (holder (λ p. p.home) people room)
 
--- the keys and homes of a register are those of its people
+-- the register's tables have exactly the keys and the homes of its people
 pub record IsIndexed (register : Register) : Type 0 where
   pub keys : HasKeys register.people register.keys
   pub homes : HasHomes register.people register.tenants
 
--- the tenants of rooms after a person with this home, or without one, is added
+-- the tenants of rooms after a person is added who has this home, or no home
 abbrev pub placed : TextMap Text → Option Text → Text → TextMap Text
 placed tenants None person = tenants
 placed tenants (Some room) person = map.insert tenants room person

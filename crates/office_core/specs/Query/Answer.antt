@@ -7,8 +7,9 @@ use Rattle.office_core.specs.declared.refusal.Refusal.TheVariants.{OutOfMemory}
 use Rattle.office_core.specs.declared.reply.Reply.{Reply}
 use Rattle.office_core.specs.declared.reply.Reply.TheVariants as reply
 
--- Whether returning the answer needs memory. A refusal needs memory exactly if it names a room. Every reply needs
--- memory except that of `Round`, and those of `Rooms`, `People`, `Order`, `Results` and `Moves` that have no rows.
+-- Whether returning the answer needs memory. A refusal needs memory exactly if it names a room. The reply to `Round`
+-- needs no memory, and neither does a reply to `Rooms`, `People`, `Order`, `Results` or `Moves` without rows. Every
+-- other reply needs memory.
 abbrev pub reply_allocates : Result Reply Refusal → Bool
 reply_allocates (Ok (reply.Round number phase people withdrawn going)) = false
 reply_allocates (Ok (reply.Rooms rows)) = not (is_empty rows)
@@ -19,7 +20,7 @@ reply_allocates (Ok (reply.Moves rows)) = not (is_empty rows)
 reply_allocates (Ok _) = true
 reply_allocates (Err refusal) = names_room refusal
 
--- the result is the expected answer, or `OutOfMemory` if returning that needs memory
+-- the result is the expected answer, or `OutOfMemory` if returning the expected answer needs memory
 abbrev pub IsAnswered : Result Reply Refusal → Result Reply Refusal → Type 0
 IsAnswered returned result =
     MatchResult result (λ reply. returned ≡ Ok reply)

@@ -11,7 +11,7 @@ use Rattle.office_core.specs.declared.reply.Standing.{Standing}
 use Rattle.office_core.specs.declared.reply.Reply.{Reply}
 use Rattle.office_core.specs.declared.reply.Reply.TheVariants as reply
 
--- the person's result; none until it is shown
+-- the person's result, or `None` if the person may not see it
 abbrev pub shown_result : Office → Text → Option Text
 shown_result office person = if is_shown office person then recorded_result office person else None
 

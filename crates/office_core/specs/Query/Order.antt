@@ -21,7 +21,7 @@ order_row office person = record {
 abbrev pub order_rows : Office → List OrderRow
 order_rows office = map (order_row office) (round_people office)
 
--- the order; refused before the draw
+-- the participants in the drawn order; refused unless lottery numbers are drawn
 abbrev pub returned : Office → Result Reply Refusal
 returned office = if has_words office.phase then Ok (reply.Order (order_rows office)) else Err
     (BadPhase office.phase)

@@ -17,7 +17,7 @@ result_row entry = record { person = entry.0; room = entry.1.room }
 abbrev pub result_rows : Office → List ResultRow
 result_rows office = map result_row (maps.entries office.results)
 
--- the results; refused before the run
+-- the results; refused unless the round has run
 abbrev pub returned : Office → Result Reply Refusal
 returned office = if has_results office.phase then Ok (reply.Results (result_rows office)) else Err
     (BadPhase office.phase)

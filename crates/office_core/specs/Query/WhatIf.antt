@@ -20,8 +20,8 @@ checks office person choices =
     ∷ (not (is_participant office person), NotInRound)
     ∷ flat_map (room_checks office) choices
 
--- By the recorded list, what the other list would give does not rank above the recorded result. Any other reply meets
--- this condition.
+-- The person's recorded list does not rank the room of the reply `WouldGet` above the person's recorded result. Any
+-- other reply meets this condition.
 abbrev pub GainsNothing : Office → Text → Reply → Type 0
 GainsNothing office person (reply.WouldGet room) =
     round_rank office person (recorded_result office person) ≤ round_rank office person room

@@ -27,7 +27,7 @@ room_checks office room =
 abbrev pub home_checks : Office → Text → List Check
 home_checks office room = room_checks office room ++ (is_taken office room, RoomTaken) ∷ []
 
--- the checks of a home, if there is one
+-- the checks of a home; none if there is no home
 abbrev pub home_checks_if_any : Office → Option Text → List Check
 home_checks_if_any office None = []
 home_checks_if_any office (Some room) = home_checks office room
@@ -38,7 +38,7 @@ names_room (UnknownRoom room) = true
 names_room (RoomShut room) = true
 names_room _ = false
 
--- the refusal names a record of a list: the list is read to find it
+-- the refusal names a record of a list: the office reads the list to find that record
 abbrev pub names_record : Refusal → Bool
 names_record (BadRecord at cause) = true
 names_record _ = false

@@ -12,13 +12,14 @@ use room_types::rows::copy_optional;
 use room_types::{Key, Name, PersonId, RoomCode};
 use std::alloc::Global;
 
-/// Decides to add a person. Scans the people.
+/// Decides to add a person, with the home if there is one. Scans the people.
 ///
 /// # Errors
 ///
-/// The first of these that applies: `BadPhase` unless idle or open; `DuplicatePerson`; `KeyInUse`; `UnknownRoom`,
-/// `RoomShut` or `RoomTaken` for the home, if there is one; `LimitReached` at `PEOPLE_LIMIT` people. `OutOfMemory` if
-/// an allocation fails.
+/// The first of these that applies: `BadPhase` unless the phase is `Idle` or `Opened`; `DuplicatePerson` if somebody
+/// has the identifier; `KeyInUse` if somebody has the key; `UnknownRoom`, `RoomShut` or `RoomTaken` if the home is an
+/// unknown room, a shut room or somebody's home; `LimitReached` if there are already `PEOPLE_LIMIT` people.
+/// `OutOfMemory` if an allocation fails.
 pub fn add_person(
     alloc: Global,
     office: &Office,

@@ -16,8 +16,8 @@ use std::alloc::Global;
 ///
 /// # Errors
 ///
-/// The first of these that applies: `BadPhase` unless idle or open; `DuplicateRoom`; `LimitReached` at `ROOM_LIMIT`
-/// rooms. `OutOfMemory` if an allocation fails.
+/// The first of these that applies: `BadPhase` unless the phase is `Idle` or `Opened`; `DuplicateRoom` if a room has
+/// the code; `LimitReached` if there are already `ROOM_LIMIT` rooms. `OutOfMemory` if an allocation fails.
 pub fn add_room(alloc: Global, office: &Office, room: &RoomCode) -> Result<Decision, Refusal>
     ensures { IsDecided (checks office.now room.now) (reply_to office.now room.now)
         (changes_of office.now room.now) result }
@@ -27,7 +27,7 @@ pub fn add_room(alloc: Global, office: &Office, room: &RoomCode) -> Result<Decis
     decision_of_one(alloc, Reply::Done, Change::PutRoom { room, shut: false })
 }
 
-/// Checks that the room may be added to the office, with `rooms` in place of the office's own.
+/// Checks that the room may be added. Uses the table `rooms` in place of the office's own rooms.
 pub(crate) fn may_add_room(
     office: &Office,
     rooms: &Table<RoomCodes, bool>,

@@ -10,11 +10,11 @@ use office_state::{Change, Office};
 use room_types::Phase;
 use std::alloc::Global;
 
-/// Decides to cancel the round. Its number is not used again.
+/// Decides to cancel the round. No later round gets the cancelled round's number.
 ///
 /// # Errors
 ///
-/// `BadPhase` if no round is under way or its results are published; `OutOfMemory` if an allocation fails.
+/// `BadPhase` if no round is under way, or if its results are published; `OutOfMemory` if an allocation fails.
 pub fn cancel(alloc: Global, office: &Office) -> Result<Decision, Refusal>
     ensures { IsDecided (checks office.now) (reply_to office.now) (changes_of office.now) result }
 {

@@ -14,7 +14,7 @@ use std::alloc::Global;
 ///
 /// # Errors
 ///
-/// `BadPhase` if the round is not open; `OutOfMemory` if an allocation fails.
+/// `BadPhase` unless the phase is `Opened`; `OutOfMemory` if an allocation fails.
 pub fn close_round(alloc: Global, office: &Office) -> Result<Decision, Refusal>
     ensures { IsDecided (checks office.now) (reply_to office.now) (changes_of office.now) result }
 {

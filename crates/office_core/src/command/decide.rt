@@ -32,16 +32,22 @@ use crate::refusal::Refusal;
 use office_state::Office;
 use std::alloc::Global;
 
-/// Decides a command. Does not change the office. To carry the command out, apply the changes of the decision in order,
-/// each with `apply`. Applying them all preserves the invariants of the office.
+/// Decides a command. Does not change the office. To carry the command out, apply the changes of the decision in
+/// order, each with `apply`. Applying all of them preserves the invariants of the office.
 ///
 /// # Errors
 ///
-/// The first refusal that applies: `BadPhase` if the phase does not allow the command, then the refusals that the
-/// command's own function lists. Only `Import` checks its label before the phase. `OutOfMemory` only where memory is
-/// needed: to copy the code into `UnknownRoom` or `RoomShut`, to read a list before `BadRecord` can be found, or for
-/// the changes of a command that is not refused. A repeated `Withdraw` or `Going`, and an `Import` of a list that is
-/// already stored, have no changes and never fail with `OutOfMemory`.
+/// The first refusal that applies. For every command except `Import`, the office first checks the phase (`BadPhase`).
+/// Then it makes the other checks that the command's own function lists. For `Import`, it checks the label first.
+///
+/// `OutOfMemory` if one of these tasks runs out of memory:
+///
+/// - to copy the room's code into `UnknownRoom` or `RoomShut`;
+/// - to read a list that the office refuses with `BadRecord`;
+/// - to decide an accepted command that has changes.
+///
+/// A repeated `Withdraw` or `Going`, and an `Import` of a list that is already stored under its label, have no
+/// changes. So these commands never fail with `OutOfMemory`.
 pub fn decide(alloc: Global, office: &Office, command: &Command) -> Result<Decision, Refusal>
     requires { IsLawful office.now }
     ensures decides { IsDecided (checks office.now command.now) (reply_to office.now command.now)
@@ -53,7 +59,7 @@ pub fn decide(alloc: Global, office: &Office, command: &Command) -> Result<Decis
     dispatch(alloc, office, command)
 }
 
-// Calls the command's own function.
+// Calls the function that decides this kind of command.
 fn dispatch(alloc: Global, office: &Office, command: &Command) -> Result<Decision, Refusal>
     requires { IsLawful office.now }
     ensures formed { OnOk result (IsFormed command.now) }

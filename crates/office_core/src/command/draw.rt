@@ -11,12 +11,12 @@ use office_state::{Change, Office};
 use room_types::{OutOfMemory, PersonId, Phase, Word};
 use std::alloc::Global;
 
-/// Decides to give each participant a lottery number: the first word to the first participant by identifier, and so on.
+/// Decides to give each participant a lottery number: the participants, sorted by identifier, get the words in order.
 ///
 /// # Errors
 ///
-/// The first of these that applies: `BadPhase` unless closed; `WrongWordCount` unless there is one word for each
-/// participant. `OutOfMemory` if an allocation fails.
+/// The first of these that applies: `BadPhase` unless the phase is `Closed`; `WrongWordCount` unless there is exactly
+/// one word for each participant. `OutOfMemory` if an allocation fails.
 #[tactic(auto, using(crate::proofs::commands::Changes::has_last))]
 pub fn draw(alloc: Global, office: &Office, words: &[Word]) -> Result<Decision, Refusal>
     ensures { IsDecided (checks office.now words.now) (reply_to office.now words.now)
@@ -42,7 +42,7 @@ pub fn draw(alloc: Global, office: &Office, words: &[Word]) -> Result<Decision, 
     })
 }
 
-// Returns a change for each word.
+// Returns, for each person, a change that gives the person the word at the same position.
 #[tactic(auto, using(crate::proofs::commands::Words::word_changes_more))]
 fn word_changes(
     alloc: Global,

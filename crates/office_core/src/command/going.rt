@@ -10,13 +10,14 @@ use office_state::{Change, Office};
 use room_types::PersonId;
 use std::alloc::Global;
 
-/// Decides to record that a person leaves the college after the round. The round trades their room as a vacant one. A
-/// repeat changes nothing.
+/// Decides to record that a person leaves the college after the round. The round trades their room as a vacant one.
+/// If this is already recorded, the decision has no changes.
 ///
 /// # Errors
 ///
-/// The first of these that applies: `BadPhase` unless open; `UnknownPerson`; `Withdrawn`; `NoHome`, unless this is a
-/// repeat. `OutOfMemory` if an allocation fails; never for a repeat.
+/// The first of these that applies: `BadPhase` unless the phase is `Opened`; `UnknownPerson` if nobody has the
+/// identifier; `Withdrawn` if the person has withdrawn; `NoHome` if the person has no home. `OutOfMemory` if an
+/// allocation fails. If the departure is already recorded, the call returns neither `NoHome` nor `OutOfMemory`.
 pub fn going(alloc: Global, office: &Office, person: &PersonId) -> Result<Decision, Refusal>
     ensures { IsDecided (checks office.now person.now) (reply_to office.now person.now)
         (changes_of office.now person.now) result }

@@ -1,4 +1,4 @@
-//! Imports a list under a label. Importing it again under the same label has no effect.
+//! Imports a list under a label. Importing the same list again under the same label has no effect.
 ghost use Rattle.std.specs.Prelude.{◌≡◌, ◌≤◌, IfOk, IfErr, None, length, []};
 ghost use Rattle.office_lists.specs.Records.{record_limit};
 ghost use Rattle.office_core.specs.Command.Decision.{IsDecided};
@@ -27,18 +27,22 @@ use office_state::{BYTE_LIMIT, Change, LABEL_LIMIT, Office, StoredImport};
 use room_types::{Label, ListKind, Listing, Phase};
 use std::alloc::Global;
 
-/// Decides to import a list. If the list is already stored under its label, the reply in any phase is that of the first
-/// import, and the records are not read again.
+/// Decides to import a list under a label. If the same list is already stored under the label, the decision has the
+/// reply of the first import and no changes, in any phase. The call does not parse the records again.
 ///
 /// Takes O(n log n) steps, where n is the number of records, people and rooms together, and reads the bytes once.
 ///
 /// # Errors
 ///
-/// `ListDiffers` if a different list is stored under the label. Under a new label, the first of these that applies:
-/// `BadPhase` unless idle or open, and for choices unless open; `LimitReached` at `LABEL_LIMIT` stored lists, and for
-/// more than `BYTE_LIMIT` bytes; `BadRecord` for the first record that cannot be parsed; if every record can be parsed,
-/// `BadRecord` for the first whose own command the office refuses. `OutOfMemory` if an allocation fails; never if a
-/// list is stored under the label.
+/// If a list is already stored under the label, the only error is `ListDiffers`, for a list other than the stored
+/// one. Otherwise, the first of these that applies:
+///
+/// - `BadPhase` unless the phase is `Idle` or `Opened`; for a list of choices, unless the phase is `Opened`.
+/// - `LimitReached` if `LABEL_LIMIT` lists are already stored, or if the list has more than `BYTE_LIMIT` bytes.
+/// - `BadRecord` for the first record that cannot be parsed.
+/// - `BadRecord` for the first record whose command the office refuses after the commands of the records before it.
+///
+/// `OutOfMemory` if an allocation fails.
 pub fn import(
     alloc: Global,
     office: &Office,
@@ -56,7 +60,7 @@ pub fn import(
     }
 }
 
-// Decides to import a list under a known label.
+// Decides to import a list if the list `kept` is already stored under its label.
 fn import_known(
     alloc: Global,
     kept: &StoredImport,
@@ -75,14 +79,14 @@ fn import_known(
     })
 }
 
-// Returns whether this is the stored list.
+// Returns whether the stored list has this kind and these bytes.
 fn is_same_import(kept: &StoredImport, kind: ListKind, bytes: &Listing<u8>) -> bool
     ensures { result ≡ is_same_import kept.now kind bytes.now }
 {
     kept.kind == kind && kept.bytes.as_slice() == bytes.as_slice()
 }
 
-// Decides to import a list under a new label.
+// Decides to import a list if no list is stored under its label.
 fn import_new(
     alloc: Global,
     office: &Office,
@@ -127,7 +131,7 @@ fn may_import(kind: ListKind, phase: Phase) -> bool
     }
 }
 
-// Returns a change for each record of the list.
+// Parses and checks the records of the list. Returns one change for each record, or the refusal of the list.
 #[tactic(auto, using(crate::proofs::imports::ListChecks::as_many_changes))]
 fn record_changes(
     alloc: Global,

@@ -10,12 +10,12 @@ use office_state::{Change, Office};
 use room_types::PersonId;
 use std::alloc::Global;
 
-/// Decides that a person gives up the home.
+/// Decides to end a person's tenancy. The person then has no home.
 ///
 /// # Errors
 ///
-/// The first of these that applies: `BadPhase` unless idle; `UnknownPerson`; `NoHome`. `OutOfMemory` if an allocation
-/// fails.
+/// The first of these that applies: `BadPhase` unless the phase is `Idle`; `UnknownPerson` if nobody has the
+/// identifier; `NoHome` if the person has no home. `OutOfMemory` if an allocation fails.
 pub fn leave(alloc: Global, office: &Office, person: &PersonId) -> Result<Decision, Refusal>
     ensures { IsDecided (checks office.now person.now) (reply_to office.now person.now)
         (changes_of office.now person.now) result }

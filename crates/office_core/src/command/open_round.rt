@@ -14,8 +14,8 @@ use std::alloc::Global;
 ///
 /// # Errors
 ///
-/// The first of these that applies: `BadPhase` unless idle; `LimitReached` after round `ROUND_LIMIT`. `OutOfMemory` if
-/// an allocation fails.
+/// The first of these that applies: `BadPhase` unless the phase is `Idle`; `LimitReached` if the latest round has the
+/// number `ROUND_LIMIT`. `OutOfMemory` if an allocation fails.
 pub fn open_round(alloc: Global, office: &Office) -> Result<Decision, Refusal>
     ensures { IsDecided (checks office.now) (reply_to office.now) (changes_of office.now) result }
 {

@@ -10,11 +10,11 @@ use office_state::{Change, Office};
 use room_types::Phase;
 use std::alloc::Global;
 
-/// Decides to show each participant the result.
+/// Decides to publish the results. Each participant may then see their own result.
 ///
 /// # Errors
 ///
-/// `BadPhase` unless the round has run and is not published; `OutOfMemory` if an allocation fails.
+/// `BadPhase` unless the round has run and its results are not yet published; `OutOfMemory` if an allocation fails.
 pub fn publish(alloc: Global, office: &Office) -> Result<Decision, Refusal>
     ensures { IsDecided (checks office.now) (reply_to office.now) (changes_of office.now) result }
 {

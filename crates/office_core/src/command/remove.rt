@@ -10,12 +10,12 @@ use office_state::{Change, Office};
 use room_types::PersonId;
 use std::alloc::Global;
 
-/// Decides to remove a person who has no home, and that person's grade. Recorded moves remain.
+/// Decides to remove a person who has no home. This also removes the person's grade. The recorded moves remain.
 ///
 /// # Errors
 ///
-/// The first of these that applies: `BadPhase` unless idle; `UnknownPerson`; `HasHome`. `OutOfMemory` if an allocation
-/// fails.
+/// The first of these that applies: `BadPhase` unless the phase is `Idle`; `UnknownPerson` if nobody has the
+/// identifier; `HasHome` if the person has a home. `OutOfMemory` if an allocation fails.
 pub fn remove(alloc: Global, office: &Office, person: &PersonId) -> Result<Decision, Refusal>
     ensures { IsDecided (checks office.now person.now) (reply_to office.now person.now)
         (changes_of office.now person.now) result }

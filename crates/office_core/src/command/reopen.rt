@@ -14,8 +14,8 @@ use std::alloc::Global;
 ///
 /// # Errors
 ///
-/// The first of these that applies: `BadPhase` unless idle or open; `UnknownRoom`; `NotShut`. `OutOfMemory` if an
-/// allocation fails.
+/// The first of these that applies: `BadPhase` unless the phase is `Idle` or `Opened`; `UnknownRoom` if no room has
+/// the code; `NotShut` if the room is not shut. `OutOfMemory` if an allocation fails.
 pub fn reopen(alloc: Global, office: &Office, room: &RoomCode) -> Result<Decision, Refusal>
     ensures { IsDecided (checks office.now room.now) (reply_to office.now room.now)
         (changes_of office.now room.now) result }

@@ -16,12 +16,12 @@ use room_types::rows::copy_optional;
 use room_types::{OutOfMemory, Phase, Table};
 use std::alloc::Global;
 
-/// Decides the exchange: each participant's result is the room that top trading cycles assign to them in the round's
-/// problem (Abdulkadiroglu and Sönmez 1999).
+/// Decides to run the exchange. Each participant's result is the room that top trading cycles assign to them in the
+/// round's problem (Abdulkadiroglu and Sönmez 1999).
 ///
 /// # Errors
 ///
-/// `BadPhase` unless drawn; `OutOfMemory` if an allocation fails.
+/// `BadPhase` unless the phase is `Drawn`; `OutOfMemory` if an allocation fails.
 #[tactic(auto, using(crate::proofs::commands::Changes::has_last))]
 pub fn run(alloc: Global, office: &Office) -> Result<Decision, Refusal>
     requires { IsLawful office.now }
@@ -43,7 +43,7 @@ pub fn run(alloc: Global, office: &Office) -> Result<Decision, Refusal>
     })
 }
 
-// Returns a change for each result.
+// Returns, for each result, a change that records it.
 fn result_changes(
     alloc: Global,
     results: &Table<PersonIds, Assigned>,

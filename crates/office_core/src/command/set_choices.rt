@@ -18,8 +18,9 @@ use std::alloc::Global;
 ///
 /// # Errors
 ///
-/// The first of these that applies: `BadPhase` unless open; `UnknownPerson`; `Withdrawn`; `Going`; `UnknownRoom` or
-/// `RoomShut` for the first room that is not known or is shut. `OutOfMemory` if an allocation fails.
+/// The first of these that applies: `BadPhase` unless the phase is `Opened`; `UnknownPerson` if nobody has the
+/// identifier; `Withdrawn` if the person has withdrawn; `Going` if the person leaves the college; `UnknownRoom` or
+/// `RoomShut` for the first room on the list that is unknown or shut. `OutOfMemory` if an allocation fails.
 pub fn set_choices(
     alloc: Global,
     office: &Office,

@@ -15,8 +15,8 @@ use std::alloc::Global;
 ///
 /// # Errors
 ///
-/// The first of these that applies: `BadPhase` unless idle or open; `UnknownPerson`. `OutOfMemory` if an allocation
-/// fails.
+/// The first of these that applies: `BadPhase` unless the phase is `Idle` or `Opened`; `UnknownPerson` if nobody has
+/// the identifier. `OutOfMemory` if an allocation fails.
 pub fn set_grade(
     alloc: Global,
     office: &Office,

@@ -11,12 +11,13 @@ use office_state::{Change, Office};
 use room_types::{PersonId, RoomCode};
 use std::alloc::Global;
 
-/// Decides that a person without a home moves into a room. Scans the people.
+/// Decides to make a room the home of a person who has none. Scans the people.
 ///
 /// # Errors
 ///
-/// The first of these that applies: `BadPhase` unless idle; `UnknownPerson`; `HasHome`; `UnknownRoom`; `RoomShut`;
-/// `RoomTaken`. `OutOfMemory` if an allocation fails.
+/// The first of these that applies: `BadPhase` unless the phase is `Idle`; `UnknownPerson` if nobody has the
+/// identifier; `HasHome` if the person has a home; `UnknownRoom` if no room has the code; `RoomShut` if the room is
+/// shut; `RoomTaken` if somebody lives there. `OutOfMemory` if an allocation fails.
 pub fn set_home(
     alloc: Global,
     office: &Office,

@@ -18,14 +18,21 @@ use room_types::rows::copy_optional;
 use room_types::{Move, OutOfMemory, Phase, Wave};
 use std::alloc::Global;
 
-/// Decides to carry out the moves of the round, to record them, and to end the round. First those who leave the college
-/// move out, and those who swap leave their rooms. Then everybody arrives in the new room, wave by wave, and the moves
-/// are recorded. For each person who moves, the changes set the home once, or twice if the person leaves the college or
-/// swaps.
+/// Decides to settle the round. The changes of the decision come in this order:
+///
+/// 1. Each person who leaves the college moves out of the old room.
+/// 2. Each person who swaps moves out of the old room.
+/// 3. Each person who moves gets the new room as home, in the order of the waves, with swaps last. A person who
+///    leaves the college has no new room and so gets no home.
+/// 4. The moves are recorded.
+/// 5. The round ends.
+///
+/// So the changes set the home twice for a person who leaves the college or swaps, and once for any other person who
+/// moves.
 ///
 /// # Errors
 ///
-/// `BadPhase` unless published; `OutOfMemory` if an allocation fails.
+/// `BadPhase` unless the phase is `Published`; `OutOfMemory` if an allocation fails.
 #[tactic(auto, using(crate::proofs::commands::Changes::has_last))]
 pub fn settle(alloc: Global, office: &Office) -> Result<Decision, Refusal>
     requires { IsLawful office.now }
@@ -68,7 +75,7 @@ fn settled_moves(alloc: Global, office: &Office) -> Result<Vec<Move>, OutOfMemor
     )
 }
 
-// Returns the moves of these relocations, with these waves.
+// Returns one move of this round for each relocation, with the wave at the same position.
 #[tactic(auto, using(crate::proofs::settlements::Recorded::moves_with_more))]
 fn moves_with(
     alloc: Global,
@@ -92,7 +99,8 @@ fn moves_with(
     Ok(moves)
 }
 
-// Appends a change for each person who leaves before anybody arrives.
+// Appends the changes by which people leave their old rooms before anybody arrives. Those who move into no room come
+// first, then those who swap.
 fn push_first_out(changes: &mut Vec<Change>, moves: &[Move]) -> Result<(), OutOfMemory>
     ensures { OnOk result (changes.new.items ≡ changes.old.items
         ++ map_list leaving (first_out moves.now)) }

@@ -11,12 +11,13 @@ use office_state::{Change, Office};
 use room_types::RoomCode;
 use std::alloc::Global;
 
-/// Decides to take a room out of use. The reply names the tenant who loses the home, if there is one. Scans the people.
+/// Decides to take a room out of use. If the room has a tenant, that person loses their home, and the reply names
+/// them. Scans the people.
 ///
 /// # Errors
 ///
-/// The first of these that applies: `BadPhase` unless idle or open; `UnknownRoom`; `RoomShut`. `OutOfMemory` if an
-/// allocation fails.
+/// The first of these that applies: `BadPhase` unless the phase is `Idle` or `Opened`; `UnknownRoom` if no room has
+/// the code; `RoomShut` if the room is already shut. `OutOfMemory` if an allocation fails.
 #[tactic(auto, using(crate::proofs::commands::Changes::has_last))]
 pub fn shut(alloc: Global, office: &Office, room: &RoomCode) -> Result<Decision, Refusal>
     ensures { IsDecided (checks office.now room.now) (reply_to office.now room.now)

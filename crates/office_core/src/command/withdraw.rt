@@ -10,12 +10,14 @@ use office_state::{Change, Office};
 use room_types::PersonId;
 use std::alloc::Global;
 
-/// Decides to take a person, and that person's room, out of the round. A repeat changes nothing.
+/// Decides to take a person, and that person's room, out of the round. If the person has already withdrawn, the
+/// decision has no changes.
 ///
 /// # Errors
 ///
-/// The first of these that applies: `BadPhase` unless open; `UnknownPerson`; `Going`. `OutOfMemory` if an allocation
-/// fails; never for a repeat.
+/// The first of these that applies: `BadPhase` unless the phase is `Opened`; `UnknownPerson` if nobody has the
+/// identifier; `Going` if the person leaves the college. `OutOfMemory` if an allocation fails, but never if the
+/// person has already withdrawn.
 pub fn withdraw(alloc: Global, office: &Office, person: &PersonId) -> Result<Decision, Refusal>
     ensures { IsDecided (checks office.now person.now) (reply_to office.now person.now)
         (changes_of office.now person.now) result }

@@ -19,18 +19,21 @@ use crate::reply::Reply;
 use office_state::Office;
 use std::alloc::Global;
 
-/// Answers a query. Changes nothing. For `WhatIf`, the reply is the room that another list would give; the recorded
-/// list never ranks that room above the result. Rows of rooms ascend by code, and rows of people and of results by
-/// identifier.
+/// Answers a query. Changes nothing. The rows of `Rooms` ascend by room code. The rows of `People` and `Results`
+/// ascend by the person's identifier. The reply to `WhatIf` is the room that the person would get with the other
+/// list. The person's recorded list never ranks that room above the person's result.
 ///
 /// # Errors
 ///
-/// `BadPhase` for `Order` before the draw, and for `Results` and `WhatIf` before the run; `NoSuchRound` for the moves
-/// of a round that is not over; `UnknownPerson` for a key or an identifier that nobody has; `NotInRound` for `WhatIf`
-/// of somebody who has withdrawn or leaves the college; for `WhatIf`, `UnknownRoom` or `RoomShut` for the first room on
-/// its list that is unknown or shut. `OutOfMemory` only where memory is needed: to copy the room's code into
-/// `UnknownRoom` or `RoomShut`, or for the reply. Every reply needs memory except that of `Round`, and those of
-/// `Rooms`, `People`, `Order`, `Results` and `Moves` that have no rows.
+/// - `BadPhase` for `Order` unless lottery numbers are drawn.
+/// - `BadPhase` for `Results` and `WhatIf` unless the round has run.
+/// - `NoSuchRound` for `Moves` unless the round is settled or cancelled.
+/// - `UnknownPerson` for `Me` if nobody has the key, and for `WhatIf` if nobody has the identifier.
+/// - `NotInRound` for `WhatIf` if the person has withdrawn or leaves the college.
+/// - `UnknownRoom` or `RoomShut` for `WhatIf` if a room on the other list is unknown or shut. The error holds
+///   a copy of the code of the first such room.
+/// - `OutOfMemory` if memory runs out for that copy or for the reply. These replies need no memory: the reply to
+///   `Round`, and a reply without rows to `Rooms`, `People`, `Order`, `Results` or `Moves`.
 pub fn answer(alloc: Global, office: &Office, query: &Query) -> Result<Reply, Refusal>
     requires { IsLawful office.now }
     ensures returned { IsAnswered (returned office.now query.now) result }

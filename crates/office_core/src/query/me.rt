@@ -1,4 +1,4 @@
-//! What the owner of a key sees.
+//! What the person with a key may see.
 ghost use Rattle.std.specs.Prelude.{◌≡◌, IfOk};
 ghost use Rattle.office_state.specs.Office.{choices_of};
 ghost use Rattle.office_core.specs.Query.Answer.{IsAnswered};
@@ -11,7 +11,7 @@ use room_types::rows::copy_optional;
 use room_types::{Choices, Key, OutOfMemory, PersonId, RoomCode};
 use std::alloc::Global;
 
-/// Returns what the owner of this key sees. Scans the people.
+/// Returns what the person with this key may see. Scans the people to find the key.
 ///
 /// # Errors
 ///
@@ -29,7 +29,7 @@ pub fn me(alloc: Global, office: &Office, key: &Key) -> Result<Reply, Refusal>
     Ok(Reply::Me(standing))
 }
 
-// Returns what this person sees.
+// Returns what this person may see: their own record, and the number and the phase of the round.
 fn standing_of(
     alloc: Global,
     office: &Office,
@@ -69,7 +69,8 @@ fn recorded_choices(
     }
 }
 
-// Returns a copy of the result if it is shown, and `None` if not.
+// Returns a copy of the room that the round gives the person. Returns `None` if the person may not see the result, or
+// if there is no such room.
 fn shown_result(office: &Office, person: &PersonId) -> Result<Option<RoomCode>, OutOfMemory>
     ensures { IfOk result (λ room. room ≡ shown_result office.now person.now) }
 {

@@ -11,11 +11,12 @@ use room_types::rows::copy_optional;
 use room_types::{Listing, Move, OutOfMemory};
 use std::alloc::Global;
 
-/// Returns the moves of this round, by identifier. A cancelled round has none.
+/// Returns the moves of this round, sorted by the person's identifier. A cancelled round has no moves.
 ///
 /// # Errors
 ///
-/// `NoSuchRound` unless the round is over. Otherwise, `OutOfMemory` if an allocation fails; never without moves.
+/// `NoSuchRound` unless the round is settled or cancelled. Otherwise, `OutOfMemory` if an allocation fails. If there
+/// are no moves, the call never returns `OutOfMemory`.
 pub fn moves(alloc: Global, office: &Office, round: u16) -> Result<Reply, Refusal>
     ensures { IsAnswered (returned office.now round) result }
 {

@@ -15,8 +15,8 @@ use std::alloc::Global;
 ///
 /// # Errors
 ///
-/// `BadPhase` unless lottery numbers are drawn. Otherwise, `OutOfMemory` if an allocation fails; never without
-/// participants.
+/// `BadPhase` unless lottery numbers are drawn. Otherwise, `OutOfMemory` if an allocation fails. If there are no
+/// participants, the call never returns `OutOfMemory`.
 #[tactic(auto, using(crate::proofs::reply_rows::Listings::some_ordered))]
 pub fn order(alloc: Global, office: &Office) -> Result<Reply, Refusal>
     ensures { IsAnswered (returned office.now) result }

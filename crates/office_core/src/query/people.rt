@@ -9,11 +9,11 @@ use room_types::rows::copy_optional;
 use room_types::{Listing, PersonRow};
 use std::alloc::Global;
 
-/// Returns the people by identifier, without their keys.
+/// Returns the people, sorted by identifier, without their keys.
 ///
 /// # Errors
 ///
-/// `OutOfMemory` if an allocation fails; never without people.
+/// `OutOfMemory` if an allocation fails. If there are no people, the call never fails.
 pub fn people(alloc: Global, office: &Office) -> Result<Reply, Refusal>
     ensures { IsAnswered (returned office.now) result }
 {

@@ -12,12 +12,12 @@ use room_types::rows::copy_optional;
 use room_types::{Listing, OutOfMemory, ResultRow};
 use std::alloc::Global;
 
-/// Returns the result of each participant, by identifier.
+/// Returns the result of each participant, sorted by the person's identifier.
 ///
 /// # Errors
 ///
-/// `BadPhase` before the round has run. `OutOfMemory` if an allocation fails. Without results, the call does not
-/// allocate.
+/// `BadPhase` unless the round has run. Otherwise, `OutOfMemory` if an allocation fails. If there are no results, the
+/// call does not allocate.
 pub fn results(alloc: Global, office: &Office) -> Result<Reply, Refusal>
     ensures { IsAnswered (returned office.now) result }
 {

@@ -9,12 +9,12 @@ use office_state::{Office, copy_found};
 use room_types::{Listing, PersonId, RoomRow, State};
 use std::alloc::Global;
 
-/// Returns the rooms by code, each with its state and tenant. Takes O(n log n) steps, where n is the number of rooms
-/// and people together.
+/// Returns the rooms, sorted by code, each with its state and its tenant. Takes O(n log n) steps, where n is the
+/// number of rooms and people together.
 ///
 /// # Errors
 ///
-/// `OutOfMemory` if an allocation fails; never without rooms.
+/// `OutOfMemory` if an allocation fails. If there are no rooms, the call never fails.
 #[tactic(auto, using(crate::proofs::reply_rows::Listings::no_rows, crate::proofs::reply_rows::Listings::some_rows))]
 pub fn rooms(alloc: Global, office: &Office) -> Result<Reply, Refusal>
     ensures { IsAnswered (returned office.now) result }
@@ -37,7 +37,7 @@ pub fn rooms(alloc: Global, office: &Office) -> Result<Reply, Refusal>
     Ok(Reply::Rooms(Listing::new(rows)))
 }
 
-// Returns the state of a room.
+// Returns `Shut` for a shut room, `Occupied` for a room with a tenant, and `Free` for any other room.
 fn state_of(shut: bool, tenant: &Option<PersonId>) -> State
     ensures { result ≡ state_of shut tenant.now }
 {

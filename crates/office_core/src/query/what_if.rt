@@ -14,14 +14,15 @@ use office_state::round::result_by;
 use room_types::{Choices, PersonId};
 use std::alloc::Global;
 
-/// Returns the room that a participant would get with this list if the order and all other lists stayed the same. The
-/// recorded list never ranks that room above the result.
+/// Returns the room that a participant would get with this list in place of the recorded one. The order and all other
+/// lists stay the same. The participant's recorded list never ranks the returned room above their result.
 ///
 /// # Errors
 ///
-/// The first of these that applies: `BadPhase` unless the round has run; `UnknownPerson`; `NotInRound`; `UnknownRoom`
-/// or `RoomShut` for the first room on the list that is unknown or shut. `OutOfMemory` if an allocation fails; it
-/// never takes the place of `BadPhase`, `UnknownPerson` or `NotInRound`.
+/// The first of these that applies: `BadPhase` unless the round has run; `UnknownPerson` if nobody has the
+/// identifier; `NotInRound` if the person has withdrawn or leaves the college; `UnknownRoom` or `RoomShut` for the
+/// first room on the list that is unknown or shut. `OutOfMemory` if an allocation fails, but never instead of
+/// `BadPhase`, `UnknownPerson` or `NotInRound`.
 pub fn what_if(
     alloc: Global,
     office: &Office,

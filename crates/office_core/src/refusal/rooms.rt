@@ -12,7 +12,7 @@ use room_types::RoomCode;
 ///
 /// # Errors
 ///
-/// `UnknownRoom`; `RoomShut`.
+/// `UnknownRoom` if no room has the code; `RoomShut` if the room is shut.
 pub fn may_list(office: &Office, room: &RoomCode) -> Result<(), Refusal>
     ensures { Passes (room_checks office.now room.now) result }
 {
@@ -29,7 +29,7 @@ pub fn may_list(office: &Office, room: &RoomCode) -> Result<(), Refusal>
 ///
 /// # Errors
 ///
-/// That of `may_list` for the first room that fails.
+/// The error of `may_list` for the first room that may not be on a list.
 pub fn may_list_all(office: &Office, rooms: &[RoomCode]) -> Result<(), Refusal>
     ensures { Passes (flat_map (room_checks office.now) rooms.now) result }
 {
@@ -43,7 +43,7 @@ pub fn may_list_all(office: &Office, rooms: &[RoomCode]) -> Result<(), Refusal>
 ///
 /// # Errors
 ///
-/// Those of `may_list`; `RoomTaken`.
+/// `UnknownRoom` if no room has the code; `RoomShut` if the room is shut; `RoomTaken` if somebody lives there.
 pub fn may_live(office: &Office, room: &RoomCode) -> Result<(), Refusal>
     ensures { Passes (home_checks office.now room.now) result }
 {
@@ -58,7 +58,7 @@ pub fn may_live(office: &Office, room: &RoomCode) -> Result<(), Refusal>
 ///
 /// # Errors
 ///
-/// Those of `may_live`.
+/// The errors of `may_live`, if there is a room.
 pub fn may_have_home(office: &Office, home: &Option<RoomCode>) -> Result<(), Refusal>
     ensures { Passes (home_checks_if_any office.now home.now) result }
 {

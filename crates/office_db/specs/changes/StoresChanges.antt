@@ -8,15 +8,16 @@ use Rattle.office_schema.specs.cells.WellFormed.{IsWellFormed}
 use Rattle.office_schema.specs.rows.Tables.{Tables, rows_of}
 use Rattle.office_schema.specs.tables.Tables.{HasTables, HoldsOffice}
 
--- If the database had these tables, and all rows had the form of their tables, it now has them as `change` makes them,
--- and all rows still have that form.
+-- If the database had the tables `tables`, and each row had the form of its table, the database now has the tables
+-- `change tables`. Each row still has the form of its table.
 pub record Turns (old new : State) (change : Tables → Tables) : Type 0 where
   pub shown : (tables : Tables) → HasCleanDisk new → IsWellFormed tables → HasTables old.now tables
       → HasTables new.now (change tables) × IsWellFormed (change tables)
   pub mode : HasCleanDisk new → new.in_transaction ≡ old.in_transaction
 
--- If the tables held the rows of an office, all of the form of their tables, and the change fits the office, they now
--- hold the rows of the office after the change, still of that form. `first` is the office before all changes.
+-- If the tables held the rows of an office, each in the form of its table, and the change fits this office, then the
+-- tables now hold the rows of the office after the change. Each row still has the form of its table. `first` is the
+-- office before all changes of the command.
 pub record StoresChange (first : Office) (old new : State) (change : Change) : Type 0 where
   pub shown : (office : Office) → HasCleanDisk new → Fits first office change
       → IsWellFormed (rows_of office)
@@ -24,11 +25,12 @@ pub record StoresChange (first : Office) (old new : State) (change : Change) : T
       → HoldsOffice new.now (applied office change) × IsWellFormed (rows_of (applied office change))
   pub mode : HasCleanDisk new → new.in_transaction ≡ old.in_transaction
 
--- whatever the office was before all changes
+-- The change is stored for any office `first`.
 abbrev pub StoresAlways : State → State → Change → Type 0
 StoresAlways old new change = (first : Office) → StoresChange first old new change
 
--- The same for a list of changes, each of which fits the office that those before it lead to.
+-- As `StoresChange`, for a list of changes. Each change has to fit the office that results from the changes before
+-- it.
 pub record StoresChanges (first : Office) (old new : State) (changes : List Change) : Type 0 where
   pub shown : (office : Office) → HasCleanDisk new → AllFit first office changes
       → IsWellFormed (rows_of office)

@@ -1,4 +1,4 @@
--- The names that the tables of an office need.
+-- The names of the ten tables of an office.
 use Rattle.std.specs.Prelude.{ℕ, Bool, List, [], ◌∷◌, codes, IsTrue}
 use Rattle.std.specs.List.{list_any}
 use Rattle.sqlite_schema.specs.declared.schema.Schema.{Schema}
@@ -10,7 +10,7 @@ table_names =
     codes "room" ∷ codes "person" ∷ codes "round" ∷ codes "choice" ∷ codes "word" ∷ codes "result"
     ∷ codes "move" ∷ codes "list" ∷ codes "grade" ∷ codes "going" ∷ []
 
--- A table, an index or a view has one of the names, whatever the case of its letters.
+-- A table, an index or a view has one of these names, in upper or lower case.
 abbrev pub is_taken : Schema → Bool
 is_taken schema = list_any (λ name. is_used schema name) table_names
 

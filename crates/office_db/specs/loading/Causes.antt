@@ -1,4 +1,4 @@
--- Why a database is refused.
+-- Why `find` refuses a database.
 use Rattle.std.specs.Prelude.{◌≡◌, ◌≢◌, ◌⊎◌, ℤ, pos, false, IsSome, IsTrue, Option, Some, None, ⊤}
 use Rattle.sqlite_schema.specs.declared.schema.Schema.{Schema}
 use Rattle.sqlite.specs.Effect.{Database}
@@ -15,23 +15,24 @@ use Rattle.office_schema.specs.declared.tables.layouts.Layout.{Layout}
 use Rattle.office_db.specs.declared.loading.finding.FindFault.{FindFault}
 use Rattle.office_db.specs.declared.loading.finding.FindFault.TheVariants.{Unavailable, NotAnOffice, OtherVersion}
 
--- The schema is that of the layout, the row of table `round` holds no other version, and the tables are not the rows of a
--- lawful office.
+-- The schema is that of the layout, the row of table `round` holds no other version, and the tables do not hold the
+-- rows of a lawful office.
 pub record HoldsNoOfficeIn (layout : Layout) (db : Database) : Type 0 where
   pub schema : db.schema ≡ schema_of layout
   pub version : (version : ℤ) → ¬ HoldsOtherVersion db version
   pub none : (office : Office) → IsLawful office → IsWellFormed (rows_at (version_of layout) office)
       → ¬ HoldsOfficeIn layout db office
 
--- A database whose schema is that of the layout may be refused with this fault only for this cause.
+-- If `find` refuses, with this fault, a database whose schema is that of the layout, then this is the cause.
 abbrev pub HasCauseIn : Layout → Database → FindFault → Type 0
 HasCauseIn layout db Unavailable = ⊤
 HasCauseIn layout db NotAnOffice = HoldsNoOfficeIn layout db
 HasCauseIn layout db (OtherVersion version) = BeginsOffice db.schema × HoldsOtherVersion db version
 
--- A database may be refused with this fault only for this cause. It is no office if nothing has the name of table `round`, or
--- if its schema is that of a layout and its tables are not the rows of a lawful office of the current version. It is of another
--- version if the row of table `round` holds that version, whatever follows that table.
+-- If `find` refuses a database with this fault, then this is the cause. For `NotAnOffice`, nothing has the name of
+-- table `round`, or the schema is that of a layout and the tables do not hold the rows of a lawful office of the
+-- layout's version. For `OtherVersion`, the row of table `round` holds that version, and any tables may follow the
+-- first three. `Unavailable` may have any cause.
 abbrev pub HasCause : Database → FindFault → Type 0
 HasCause db Unavailable = ⊤
 HasCause db NotAnOffice =
@@ -44,15 +45,16 @@ IsNotOwn (OtherVersion version) = version ≢ pos own_version
 IsNotOwn Unavailable = ⊤
 IsNotOwn NotAnOffice = ⊤
 
--- Whatever the disk does, the schema allows this fault. For `NotAnOffice`, nothing has the name of table `round`, or the tables
--- are in a known layout. For `OtherVersion`, the first three tables have the names and trees of an office's, there are no
--- views, and the version is not the version of this program.
+-- The schema allows this fault, even if the disk fails. For `NotAnOffice`, nothing has the name of table `round`, or
+-- the schema is in a known layout. For `OtherVersion`, the first three tables have the names and trees of an office's
+-- first three, there are no views, and the version is not the version of this program.
 abbrev pub IsAllowed : Schema → FindFault → Type 0
 IsAllowed schema Unavailable = ⊤
 IsAllowed schema NotAnOffice = (names_round schema ≡ false) ⊎ IsSome (layout_in schema)
 IsAllowed schema (OtherVersion version) = IsTrue (begins_office schema) × (version ≢ pos own_version)
 
--- the fault where the tables are in no known layout and the row of table `round` holds this other version, or none
+-- the fault for a schema in no known layout: `OtherVersion` if table `round` holds another version, and `Unavailable`
+-- if not
 abbrev pub version_fault : Option ℤ → FindFault
 version_fault None = Unavailable
 version_fault (Some version) = OtherVersion version

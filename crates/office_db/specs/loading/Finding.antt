@@ -1,4 +1,4 @@
--- What a database has to satisfy for an office to be found in it.
+-- Conditions under which `find` finds an office in a database.
 use Rattle.std.specs.Prelude.{◌≡◌, ◌≢◌, ℤ, pos, Bool, [], ◌∷◌, codes, IsTrue}
 use Rattle.std.specs.List.{AllByRecursion}
 use Rattle.sqlite_value.specs.Order.{Row, column}
@@ -15,25 +15,27 @@ use Rattle.office_schema.specs.tables.Layouts.{trees_of}
 use Rattle.office_schema.specs.tables.Schema.{office_schema}
 use Rattle.office_schema.specs.declared.tables.layouts.Layout.{Layout}
 
--- A table, an index or a view has the name of table `round`. A table that the engine does not understand counts as a view.
+-- A table, an index or a view has the name of table `round`. A table that the engine does not understand counts as a
+-- view.
 abbrev pub names_round : Schema → Bool
 names_round schema = is_used schema (codes "round")
 
--- If a table has this one's name, it is declared as this one, in any tree.
+-- If `table` has the name of `own`, it is declared as `own`. The trees of the two may differ.
 abbrev pub IsDeclaredAs : Table → Table → Type 0
 IsDeclaredAs own table = IsTrue (same_name table.name own.name) → table ≡ record own { tree = table.tree }
 
--- Each table with one of the ten names is declared as that table of an office.
+-- Each table with the name of one of the office's ten tables is declared as that table.
 abbrev pub AreDeclared : Schema → Type 0
 AreDeclared schema =
     AllByRecursion (λ own. AllByRecursion (IsDeclaredAs own) schema.tables) office_schema.tables
 
--- In the two tables whose last column may be NULL, no row lacks a cell. In the other tables no row can.
+-- No row of tables `result` and `move` lacks a cell. Their last columns may be NULL; in the other tables, where the
+-- last column is never NULL, no row can lack a cell.
 pub record AreWhole (layout : Layout) (trees : Trees) : Type 0 where
   pub results : AllByRecursion (IsWhole 2) (trees (trees_of layout).results)
   pub moves : AllByRecursion (IsWhole 5) (trees (trees_of layout).moves)
 
--- Table `round`, which each layout keeps in the same tree, has one row, and the row holds this version.
+-- Table `round` has exactly one row, and the row holds this version. Each layout keeps the table in tree 6.
 abbrev pub HoldsVersion : Database → ℤ → Type 0
 HoldsVersion db version = (row : Row) × (db.trees 6 ≡ row ∷ []) × (column row 2 ≡ Int version)
 

@@ -1,4 +1,4 @@
--- Databases whose first tables are those of an office, whatever follows them.
+-- Databases whose first tables are those of an office. Any tables may follow them.
 use Rattle.std.specs.Prelude.{◌≡◌, ◌&&◌, ◌==◌, ℕ, Bool, false, List, [], ◌∷◌, ◌++◌, codes, length, nat_le, take}
 use Rattle.sqlite_schema.specs.declared.schema.Index.{Index}
 use Rattle.sqlite_schema.specs.declared.schema.Schema.{Schema}
@@ -12,12 +12,13 @@ use Rattle.office_schema.specs.tables.Schema.{room, person, round}
 use Rattle.office_schema.specs.tables.Tables.{AreHeldIn}
 use Rattle.office_schema.specs.declared.tables.layouts.Layout.{Layout}
 
--- The first three tables are `room`, `person` and `round`, with which each layout begins, and there are no views.
+-- The first three tables are `room`, `person` and `round`, and there are no views. Each layout begins with these
+-- tables.
 pub record BeginsOffice (schema : Schema) : Type 0 where
   pub tables : take 3 schema.tables ≡ room 0 ∷ person 2 ∷ round 6 ∷ []
   pub views : schema.views ≡ []
 
--- The first three tables have those names and trees.
+-- The first three tables are named `room`, `person` and `round`, each in its tree.
 abbrev pub are_first : List Table → Bool
 are_first [] = false
 are_first (one ∷ []) = false
@@ -29,7 +30,7 @@ are_first (one ∷ two ∷ three ∷ tables) =
 abbrev pub begins_office : Schema → Bool
 begins_office schema = (length schema.views == 0) && are_first schema.tables
 
--- ---- the tables of a layout, whatever follows them
+-- ---- the tables of a layout, and any tables after them
 
 abbrev pub followed_by : Layout → List Table → List Index → Schema
 followed_by layout tables indexes = record {
@@ -49,14 +50,15 @@ pub record HasTablesFirst (layout : Layout) (db : Database) (tables : Tables) : 
   pub schema : Begins layout db.schema
   pub rows : AreHeldIn layout db.trees tables
 
--- The first tables are the rows of the office.
+-- The database begins with the tables of the layout, and they hold the rows of the office.
 abbrev pub HoldsOfficeFirst : Layout → Database → Office → Type 0
 HoldsOfficeFirst layout db office = HasTablesFirst layout db (rows_at (version_of layout) office)
 
 abbrev pub index_count : Layout → ℕ
 index_count layout = length (schema_of layout).indexes
 
--- There are at least as many tables and indexes as in the layout, and the first ones pass the tests of the layout's.
+-- The first tables have the names and trees of the layout's tables, the first indexes are those of the layout, and
+-- there are no views. Further tables and indexes may follow.
 abbrev pub begins_with : Layout → Schema → Bool
 begins_with layout schema =
     (length schema.views == 0)

@@ -25,7 +25,7 @@ name_and_tree table = (table.name, table.tree)
 abbrev pub is_this_table : List ℕ × ℕ → Table → Bool
 is_this_table own table = same_name table.name own.0 && (table.tree == own.1)
 
--- the unique index with this name, in this tree, of the table in this tree, over these columns
+-- the unique index with this name and tree, on the table in this tree, over these columns
 abbrev pub unique_index : List ℕ × ℕ × ℕ × List ℕ → Index
 unique_index own = record {
   name = own.0;
@@ -42,7 +42,7 @@ is_this_index own index =
     && bytes_eq index.columns own.columns && (index.order.digits == own.order.digits)
     && own.is_unique && index.is_unique
 
--- The tables have the names and trees of the layout's tables, in its order.
+-- The tables have the names and trees of the layout's tables, in the same order.
 abbrev pub has_tables : Layout → List Table → Bool
 has_tables layout tables = pass_all is_this_table (map name_and_tree (schema_of layout).tables) tables
 
@@ -50,7 +50,8 @@ has_tables layout tables = pass_all is_this_table (map name_and_tree (schema_of 
 abbrev pub has_indexes : Layout → List Index → Bool
 has_indexes layout indexes = pass_all is_this_index (schema_of layout).indexes indexes
 
--- The schema has the names and trees of the layout's tables, and its indexes, and nothing else.
+-- The tables have the names and trees of the layout's tables, the indexes are those of the layout, and there are no
+-- views.
 abbrev pub is_laid_out : Layout → Schema → Bool
 is_laid_out layout schema =
     (length schema.views == 0) && has_tables layout schema.tables && has_indexes layout schema.indexes

@@ -17,7 +17,8 @@ use Rattle.office_schema.specs.tables.Queries.{over, alone}
 abbrev pub listed : List Term → Row → Row
 listed project row = eval_all project ([] ∷ row ∷ [])
 
--- Under this schema, the text is the query that lists these columns of a table, in some order.
+-- Under this schema, the text is a query that lists these columns of all rows of the table in `tree`. The rows may be
+-- in any order.
 pub record ListsTable (schema : Schema) (text : List ℕ) (tree : ℕ) (project : List Term)
     (names : List (List ℕ)) : Type 0 where
   pub order : List (Term × Key)
@@ -35,7 +36,7 @@ pub record DeterminesRecords {X : Type 0} (kept shown : X → Row) (IsForm : Row
   pub keeps_form : (row : Row) → IsForm row → IsForm (front row)
   pub apart : (x y : X) → IsForm (shown x) → shown x ≡ shown y → x ≡ y
 
--- The listed columns of the rows are those of the records, in some order, and they are in the form of the records.
+-- The listed columns of the rows are the columns of the records, in some order. Each record has the form `IsForm`.
 pub record ShowRecords {X : Type 0} (shown : X → Row) (IsForm : Row → Type 0) (project : List Term)
     (rows : List Row) (records : List X) : Type 0 where
   pub same : IsPermutation (map (listed project) rows) (map shown records)

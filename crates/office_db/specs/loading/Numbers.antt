@@ -17,7 +17,7 @@ pub record HaveRowids (rows : List Row) : Type 0 where
   pub keyed : AllByRecursion (λ r. IsTrue (is_int (rowid r))) rows
   pub apart : IsDistinct same_rowid rows
 
--- the query over the rowids of the table at this place
+-- the query for the rowids of the table at this place in the order of `docs/formats.md`
 abbrev pub rowid_text : ℕ → List ℕ
 rowid_text place =
     slice_index_or
@@ -28,7 +28,7 @@ rowid_text place =
     ∷ codes "SELECT rowid FROM grade ORDER BY rowid" ∷ codes "SELECT rowid FROM going ORDER BY rowid" ∷ [])
     place []
 
--- the tree of the table at this place
+-- the tree of the table at this place in the order of `docs/formats.md`
 abbrev pub tree_of : Layout → ℕ → ℕ
 tree_of layout place =
     let trees = trees_of layout in
@@ -45,7 +45,7 @@ abbrev pub AllHaveRowids : Layout → Trees → Type 0
 AllHaveRowids layout trees =
     (place : ℕ) → place < table_count layout → HaveRowids (trees (tree_of layout place))
 
--- The row has a cell for its rowid and for each of this many columns, and no other.
+-- The row has one cell for its rowid, one for each of this many columns, and no other cell.
 abbrev pub IsWhole : ℕ → Row → Type 0
 IsWhole columns row = length row ≡ columns + 1
 
@@ -54,8 +54,8 @@ abbrev pub AllIf : Bool → (Row → Type 0) → List Row → Type 0
 AllIf true P rows = AllByRecursion P rows
 AllIf false P rows = Unit {0}
 
--- The rows of the layout's tables have a cell for the rowid and for each column, and no other. The key of table `round` is
--- stored as the rowid alone.
+-- Each row of the layout's tables has one cell for the rowid, one for each column, and no other cell. The engine
+-- stores the key of table `round` only as the rowid, so its own cell is NULL.
 pub record HasWholeRows (layout : Layout) (trees : Trees) : Type 0 where
   pub rooms : AllByRecursion (IsWhole 2) (trees 0)
   pub people : AllByRecursion (IsWhole 5) (trees 2)
@@ -68,12 +68,12 @@ pub record HasWholeRows (layout : Layout) (trees : Trees) : Type 0 where
   pub grades : AllIf (has_grades layout) (IsWhole 2) (trees (trees_of layout).grades)
   pub going : AllIf (has_leavers layout) (IsWhole 1) (trees (trees_of layout).going)
 
--- The schema is exactly that of the layout, and its tables have such rows.
+-- The schema is exactly that of the layout, and the rows satisfy `HasWholeRows`.
 pub record IsLaidOut (layout : Layout) (db : Database) : Type 0 where
   pub schema : db.schema ≡ schema_of layout
   pub rows : HasWholeRows layout db.trees
 
--- The schema begins with the tables of the layout, and they have such rows.
+-- The schema begins with the tables of the layout, and their rows satisfy `HasWholeRows`.
 pub record IsLaidFirst (layout : Layout) (db : Database) : Type 0 where
   pub schema : Begins layout db.schema
   pub rows : HasWholeRows layout db.trees

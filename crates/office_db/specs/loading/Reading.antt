@@ -21,13 +21,13 @@ pub record OnlyReads (old new : State) : Type 0 where
   pub follows : Follows old new
   pub same : IsIntact new → new.now ≡ old.now
 
--- If the table is there, its listed rows are these records. If not, there are no records.
+-- If the table exists, its listed rows are these records. If it does not exist, there are no records.
 abbrev pub ShowIf : {X : Type 0} → Bool → (X → Row) → (Row → Type 0) → List Term → List Row → List X
     → Type 0
 ShowIf true shown IsForm project rows records = ShowRecords shown IsForm project rows records
 ShowIf false shown IsForm project rows records = records ≡ []
 
--- The listed rows of each table of the layout are its records, each in its form.
+-- For each table of the layout, the listed rows are the table's records. Each record has its form.
 pub record AreShown (layout : Layout) (trees : Trees) (tables : Tables) : Type 0 where
   pub rooms : ShowRecords room_columns IsRoomRow (col 1 1 ∷ col 1 2 ∷ []) (trees 0) tables.rooms
   pub people : ShowRecords person_columns IsPersonRow

@@ -11,7 +11,7 @@ use office_schema::tables::choices::{add_choice, drop_choices};
 use room_types::{Choices, PersonId};
 use sqlite::{Alter, Error, Transaction};
 
-/// Replaces a person's list. An empty list leaves no row.
+/// Replaces a person's preference list. If the new list is empty, the person has no row.
 pub(crate) fn put_choices<S: Alter>(
     tx: &mut Transaction<'_, S>,
     person: &PersonId,
@@ -27,7 +27,7 @@ pub(crate) fn put_choices<S: Alter>(
     add_choices(tx, person, choices)
 }
 
-// Adds a row for each room, the best at place 0.
+// Adds a row for each room of the list. The first room, the best one, has place 0.
 fn add_choices<S: Alter>(
     tx: &mut Transaction<'_, S>,
     person: &PersonId,

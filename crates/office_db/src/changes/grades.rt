@@ -12,7 +12,7 @@ use office_schema::tables::grades::{add_grade, drop_grade};
 use room_types::{Grade, PersonId};
 use sqlite::{Alter, Error, Transaction};
 
-/// Replaces a person's grade. Grade 0 leaves no row.
+/// Replaces a person's grade. If the new grade is 0, the person has no row.
 pub(crate) fn put_grade<S: Alter>(
     tx: &mut Transaction<'_, S>,
     person: &PersonId,

@@ -10,7 +10,7 @@ use office_schema::tables::imports::add_list;
 use room_types::{Label, ListKind, Listing};
 use sqlite::{Alter, Error, Transaction};
 
-/// Stores an imported list under its label, with the number of records that it added.
+/// Stores an imported list under its label. `count` is the number of records that the import added.
 pub(crate) fn keep_list<S: Alter>(
     tx: &mut Transaction<'_, S>,
     label: &Label,

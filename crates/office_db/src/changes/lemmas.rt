@@ -1,4 +1,5 @@
-//! What the types of an office guarantee of its cells, for use in proofs. The functions here do nothing.
+//! Lemmas for proofs: what the types of an office guarantee about the cells that store it. The functions here do
+//! nothing; only their contracts matter.
 ghost use Rattle.std.specs.Prelude.{IsUtf8, ◌<◌, ◌≤◌, ◌^◌, All};
 ghost use Rattle.sqlite_value.specs.declared.value.Value.TheVariants as value;
 ghost use Rattle.office_schema.specs.cells.Cells.{IsTextOf, IsOptionalTextOf, IsWave, text_or_null, wave_value};

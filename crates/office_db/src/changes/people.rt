@@ -11,7 +11,7 @@ use office_schema::tables::people::{add_person, drop_person, set_home, set_withd
 use room_types::{Key, Name, PersonId, RoomCode};
 use sqlite::{Alter, Error, Transaction};
 
-/// Adds a person, whose identifier has to be new.
+/// Adds a person. The identifier has to be new.
 pub(crate) fn put_person<S: Alter>(
     tx: &mut Transaction<'_, S>,
     person: &PersonId,

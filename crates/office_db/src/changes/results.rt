@@ -11,7 +11,7 @@ use office_schema::tables::results::add_result;
 use room_types::{Move, PersonId, RoomCode};
 use sqlite::{Alter, Error, Transaction};
 
-/// Adds the result of a person who has none yet: this room, or none.
+/// Adds the result of a person who has no result yet. The result is a room, or `None` for no room.
 pub(crate) fn put_result<S: Alter>(
     tx: &mut Transaction<'_, S>,
     person: &PersonId,

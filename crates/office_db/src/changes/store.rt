@@ -20,15 +20,15 @@ use room_types::RoomCode;
 use sqlite::{Alter, Connection, Error, Transaction};
 use std::alloc::Global;
 
-/// Stores changes of the office whose rows the tables hold: all of them in one transaction, or none.
+/// Stores all changes in one transaction, or none of them. The tables have to hold the rows of `office`.
 ///
-/// On `Ok` the connection is open, and if the changes fit, the tables hold the rows of the office after them. On an
-/// error the tables are unchanged, unless a fault closed the connection. Both presuppose a disk that returns what was
-/// written to it.
+/// On `Ok` the connection is open. If the changes fit the office, the tables then hold the rows of the office after
+/// the changes. On an error the tables are unchanged, unless a fault closed the connection. All this presupposes a
+/// disk that returns what was written to it.
 ///
 /// # Errors
 ///
-/// Fails if the disk or an allocation fails, or if the tables refuse a change.
+/// Fails if the disk or an allocation fails, or if the engine refuses a statement.
 pub fn store_changes<S: Alter>(
     alloc: Global,
     conn: &mut Connection<S>,
@@ -115,8 +115,8 @@ fn apply_change<S: Alter>(
     }
 }
 
-// Adds a room. If `first`, the office before all changes of the command, has the room already, sets its `shut` flag
-// instead: a room that people list or live in cannot be deleted and added again.
+// Adds a room. If the office before all changes of the command, `first`, has the room already, sets the room's `shut`
+// flag instead. While people list the room or live in it, its row cannot be deleted and added again.
 fn put_room<S: Alter>(
     tx: &mut Transaction<'_, S>,
     first: &Office,

@@ -11,7 +11,7 @@ use room_types::{PersonId, Word};
 use sqlite::{Alter, Error, Transaction};
 use std::alloc::Global;
 
-/// Adds the word of a person who has none yet.
+/// Adds the word that a person drew. The person must have no word yet.
 pub(crate) fn put_word<S: Alter>(
     alloc: Global,
     tx: &mut Transaction<'_, S>,

@@ -18,20 +18,23 @@ use sqlite::{Alter, Connection, Error, Transaction};
 /// Why no office was created.
 #[derive(Clone, Copy, Debug, PartialEq, Eq, Drop)]
 pub enum CreateFault {
-    /// The database or an allocation failed; or something is declared, but nothing under one of the ten names.
+    /// The database or an allocation failed. Or the database declares something, but nothing with the name of one of
+    /// the office's ten tables.
     Unavailable,
     /// A table, an index, a view or a trigger has the name of one of the ten tables of an office.
     AlreadyThere,
 }
 
-/// Creates the tables of an empty office, all of them or none, in a database where nothing is declared.
+/// Creates the tables of an empty office in a database that declares nothing. Creates all of the tables, or none.
 ///
 /// # Errors
 ///
-/// `AlreadyThere` if and only if one of the ten names is taken. Otherwise, `Unavailable` if something else is declared,
-/// or if the database or an allocation fails. After an error the tables are unchanged, unless a fault closed the
-/// connection or, for a file, the disk did not return what was written to it. If anything is declared, no statement
-/// runs.
+/// `AlreadyThere` if and only if a table, an index, a view or a trigger has the name of one of the office's ten
+/// tables. Otherwise, `Unavailable` if the database declares anything else, or if the database or an allocation
+/// fails.
+///
+/// After an error the tables are unchanged, unless a fault closed the connection or, for a file, the disk did not
+/// return what was written to it. If the database declares anything, no statement runs.
 pub fn create<S: Alter>(conn: &mut Connection<S>) -> Result<(), CreateFault>
     requires { conn.old.in_transaction ≡ false }
     ensures outside { conn.new.in_transaction ≡ false }

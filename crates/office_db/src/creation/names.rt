@@ -6,8 +6,8 @@ ghost use Rattle.office_schema.specs.tables.Schema.{no_schema};
 use sqlite_catalog::layout::is_used;
 use sqlite_schema::schema::Schema;
 
-/// Returns whether a table, index, view or trigger has the name of one of an office's tables. The engine lists triggers
-/// among the views, and also tables that it does not understand.
+/// Returns whether a table, an index, a view or a trigger has the name of one of an office's ten tables.
+/// `schema.views` also lists the triggers, and the tables that the engine does not understand.
 pub(crate) fn is_taken(schema: &Schema) -> bool
     ensures { result ≡ is_taken schema.now }
 {
@@ -23,7 +23,7 @@ pub(crate) fn is_taken(schema: &Schema) -> bool
         || is_used(schema, b"going")
 }
 
-/// Returns whether nothing is declared.
+/// Returns whether the schema declares nothing: no table, no index, no view and no trigger.
 pub(crate) fn declares_nothing(schema: &Schema) -> bool
     ensures { Decides result (schema.now ≡ no_schema) }
 {

@@ -29,17 +29,19 @@ use std::alloc::Global;
 /// Why no office was found.
 #[derive(Clone, Copy, Debug, PartialEq, Eq)]
 pub enum FindFault {
-    /// The database failed or memory ran out; or something has the name of table `round`, no other version was read
-    /// from its row, and the schema is in no known layout. A known layout is exactly the tables of an office, of this
-    /// or an earlier version, in a known order. The schema is in none if a table is absent or not understood, if the
-    /// tables were made in another order, or if the schema has something else.
+    /// The database failed, memory ran out, or the schema is in no known layout. In the last case, something has the
+    /// name of table `round`, but no version other than this program's was read from that table.
+    ///
+    /// A schema is in a known layout if it has exactly the tables of an office, of this or an earlier version, in a
+    /// known order. So it is in none if a table is missing or not understood, if the tables were created in another
+    /// order, or if the schema declares anything else.
     Unavailable,
-    /// Nothing has the name of table `round`, or the tables do not hold the rows of a lawful office of this version. A
-    /// database that has exactly the tables of an earlier version also gets this fault, unless the row of table `round`
-    /// holds another version.
+    /// Nothing has the name of table `round`, or the tables do not hold the rows of a lawful office of this version.
+    /// If the tables are exactly those of an earlier version, `find` returns this fault too, unless the row of table
+    /// `round` holds another version.
     NotAnOffice,
-    /// The row of table `round` holds this version, which is not the version of this program. What follows the first three
-    /// tables does not matter.
+    /// The row of table `round` holds this version, which is not the version of this program. Any tables may follow
+    /// the first three.
     OtherVersion(i64),
 }
 
@@ -47,25 +49,27 @@ pub enum FindFault {
 #[derive(Drop)]
 pub struct Found {
     pub office: Office,
-    /// The layout of its tables, which are of the version of this program.
+    /// The layout of the office's tables. The version of this layout is the version of this program.
     pub layout: Layout,
 }
 
 /// Finds the lawful office whose rows the tables hold, and the layout of the tables. Presupposes that each table with
-/// one of the ten names is declared as that table of an office. Changes no table. On `Ok` the connection is open.
+/// the name of one of the office's ten tables is declared as that table. Changes no table. On `Ok` the connection is
+/// open.
 ///
 /// # Errors
 ///
 /// `NotAnOffice` if nothing has the name of table `round`. Otherwise:
 ///
-/// - `OtherVersion` only if the row of table `round` holds the version that the fault names, and it is not the version
-///   of this program. What follows the first three tables does not matter.
-/// - `NotAnOffice` only if the row holds no other version, the schema is in a known layout, and the tables do not hold
-///   the rows of a lawful office.
-/// - `Unavailable` if no other version is read and the schema is in no known layout, or if the database fails or memory
-///   runs out.
+/// - `OtherVersion` only if the row of table `round` holds the version that the fault names, and this is not the
+///   version of this program. Any tables may follow the first three.
+/// - `NotAnOffice` only if the row holds no other version, the schema is in a known layout, and the tables do not
+///   hold the rows of a lawful office.
+/// - `Unavailable` if the schema is in no known layout and no other version is read from table `round`, or if the
+///   database fails or memory runs out.
 ///
-/// If the first three tables do not have the names and places of an office's, or if there is a view, no statement runs.
+/// No statement runs if there is a view, or if the first three tables are not `room`, `person` and `round`, each in
+/// its tree.
 pub fn find<S: Alter>(alloc: Global, conn: &mut Connection<S>) -> Result<Found, FindFault>
     requires { conn.old.in_transaction ≡ false }
     ensures outside { conn.new.in_transaction ≡ false }
@@ -113,7 +117,7 @@ pub fn find<S: Alter>(alloc: Global, conn: &mut Connection<S>) -> Result<Found, 
     }
 }
 
-// Returns the fault for tables in no known layout.
+// Returns the fault for a schema that is in no known layout.
 fn unknown_layout_fault<S: Alter>(conn: &mut Connection<S>) -> FindFault
     requires { conn.old.in_transaction ≡ false }
     ensures outside { conn.new.in_transaction ≡ false }
@@ -137,7 +141,7 @@ fn unknown_layout_fault<S: Alter>(conn: &mut Connection<S>) -> FindFault
     }
 }
 
-// Returns `OtherVersion` for another version, and `Unavailable` for none.
+// Returns `OtherVersion` if another version was found, and `Unavailable` if none was found.
 fn version_fault(found: Option<i64>) -> FindFault
     ensures { result ≡ version_fault found }
 {
@@ -147,7 +151,7 @@ fn version_fault(found: Option<i64>) -> FindFault
     }
 }
 
-// Reads the office from a schema that has exactly the tables of the layout.
+// Reads the office from a database that has exactly the tables of the layout.
 fn read<S: Alter>(
     alloc: Global,
     conn: &mut Connection<S>,

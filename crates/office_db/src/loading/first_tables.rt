@@ -1,4 +1,4 @@
-//! Tests of the first tables of a database. What follows them does not matter.
+//! Tests the first tables of a database. Any tables may follow them.
 ghost use Rattle.std.specs.Prelude.{◌≡◌, ◌&&◌, IsTrue, length, nat_le, take};
 ghost use Rattle.office_db.specs.loading.Finding.{AreDeclared};
 ghost use Rattle.office_db.specs.loading.FirstTables.{Begins, BeginsOffice, are_first, begins_with, begins_office, index_count};
@@ -9,8 +9,9 @@ use crate::loading::layout::{has_indexes, has_tables, is_this_table};
 use office_schema::tables::layouts::Layout;
 use sqlite_schema::schema::{Index, Schema, Table};
 
-/// Returns whether the first three tables have the names of an office's first three, each in its tree, and there are no views.
-/// If the tables are declared as an office's are, then they are those three.
+/// Returns whether the first three tables are named `room`, `person` and `round`, each is in the tree that all
+/// layouts give it, and there are no views. If each table with the name of an office's table is declared as that
+/// table, then the first three tables are exactly those of an office.
 pub fn begins_office(schema: &Schema) -> bool
     ensures tested { result ≡ begins_office schema.now }
     ensures whole { IsTrue result → AreDeclared schema.now → BeginsOffice schema.now }
@@ -18,7 +19,7 @@ pub fn begins_office(schema: &Schema) -> bool
     schema.views.as_slice().is_empty() && are_first(schema.tables.as_slice())
 }
 
-// Returns whether the first three tables have these names and trees.
+// Returns whether the first three tables are named `room`, `person` and `round`, each in its tree.
 fn are_first(tables: &[Table]) -> bool
     ensures { result ≡ are_first tables.now }
 {
@@ -32,8 +33,9 @@ fn are_first(tables: &[Table]) -> bool
     }
 }
 
-/// Returns whether the schema begins with the tables of the layout and their indexes, each in its tree, and has no views. If
-/// the tables are declared as an office's are, then they are those of the layout.
+/// Returns whether the first tables have the names and trees of the layout's tables, the first indexes are those of
+/// the layout, and there are no views. If each table with the name of an office's table is declared as that table,
+/// then the first tables are exactly those of the layout.
 pub fn begins_with(schema: &Schema, layout: Layout) -> bool
     ensures tested { result ≡ begins_with layout schema.now }
     ensures whole { IsTrue result → AreDeclared schema.now → Begins layout schema.now }
@@ -43,7 +45,7 @@ pub fn begins_with(schema: &Schema, layout: Layout) -> bool
         && has_first_indexes(schema.indexes.as_slice(), layout)
 }
 
-// Returns whether the first tables are those of the layout, each in its tree.
+// Returns whether the first tables have the names and trees of the layout's tables, in the same order.
 fn has_first_tables(tables: &[Table], layout: Layout) -> bool
     ensures { result ≡ (nat_le (table_count layout) (length tables.now)
         && has_tables layout (take (table_count layout) tables.now)) }
@@ -52,7 +54,7 @@ fn has_first_tables(tables: &[Table], layout: Layout) -> bool
     count <= tables.len() && has_tables(&tables[..count], layout)
 }
 
-// Returns whether the first indexes are those of the layout's constraints.
+// Returns whether the first indexes are those that enforce the constraints of the layout's tables.
 fn has_first_indexes(indexes: &[Index], layout: Layout) -> bool
     ensures { result ≡ (nat_le (index_count layout) (length indexes.now)
         && has_indexes layout (take (index_count layout) indexes.now)) }
@@ -61,7 +63,7 @@ fn has_first_indexes(indexes: &[Index], layout: Layout) -> bool
     count <= indexes.len() && has_indexes(&indexes[..count], layout)
 }
 
-// Returns the number of indexes of the layout's constraints.
+// Returns the number of indexes that enforce the constraints of the layout's tables.
 fn index_count(layout: Layout) -> usize
     ensures { result ≡ index_count layout }
 {

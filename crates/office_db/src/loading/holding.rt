@@ -1,4 +1,4 @@
-//! The office that a database holds.
+//! Reads the office that a database holds, and tests the rowids of its tables.
 ghost use Rattle.std.specs.Prelude.{◌≡◌, false, Some, IfOk, IsTrue, OnOk};
 ghost use Rattle.std.specs.Option.{IfSome};
 ghost use Rattle.sqlite.specs.Held.{state};
@@ -20,13 +20,14 @@ use office_state::Office;
 use sqlite::{Alter, Connection, Error, ErrorCode};
 use std::alloc::Global;
 
-/// Reads the lawful office that the tables of the layout hold. Its texts are in their grammars and its numbers in their ranges.
-/// What follows the tables of the layout does not matter. Returns `None` only if the tables hold no such office. Changes no
-/// table. On `Ok` the connection is open.
+/// Reads the lawful office that the tables of the layout hold. Every text of the office is in its grammar, and every
+/// number in its range. Any tables may follow those of the layout. Returns `None` only if the tables hold no such
+/// office. Changes no table. On `Ok` the connection is open.
 ///
 /// # Errors
 ///
-/// Fails if the database fails, if memory runs out, or if rowids do not rise, which happens in no table of the engine.
+/// Fails if the database fails, if memory runs out, or if the rowids of a table do not rise. The rowids of every
+/// table that the engine stores rise.
 pub fn held<S: Alter>(
     alloc: Global,
     conn: &mut Connection<S>,

@@ -1,4 +1,4 @@
-//! Tests which layout the tables of a database have.
+//! Determines which layout the tables of a database have.
 ghost use Rattle.std.specs.Prelude.{◌≡◌, IfSome, map};
 ghost use Rattle.office_db.specs.loading.Finding.{AreDeclared, names_round};
 ghost use Rattle.office_db.specs.loading.Layout.{has_indexes, has_tables, is_this_index, is_this_table, is_laid_out};
@@ -9,7 +9,7 @@ use office_schema::tables::layouts::Layout;
 use sqlite_catalog::layout::is_used;
 use sqlite_schema::schema::{Index, Schema, Table};
 
-/// Returns whether a table, an index or a view has the name of table `round`, whatever the case of its letters. The engine
+/// Returns whether a table, an index or a view has the name of table `round`, in upper or lower case. The engine
 /// lists triggers, and tables that it does not understand, among the views.
 pub fn names_round(schema: &Schema) -> bool
     ensures { result ≡ names_round schema.now }
@@ -17,9 +17,12 @@ pub fn names_round(schema: &Schema) -> bool
     is_used(schema, b"round")
 }
 
-/// Returns the known layout that the schema has, or `None`. A schema has a layout if its tables have the names and trees of
-/// the layout's, in the same order, its indexes are the layout's, and it has no views. The columns of tables are not
-/// compared. If each table with an office's table name is declared as that table, the schema is exactly the layout's.
+/// Returns the known layout that the schema has, or `None` if there is none. A schema has a layout if three
+/// conditions hold: the tables have the names and trees of the layout's tables, in the same order; the indexes are
+/// those of the layout; and there are no views.
+///
+/// The columns of tables are not compared. But if each table with the name of an office's table is declared as that
+/// table, the schema is exactly that of the layout.
 pub fn layout_in(schema: &Schema) -> Option<Layout>
     ensures tested { result ≡ layout_in schema.now }
     ensures whole { IfSome result (λ layout. AreDeclared schema.now → schema.now ≡ schema_of layout) }
@@ -42,7 +45,8 @@ pub fn layout_in(schema: &Schema) -> Option<Layout>
     None
 }
 
-// Returns whether the schema has the tables of the layout and their indexes, each in its tree, and nothing else.
+// Returns whether the tables have the names and trees of the layout's tables, the indexes are those of the layout,
+// and there are no views.
 fn is_laid_out(schema: &Schema, layout: Layout) -> bool
     ensures { result ≡ is_laid_out layout schema.now }
 {
@@ -51,7 +55,7 @@ fn is_laid_out(schema: &Schema, layout: Layout) -> bool
         && has_indexes(schema.indexes.as_slice(), layout)
 }
 
-// Returns whether these are the tables of the layout, each in its tree.
+// Returns whether the tables have the names and trees of the layout's tables, in the same order.
 pub(crate) fn has_tables(tables: &[Table], layout: Layout) -> bool
     ensures { result ≡ has_tables layout tables.now }
 {
@@ -129,7 +133,7 @@ pub(crate) fn has_tables(tables: &[Table], layout: Layout) -> bool
     }
 }
 
-// Returns whether the tables have these names and trees, in this order.
+// Returns whether the tables have the names and trees in `own`, in the same order.
 fn are_these_tables(tables: &[Table], own: &[(&str, u32)]) -> bool
     ensures { result ≡ pass_all is_this_table (map (λ o. (o.0.now, o.1)) own.now) tables.now }
 {
@@ -152,7 +156,7 @@ pub(crate) fn is_this_table(table: &Table, name: &str, tree: u32) -> bool
     table.is_named(name.as_bytes()) && table.tree == tree
 }
 
-// Returns whether these are the indexes of the layout's constraints.
+// Returns whether the indexes are those that enforce the constraints of the layout's tables.
 pub(crate) fn has_indexes(indexes: &[Index], layout: Layout) -> bool
     ensures { result ≡ has_indexes layout indexes.now }
 {
@@ -245,8 +249,8 @@ pub(crate) fn has_indexes(indexes: &[Index], layout: Layout) -> bool
     }
 }
 
-// Returns whether the indexes are these unique ones, in this order. Each is given by its name, its tree, its table's tree and
-// its columns.
+// Returns whether the indexes are the unique indexes in `own`, in the same order. An entry of `own` has the name of
+// an index, the tree of the index, the tree of its table, and its columns.
 fn are_these_indexes(indexes: &[Index], own: &[(&str, u32, u32, &[usize])]) -> bool
     ensures { result ≡ pass_all is_this_index
         (map (λ o. unique_index (o.0.now, o.1, o.2, o.3.now)) own.now) indexes.now }
@@ -263,7 +267,8 @@ fn are_these_indexes(indexes: &[Index], own: &[(&str, u32, u32, &[usize])]) -> b
     true
 }
 
-// Returns whether the index is this unique one. `trees` are its own tree and its table's.
+// Returns whether the index is unique and has this name, these trees and these columns. `trees` has the tree of the
+// index, then the tree of its table.
 fn is_this_index(index: &Index, name: &str, trees: (u32, u32), columns: &[usize]) -> bool
     ensures { result
         ≡ is_this_index (unique_index (name.now, trees.0, trees.1, columns.now)) index.now }

@@ -20,9 +20,9 @@ use office_schema::tables::layouts::Layout;
 use sqlite::{Alter, Connection, Error, ErrorCode};
 use std::alloc::Global;
 
-/// A record that a table of an office stores.
+/// A type whose values are the records that one table of an office stores.
 pub trait Listed: Record {
-    /// The query over all records.
+    /// The text of the query for all records.
     ghost text: { List ℕ };
     /// The tree of the table in each layout.
     ghost tree: { AnyLayout → ℕ };
@@ -49,8 +49,8 @@ pub trait Listed: Record {
         ensures { result ≡ is_there layout };
 }
 
-/// Reads the records of a table, in some order. Returns `None` if a row is not in the form of a record. On `Ok` the connection
-/// is open.
+/// Reads the records of a table, in some order. Returns `None` if a row does not have the form of a record. On `Ok`
+/// the connection is open.
 pub fn table_records<R: Listed, S: Alter>(
     alloc: Global,
     conn: &mut Connection<S>,
@@ -89,8 +89,8 @@ pub fn table_records<R: Listed, S: Alter>(
     }
 }
 
-/// If the layout has the table, reads its records as `table_records` does. Otherwise, returns an empty vector. On `Ok`
-/// an open connection is still open.
+/// If the layout has the table, reads its records as `table_records` does. Otherwise returns an empty vector. On
+/// `Ok`, a connection that was open is still open.
 pub fn records_if_there<R: Listed, S: Alter>(
     alloc: Global,
     conn: &mut Connection<S>,

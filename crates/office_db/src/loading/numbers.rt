@@ -12,8 +12,8 @@ ghost use Rattle.office_db.specs.loading.Reading.{OnlyReads};
 use office_schema::tables::layouts::Layout;
 use sqlite::{Alter, Connection, Error, Row};
 
-/// Returns whether the rowids of each table rise in the order of reading, so that no rowid occurs twice. What follows the
-/// tables of the layout does not matter.
+/// Returns whether the rowids of each table of the layout rise in the order of reading. If they do, no rowid occurs
+/// twice in a table. Any tables may follow those of the layout.
 pub fn all_rowids_rise<S: Alter>(conn: &mut Connection<S>, layout: Layout) -> Result<bool, Error>
     requires { conn.old.in_transaction ≡ false }
     ensures outside { conn.new.in_transaction ≡ false }
@@ -58,8 +58,8 @@ fn rowids<S: Alter>(
     Ok(rows)
 }
 
-// Returns the query over the rowids of the table at this place in the documented order, whatever the layout. The tables
-// of each layout are those at the first places of that order.
+// Returns the query for the rowids of the table at this place in the order of `docs/formats.md`. The query does not
+// depend on the layout: a layout with n tables has the first n tables of that order, perhaps in another order.
 fn rowid_query(place: usize) -> &'static str
     requires { place < 10 }
     ensures { result.now ≡ rowid_text place }
@@ -78,7 +78,7 @@ fn rowid_query(place: usize) -> &'static str
     }
 }
 
-// Returns whether the first columns are numbers, each greater than the one before.
+// Returns whether the first column of each row is a number, and greater than that of the row before.
 fn do_rowids_rise(rows: &[Row]) -> bool
     ensures { IsTrue result → HaveRowids rows.now }
 {

@@ -25,9 +25,9 @@ use office_state::Office;
 use sqlite::{Alter, Connection, Error, ErrorCode};
 use std::alloc::Global;
 
-/// Reads the lawful office whose rows the tables of the layout hold. Returns `None` if they do not hold the rows of a
-/// lawful office with texts in their grammars and numbers in their ranges. Reads each table once. Changes no table,
-/// even on an error.
+/// Reads the lawful office whose rows the tables of the layout hold. Returns `None` if the tables do not hold the
+/// rows of a lawful office, or if a text is not in its grammar or a number not in its range. Reads each table once.
+/// Changes no table, even on an error.
 ///
 /// # Errors
 ///
@@ -65,8 +65,8 @@ pub fn load<S: Alter>(
     }
 }
 
-/// Reads the records of all tables of the layout. Returns `None` if a row is not in the form of its table's records. Changes no
-/// table.
+/// Reads the records of all tables of the layout. Returns `None` if a row does not have the form of its table's
+/// records. Changes no table.
 #[tactic(auto, using(crate::proofs::found_offices::Following::reads_then))]
 pub fn read_records<S: Alter>(
     alloc: Global,
@@ -121,7 +121,8 @@ pub fn read_records<S: Alter>(
     }))
 }
 
-// Reads the records of two tables. Returns `None` if a row of either is not in the form of a record.
+// Reads the records of two tables. Returns `None` if a row of one of them does not have the form of its table's
+// records.
 #[tactic(auto, using(crate::proofs::found_offices::Following::reads_then))]
 fn read_two<A: Listed, B: Listed, S: Alter>(
     alloc: Global,

@@ -12,8 +12,8 @@ ghost use Rattle.office_db.specs.loading.Versions.{IsOnly, only_version};
 
 use sqlite::{Alter, Connection, Error, Row};
 
-/// Reads the version in the row of table `round`. Returns `None` unless the table has exactly one row. What follows the first
-/// three tables of an office does not matter.
+/// Reads the version in the row of table `round`. Returns `None` if the table does not have exactly one row. Any
+/// tables may follow the first three tables of an office.
 pub fn version_held<S: Alter>(conn: &mut Connection<S>) -> Result<Option<i64>, Error>
     requires { conn.old.in_transaction ≡ false }
     ensures outside { conn.new.in_transaction ≡ false }
@@ -31,7 +31,7 @@ pub fn version_held<S: Alter>(conn: &mut Connection<S>) -> Result<Option<i64>, E
     version_in(rows.as_slice())
 }
 
-/// Reads the version as `version_held` does. Returns `None` if it is the version of this program.
+/// Reads the version as `version_held` does, but also returns `None` if this is the version of this program.
 pub fn other_version<S: Alter>(conn: &mut Connection<S>) -> Result<Option<i64>, Error>
     requires { conn.old.in_transaction ≡ false }
     ensures outside { conn.new.in_transaction ≡ false }
@@ -81,7 +81,7 @@ fn versions<S: Alter>(conn: &mut Connection<S>) -> Result<Vec<Row>, Error>
     Ok(rows)
 }
 
-// Returns the number in the only row, or `None` unless there is exactly one row.
+// Returns the number in the first column if there is exactly one row. Otherwise returns `None`.
 fn version_in(rows: &[Row]) -> Result<Option<i64>, Error>
     ensures held { IfOk result (λ found. IfSome found (IsOnly rows.now)) }
     ensures returned { IfOk result (λ found. (version : _) → IsOnly rows.now version

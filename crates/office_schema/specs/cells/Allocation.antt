@@ -1,6 +1,6 @@
--- The rows for which reading may allocate, because the record stores a text: in each table but the round's, those that
--- begin with a text of its grammar, in the table of moves after the number of the round. Any other row is read, or
--- found to have another form, without allocating.
+-- The rows for which reading may allocate, because the record stores a text. Table `round` has none. In table `move`,
+-- these rows begin with the number of a round and a text of the grammar. In each other table, they begin with a text
+-- of the grammar. Reading any other row allocates nothing, whether or not the row has the form of a record.
 use Rattle.std.specs.Prelude.{◌≡◌, ◌⊎◌, ◌<◌, ℕ, Bool, List, length, slice_index_or, take}
 use Rattle.std.specs.List.{All}
 use Rattle.sqlite_value.specs.Order.{Row, column}
@@ -14,12 +14,12 @@ BeginsWith is_text row = IsTextOf is_text (column row 0)
 abbrev pub FollowsNumber : (List ℕ → Bool) → Row → Type 0
 FollowsNumber is_text row = IsShort (column row 0) × IsTextOf is_text (column row 1)
 
--- no row
+-- satisfied by no row
 abbrev pub IsNever : Row → Type 0
 IsNever row = ⊥
 
--- Reading these rows may allocate at some place: all rows before it have the form, and for the row there reading may
--- allocate, or it has the form and is stored.
+-- Reading these rows may allocate at `row`, the row at `place`. All rows before it have the form. Either reading
+-- `row` may allocate, or `row` has the form and its record is stored.
 pub record Allocates (MayAllocate IsForm : Row → Type 0) (rows : List Row) : Type 0 where
   pub place : ℕ
   pub row : Row

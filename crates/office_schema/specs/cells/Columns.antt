@@ -1,4 +1,4 @@
--- The columns of an office's rows.
+-- The columns of a record of each table. The comment of each definition lists their names.
 use Rattle.std.specs.Prelude.{ℕ, pos, Bool, [], ◌∷◌}
 use Rattle.sqlite_value.specs.declared.value.Value.TheVariants.{Null, Int, Text, Blob}
 use Rattle.sqlite_value.specs.Order.{Row, column}
@@ -28,7 +28,7 @@ person_columns r =
 abbrev pub round_shown : RoundRecord → Row
 round_shown r = Int (pos r.version) ∷ Int (pos r.number) ∷ Text (phase_text r.phase) ∷ []
 
--- one, version, number, phase: the first is the rowid, and the stored row has NULL in its place
+-- one, version, number, phase; the engine stores `one` as the rowid, so the stored row has NULL in this column
 abbrev pub round_columns : RoundRecord → Row
 round_columns r = Null ∷ round_shown r
 

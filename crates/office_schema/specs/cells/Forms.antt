@@ -1,4 +1,4 @@
--- Which rows have the form of each table, by their columns alone.
+-- The form of a row of each table. Each test looks at the columns of one row only.
 use Rattle.sqlite_value.specs.Order.{Row, column}
 use Rattle.room_types.specs.Grammars.{is_person_id, is_room_code, is_key, is_name, is_label}
 use Rattle.office_schema.specs.cells.Cells.{IsTextOf, IsOptionalTextOf, IsFlag, IsCount, IsShort}
@@ -13,7 +13,7 @@ IsPersonRow row =
     × IsTextOf is_key (column row 2) × IsOptionalTextOf is_room_code (column row 3)
     × IsFlag (column row 4)
 
--- a round in tables of any version
+-- a row of table `round`, with any version
 abbrev pub IsRoundRow : Row → Type 0
 IsRoundRow row = IsShort (column row 0) × IsShort (column row 1) × IsPhase (column row 2)
 

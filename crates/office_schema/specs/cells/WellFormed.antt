@@ -7,7 +7,8 @@ use Rattle.office_schema.specs.cells.Columns.{word_columns, result_columns, move
 use Rattle.office_schema.specs.cells.Forms.{IsRoomRow, IsPersonRow, IsRoundRow, IsChoiceRow}
 use Rattle.office_schema.specs.cells.Forms.{IsWordRow, IsResultRow, IsMoveRow, IsListRow, IsGradeRow, IsGoingRow}
 
--- Each row has the form of its table. The rows of every office of this program do, and reading rows accepts no others.
+-- Each row has the form of its table. The rows of every office of this program have this form, and reading accepts no
+-- other rows.
 pub record IsWellFormed (tables : Tables) : Type 0 where
   pub rooms : All IsRoomRow (map room_columns tables.rooms)
   pub people : All IsPersonRow (map person_columns tables.people)

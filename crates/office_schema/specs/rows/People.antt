@@ -1,4 +1,4 @@
--- People with their withdrawals, and the rows of both.
+-- People and their withdrawals, and the rows of table `person` that represent both.
 use Rattle.std.specs.Prelude.{List}
 use Rattle.office_schema.specs.rows.Rows.{AreValidPeople, person_rows}
 use Rattle.office_schema.specs.declared.rows.people.People.{People}
@@ -8,6 +8,6 @@ use Rattle.office_schema.specs.declared.rows.records.PersonRecord.{PersonRecord}
 abbrev pub people_rows : People → List PersonRecord
 people_rows p = person_rows p.people p.withdrawn
 
--- Everybody who has withdrawn is known.
+-- Each person who has withdrawn is in `people`.
 abbrev pub AreValid : People → Type 0
 AreValid p = AreValidPeople p.people p.withdrawn

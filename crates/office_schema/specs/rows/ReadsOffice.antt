@@ -8,7 +8,7 @@ use Rattle.office_state.specs.declared.office.Office.{Office}
 use Rattle.office_schema.specs.rows.Tables.{Tables, rows_at}
 use Rattle.office_schema.specs.declared.rows.records.OfficeRecords.{OfficeRecords}
 
--- The records of each table are its rows, in some order.
+-- For each table, `records` has the same rows as `tables`, in some order.
 pub record AreRecordsOf (tables : Tables) (records : OfficeRecords) : Type 0 where
   pub rooms : IsPermutation tables.rooms records.rooms.items
   pub people : IsPermutation tables.people records.people.items
@@ -28,7 +28,8 @@ count_outside_round records =
     + length records.words.items + length records.results.items + length records.moves.items
     + length records.lists.items + length records.grades.items + length records.going.items
 
--- The results of an office with these rows are recomputed: its phase has results, and every other invariant holds.
+-- An office has these rows, and its results are recomputed. They are recomputed if the phase of the office has
+-- results, and the office satisfies every other invariant.
 pub record RecomputesReadResults (version : ℕ) (records : OfficeRecords) : Type 0 where
   pub office : Office
   pub rows : AreRecordsOf (rows_at version office) records
@@ -38,8 +39,8 @@ pub record RecomputesReadResults (version : ℕ) (records : OfficeRecords) : Typ
 abbrev pub Allocates : ℕ → OfficeRecords → Type 0
 Allocates version records = 0 < count_outside_round records ⊎ RecomputesReadResults version records
 
--- What is found is a lawful office with these rows. Any lawful office with these rows is what is found: so it is
--- unique, and nothing is found only if no lawful office has them.
+-- If `found` has an office, the office is lawful and has these rows. If any lawful office has these rows, `found` has
+-- that office. So at most one lawful office has them, and `found` is `None` only if no lawful office has them.
 pub record ReadsOffice (version : ℕ) (records : OfficeRecords) (found : Option Office) : Type 0 where
   pub returned : IfSome found (λ office. IsLawful office × AreRecordsOf (rows_at version office) records)
   pub only : (office : Office) → IsLawful office → AreRecordsOf (rows_at version office) records

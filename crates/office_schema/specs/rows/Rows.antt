@@ -22,15 +22,15 @@ person_row withdrawn e =
 abbrev pub person_rows : TextMap Person → TextMap (Unit {0}) → List PersonRecord
 person_rows people withdrawn = map (person_row withdrawn) (maps.entries people)
 
--- The row is of tables of this version.
+-- The row of the round holds this version.
 abbrev pub IsOfVersion : ℕ → RoundRecord → Type 0
 IsOfVersion version round = round.version ≡ version
 
--- the round's row as the only one of its table
+-- the rows of table `round`: only the row of the round
 abbrev pub only_row : RoundRecord → List RoundRecord
 only_row round = round ∷ []
 
--- the rows of a person's list, with places from this one on
+-- the rows of a person's list; the first room has this place, and each next room has the next place
 abbrev pub choices_from : Text → ℕ → List Text → List ChoiceRecord
 choices_from person place [] = []
 choices_from person place (code ∷ codes) =
@@ -61,19 +61,20 @@ move_rows moves = flat_map round_rows (maps.entries moves)
 abbrev pub key_rows : TextMap (Unit {0}) → List Text
 key_rows keys = map (λ e. e.0) (maps.entries keys)
 
--- Which maps rows can represent: withdrawals of known people, lists that are not empty, and rounds that have moves.
+-- The maps that rows can represent: only known people have withdrawn, no list is empty, and each recorded round has a
+-- move.
 
--- Everybody who has withdrawn is known.
+-- Each person who has withdrawn is in `people`.
 pub record AreValidPeople (people : TextMap Person) (withdrawn : TextMap (Unit {0})) : Type 0 where
   pub withdrawers : (p : Text) → maps.contains_key withdrawn p ≡ true
       → maps.contains_key people p ≡ true
 
--- No list is empty. Each has at most forty rooms, and none twice.
+-- No list is empty. Each list has at most forty rooms, and no room twice.
 pub record AreValidLists (lists : TextMap (List Text)) : Type 0 where
   pub none_empty : (p : Text) → maps.get lists p ≡ Some [] → ⊥
   pub chosen : (p : Text) (codes : List Text) → maps.get lists p ≡ Some codes → IsChoices codes
 
--- No round is recorded without moves.
+-- Each recorded round has a move.
 pub record AreValidMoves (moves : RoundMap RoundMoves) : Type 0 where
   pub none_empty : (round : ℕ) (recorded : RoundMoves) → maps.get moves round ≡ Some recorded
       → recorded.by_person ≡ maps.empty → ⊥

@@ -5,7 +5,7 @@ use Rattle.office_state.specs.Office.Invariants.{IsLawful}
 use Rattle.office_state.specs.declared.office.Office.{Office}
 use Rattle.office_schema.specs.rows.Tables.{Tables, rows_of}
 
--- Each table has the same rows in both, in some order.
+-- Each table has the same rows in `tables` and in `others`, in some order.
 pub record AreSameRows (tables others : Tables) : Type 0 where
   pub rooms : IsPermutation tables.rooms others.rooms
   pub people : IsPermutation tables.people others.people

@@ -28,8 +28,9 @@ pub record Tables : Type 0 where
 abbrev pub own_version : ℕ
 own_version = 3
 
--- The rows of an office in tables of this version: one for each room, person, listed room, word, result, move and
--- imported list, for each recorded grade and each person who leaves, and one for the round.
+-- The rows of an office in tables of this version. There is one row for the round. There is one row for each room,
+-- person, word, result, move and imported list, for each room in a preference list, for each recorded grade, and for
+-- each person who leaves.
 unfoldable pub rows_at : ℕ → Office → Tables
 rows_at version office = record {
   rooms = maps.entries office.rooms;

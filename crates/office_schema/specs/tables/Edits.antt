@@ -23,7 +23,7 @@ with_shut room shut tables = record tables {
 
 -- ---- people
 
--- one more person, who has not withdrawn
+-- adds a person, who has not withdrawn
 unfoldable pub with_person : Text → Person → Tables → Tables
 with_person id person tables = record tables {
   people = record { id = id; person = person; withdrawn = false } ∷ tables.people;
@@ -66,7 +66,7 @@ with_version version tables = record tables {
   rounds = map (λ (r : RoundRecord). record r { version = version }) tables.rounds;
 }
 
--- one more row of the round, with the version that this program creates
+-- adds a row of the round, with the version that this program creates
 unfoldable pub with_first_round : ℕ → Phase → Tables → Tables
 with_first_round number phase tables =
     record tables {
@@ -91,7 +91,7 @@ unfoldable pub with_result : Text → Option Text → Tables → Tables
 with_result person room tables =
     record tables { results = (person, record { room = room }) ∷ tables.results }
 
--- no choices, words, results or leavers
+-- deletes all choices, words, results and leavers
 unfoldable pub without_round_tables : Tables → Tables
 without_round_tables tables = record tables { choices = []; words = []; results = []; going = [] }
 

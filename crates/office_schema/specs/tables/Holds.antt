@@ -14,8 +14,8 @@ stored columns entry = Int entry.0 ∷ columns entry.1
 abbrev pub same_rowid : Row → Row → Bool
 same_rowid a b = is_eq (value_cmp (rowid a) (rowid b))
 
--- The table has exactly one row for each of the records, and the rowids are distinct. The order of the records does not
--- matter.
+-- The table has exactly one row for each of the records, and the rowids are distinct. The records may be in any
+-- order.
 pub record Holds {X : Type 0} (columns : X → Row) (rows : List Row) (records : List X)
     : Type 0 where
   pub entries : List (ℤ × X)

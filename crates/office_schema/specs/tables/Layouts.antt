@@ -1,5 +1,5 @@
--- The layouts that the tables of an office may have in a database, a closed list: the version of each, its schema, and
--- so the tree of each table.
+-- The five layouts that the tables of an office may have in a database. Each layout has a version, a schema, and a
+-- tree for each of its tables.
 use Rattle.std.specs.Prelude.{ℕ, Bool, true, false, slice_index_or}
 use Rattle.sqlite_schema.specs.declared.schema.Table.{Table}
 use Rattle.sqlite_schema.specs.declared.schema.Schema.{Schema}
@@ -39,7 +39,7 @@ has_leavers DocumentedSecond = false
 has_leavers DocumentedFirst = false
 has_leavers EarlierFirst = false
 
--- the schema in whose order the layout's tables were created
+-- the schema that begins with the layout's tables, in their order; it may go on with tables that the layout lacks
 abbrev pub order_of : Layout → Schema
 order_of Own = office_schema
 order_of Documented = documented_schema
@@ -67,7 +67,7 @@ schema_of DocumentedSecond = documented_tables 9
 schema_of DocumentedFirst = documented_tables 8
 schema_of EarlierFirst = earlier_schema
 
--- the tree of each table after the first three
+-- for each table after the first three, the number of the tree that stores the table
 pub record TableTrees : Type 0 where
   pub choices : ℕ
   pub words : ℕ
@@ -99,7 +99,7 @@ documented_trees = record {
   going = 21;
 }
 
--- There are no tables of grades and leavers, and their numbers mean nothing.
+-- The layout has no tables of grades and leavers, so the numbers `grades` and `going` mean nothing.
 abbrev pub earlier_trees : TableTrees
 earlier_trees = record {
   choices = 16;
@@ -111,7 +111,7 @@ earlier_trees = record {
   going = 0;
 }
 
--- The number of a table that the layout lacks means nothing.
+-- the trees of the layout's tables; if the layout lacks a table, the number of its tree means nothing
 abbrev pub trees_of : Layout → TableTrees
 trees_of Own = own_trees
 trees_of Documented = documented_trees

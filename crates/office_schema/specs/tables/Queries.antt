@@ -1,4 +1,4 @@
--- The query of one table.
+-- Queries of a single table.
 use Rattle.std.specs.Prelude.{ℕ, List, [], None, false, pos, negsuc}
 use Rattle.sqlite_sql.specs.Term.{Term, lit}
 use Rattle.sqlite_sql.specs.Query.{Query, inner, end}
@@ -6,7 +6,8 @@ use Rattle.sqlite_value.specs.declared.keys.Key.{Key}
 use Rattle.sqlite_value.specs.declared.value.Value.TheVariants.{Int}
 use Rattle.sqlite_schema.specs.declared.program.Program.{Program}
 
--- the query of the rows of one table that pass the tests, with these columns and in this order
+-- selects the rows of the table in `tree` that pass the tests in `filter`; returns the columns `project`, sorted by
+-- `order`
 abbrev pub over : ℕ → List Term → List Term → List (Term × Key) → Query
 over tree filter project order = record {
   from = inner tree end;

@@ -1,4 +1,4 @@
--- Tables that are created again and filled again.
+-- Tables that this program creates again and fills again.
 use Rattle.std.specs.Prelude.{◌≡◌, List, [], ◌∷◌}
 use Rattle.sqlite.specs.State.{State, HasCleanDisk}
 use Rattle.office_schema.specs.rows.ReadsOffice.{AreRecordsOf}
@@ -8,13 +8,13 @@ use Rattle.office_schema.specs.tables.Edits.{with_version}
 use Rattle.office_schema.specs.tables.Tables.{HasTables, HasTablesIn}
 use Rattle.office_schema.specs.declared.tables.layouts.Layout.{Layout}
 
--- the tables after a row for each of these is added, one after another
+-- the tables after `with_row` has added each of these rows, one after another
 abbrev pub with_all : {X : Type 0} → (X → Tables → Tables) → List X → Tables → Tables
 with_all with_row [] tables = tables
 with_all with_row (r ∷ rows) tables = with_all with_row rows (with_row r tables)
 
--- The tables of the layout are replaced by those that this program creates, of its version and with the same rows, if
--- the records are these rows.
+-- If `records` are the rows of the layout's tables, the tables that this program creates have replaced those tables.
+-- The new tables have the same rows, and the version that this program creates.
 pub record Migrates (layout : Layout) (records : OfficeRecords) (old new : State) : Type 0 where
   pub shown : (tables : Tables) → HasCleanDisk new → HasTablesIn layout old.now tables
       → AreRecordsOf tables records → HasTables new.now (with_version own_version tables)

@@ -1,5 +1,6 @@
--- The ten tables of an office: the statements that create them, and the schemas that result in each order in which
--- tables of an office are known to be created. The first three tables have the same place in all of them.
+-- The ten tables of an office, the statements that create them, and the schemas that result. The tables may have been
+-- created in one of three orders: those of `office_schema`, `documented_schema` and `earlier_schema`. The first three
+-- tables have the same place in all three orders.
 use Rattle.std.specs.Prelude.{true, false, ℕ, pos, List, [], ◌∷◌, ◌++◌, map, codes, take, slice_index_or}
 use Rattle.std.specs.Prelude.{Option, Some, None}
 use Rattle.sqlite_value.specs.declared.keys.Collation.TheVariants.{Binary}
@@ -69,8 +70,9 @@ choice_text =
 abbrev pub going_text : List ℕ
 going_text = codes "CREATE TABLE going(person TEXT PRIMARY KEY NOT NULL REFERENCES person(id)) STRICT"
 
--- The statements that create the tables, in the order in which this program runs them. A table comes after those that
--- it refers to. Those of a round come last, since they are dropped and created again.
+-- The statement at this place, among the statements that create the tables, in the order in which this program runs
+-- them. Each table comes after the tables that it refers to. The four tables of a round come last, because they are
+-- dropped and created again.
 abbrev pub table_text : ℕ → List ℕ
 table_text place =
     slice_index_or
@@ -118,7 +120,8 @@ equals place n = op2 (Compare Eq Binary) (col 1 place) (lit (Int (pos n)))
 abbrev pub either : Term → Term → Term
 either = op2 Or
 
--- an integer from 1 to 9, as the engine splits the list of them in halves
+-- tests that the column is an integer from 1 to 9; the engine compiles the list after `IN` by splitting it into
+-- halves
 abbrev pub is_digit : ℕ → Term
 is_digit place =
     either
@@ -234,7 +237,7 @@ index_of name tree table columns = record {
 abbrev pub no_schema : Schema
 no_schema = record { tables = []; indexes = []; views = [] }
 
--- the schema that the statements create, one after another
+-- the schema after the statements of `table_text` have run, one after another
 abbrev pub office_schema : Schema
 office_schema = record {
   tables =
@@ -251,7 +254,8 @@ office_schema = record {
   views = [];
 }
 
--- the first `tables` tables of an office, with their indexes; the first six are all but the tables of a round
+-- the first `tables` tables of `office_schema`, with their indexes; the four tables of a round come after the first
+-- six
 abbrev pub first_tables : ℕ → Schema
 first_tables tables = record {
   tables = take tables office_schema.tables;
@@ -261,7 +265,7 @@ first_tables tables = record {
   views = [];
 }
 
--- the same tables, created in the documented order
+-- the same ten tables, created in the order of `docs/formats.md`
 abbrev pub documented_schema : Schema
 documented_schema = record {
   tables =
@@ -278,7 +282,8 @@ documented_schema = record {
   views = [];
 }
 
--- the first `tables` of them: version 2 has the first nine, and version 1 the first eight
+-- the first `tables` tables of `documented_schema`, with their indexes; version 2 has the first nine tables, and
+-- version 1 the first eight
 abbrev pub documented_tables : ℕ → Schema
 documented_tables tables = record {
   tables = take tables documented_schema.tables;
@@ -303,7 +308,7 @@ earlier_schema = record {
   views = [];
 }
 
--- the first `tables` of them
+-- the first `tables` tables of `earlier_schema`, with their indexes
 abbrev pub earlier_tables : ℕ → Schema
 earlier_tables tables = record {
   tables = take tables earlier_schema.tables;

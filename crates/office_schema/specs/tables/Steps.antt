@@ -1,4 +1,4 @@
--- The effect of a call inside a transaction on a database, and of a whole transaction.
+-- The effects on a database of a call inside a transaction, and of a whole transaction.
 use Rattle.std.specs.Prelude.{◌≡◌, ◌⊎◌, ℕ, ◌≤◌, false, List, Ok, IsTrue}
 use Rattle.sqlite_disk.specs.Disk.{MoreFaults}
 use Rattle.sqlite_value.specs.Order.{Row}
@@ -8,9 +8,9 @@ use Rattle.sqlite.specs.State.{State, HasCleanDisk, KeepsCommit, Survives, Execu
 abbrev pub IsIntact : State → Type 0
 IsIntact s = HasCleanDisk s × IsTrue s.is_open
 
--- A disk that is clean now was clean before, the number of faults never falls, and only a fault closes the connection.
--- The limit of steps past which the engine refuses a statement is the same, so that no statement that ran before is
--- refused for it later.
+-- If the disk is clean now, it was clean before. On a clean disk, a closed connection stays closed, and an open one
+-- closes only after a new fault. The number of faults never falls. The limit of steps, past which the engine refuses
+-- a statement, is unchanged. So the engine does not refuse, for its steps, a statement that ran before.
 pub record Follows (old new : State) : Type 0 where
   pub clean : HasCleanDisk new → HasCleanDisk old
   pub was_open : HasCleanDisk new → IsTrue new.is_open → IsTrue old.is_open
@@ -24,7 +24,7 @@ pub record StaysInside (old new : State) : Type 0 where
   pub kept : HasCleanDisk new → KeepsCommit old new
   pub survives : Survives old new (λ _. ⊥)
 
--- The transaction sees the same data, and is open if it was.
+-- The transaction sees the same data as before, and is open if and only if it was open before.
 abbrev pub SeesTheSame : State → State → Type 0
 SeesTheSame old new = (new.now ≡ old.now) × (new.in_transaction ≡ old.in_transaction)
 
@@ -32,7 +32,8 @@ SeesTheSame old new = (new.now ≡ old.now) × (new.in_transaction ≡ old.in_tr
 abbrev pub RollsBack : State → State → Type 0
 RollsBack old new = (new.now ≡ old.committed) × (new.in_transaction ≡ false)
 
--- What a statement leaves that the engine refused, or that failed: no change, or a transaction that is rolled back.
+-- The state after the engine refused a statement, or the statement failed: nothing has changed, or the transaction is
+-- rolled back.
 abbrev pub IsUndone : State → State → Type 0
 IsUndone old new = IsIntact new → SeesTheSame old new ⊎ RollsBack old new
 

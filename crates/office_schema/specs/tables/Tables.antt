@@ -13,12 +13,12 @@ use Rattle.office_schema.specs.tables.Layouts.{has_grades, has_leavers, schema_o
 use Rattle.office_schema.specs.declared.tables.layouts.Layout.{Layout}
 use Rattle.office_schema.specs.declared.tables.layouts.Layout.TheVariants.{Own}
 
--- The table holds these records if it exists. If it does not, there are none.
+-- If the table exists, it holds these records. If the table does not exist, there are no records.
 abbrev pub HoldsIf : {X : Type 0} → Bool → (X → Row) → List Row → List X → Type 0
 HoldsIf true columns rows records = Holds columns rows records
 HoldsIf false columns rows records = records ≡ []
 
--- Each tree of the layout holds the records of its table.
+-- For each table of the layout, the table's tree holds the records of this table.
 pub record AreHeldIn (layout : Layout) (trees : Trees) (tables : Tables) : Type 0 where
   pub rooms : Holds room_columns (trees 0) tables.rooms
   pub people : Holds person_columns (trees 2) tables.people

@@ -8,19 +8,19 @@ use room_types::OutOfMemory;
 use sqlite::Row;
 use std::alloc::Global;
 
-/// A record of a table, read from its row.
+/// A type whose values are the records of one table.
 pub trait Record: Drop {
-    /// The form of a row that holds a record.
+    /// The rows that have the form of a record.
     ghost is_form: { Values → Type 0 };
-    /// The columns of a row that are read.
+    /// The columns of a row that `from_row` reads.
     ghost front: { Values → Values };
     /// The columns of a record.
     ghost columns: { Self → Values };
-    /// The rows for which reading may allocate.
+    /// The rows for which `from_row` may allocate.
     ghost may_allocate: { Values → Type 0 };
 
-    /// Reads a row into a record. Returns `None` if the row has another form. Allocates only for rows that satisfy
-    /// `may_allocate`. Fails only if an allocation does.
+    /// Reads a row into a record. Returns `None` if the row does not have the form of a record. Allocates only for
+    /// rows that satisfy `may_allocate`. Fails only if an allocation fails.
     fn from_row(alloc: Global, row: &Row) -> Result<Option<Self>, OutOfMemory>
         ensures returned { IfOk result (λ found. MatchOption found (¬ is_form row.now)
             (λ record_. front row.now ≡ columns record_)) }
@@ -28,10 +28,10 @@ pub trait Record: Drop {
         ensures memory { OnErr result (may_allocate row.now) };
 }
 
-/// Reads all rows into records, in order. Returns `None` if a row has another form.
+/// Reads all rows into records, in order. Returns `None` if a row does not have the form of a record.
 ///
-/// Fails only if an allocation does. The allocation is to read a row that satisfies `may_allocate`, or to store the
-/// record of a row. All rows before that row have the form of a record.
+/// Fails only if an allocation fails while this function reads a row that satisfies `may_allocate`, or stores the
+/// record of a row. In either case, all rows before that row have the form of a record.
 pub fn records_in<R: Record>(alloc: Global, rows: &[Row]) -> Result<Option<Vec<R>>, OutOfMemory>
     ensures returned { IfOk result (λ found. MatchOption found (¬ All R.is_form rows.now)
         (λ records. map R.columns records.items ≡ map R.front rows.now)) }

@@ -13,7 +13,7 @@ use room_types::{OutOfMemory, Phase};
 use sqlite::Row;
 use std::alloc::Global;
 
-// Parses the name of a phase, as it is printed.
+// Parses the name of a phase, as `Phase::as_str` returns it. Returns `None` for any other text.
 fn parse_phase(text: &str) -> Option<Phase>
     ensures { MatchOption result ((p : phase) → text.now ≡ phase_text p → ⊥)
         (λ p. text.now ≡ phase_text p) }

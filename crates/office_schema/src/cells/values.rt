@@ -1,4 +1,5 @@
-//! Reading cells as typed values. A cell of another form gives `None`. Reading a number or a flag does not allocate.
+//! Reads cells as typed values. Each function returns `None` if the cell has another form. Reading a number or a flag
+//! does not allocate.
 ghost use Rattle.std.specs.Prelude.{◌≡◌, ◌⊎◌, ◌<◌, ℕ, length, pos, IfOk, IfSome, IsUtf8, MatchOption, OnErr, Option};
 ghost use Rattle.std.specs.Bool.{Decides};
 ghost use Rattle.sqlite_value.specs.Order.{column};
@@ -24,7 +25,8 @@ pub fn str_in(row: &Row, at: usize) -> Option<&str>
     }
 }
 
-/// Reads a column as a text of the grammar. Allocates only for such a text. Fails only if an allocation does.
+/// Reads a column as a text of the grammar `G`. Allocates only if the column holds a text of `G`. Fails only if an
+/// allocation fails.
 pub fn text_in<G: Grammar>(
     alloc: Global,
     row: &Row,
@@ -47,8 +49,8 @@ pub fn text_in<G: Grammar>(
     }
 }
 
-/// Reads a column as a text of the grammar, or NULL. A column past the end of the row is NULL. Allocates only for a
-/// text of the grammar. Fails only if an allocation does.
+/// Reads a column as a text of the grammar `G`, or NULL. A column past the end of the row is NULL. Allocates only if
+/// the column holds a text of `G`. Fails only if an allocation fails.
 pub fn optional_text_in<G: Grammar>(
     alloc: Global,
     row: &Row,
@@ -77,7 +79,8 @@ fn is_null(row: &Row, at: usize) -> bool
     matches!(row.get_ref(at), Ok(ValueRef::Null) | Err(_))
 }
 
-/// Reads a column as a blob. Allocates only for a blob that is not empty. Fails only if an allocation does.
+/// Reads a column as a blob. Allocates only if the column holds a blob that is not empty. Fails only if an allocation
+/// fails.
 pub fn bytes_in(alloc: Global, row: &Row, at: usize) -> Result<Option<Listing<u8>>, OutOfMemory>
     ensures returned { IfOk result (λ found. MatchOption found (¬ IsBlob (column row.now at))
         (λ bytes. column row.now at ≡ blob_value bytes)) }
@@ -149,8 +152,8 @@ pub fn u16_in(row: &Row, at: usize) -> Option<u16>
     u16::try_from(number).ok()
 }
 
-/// Reads a column as a wave: NULL for a swap, or the number of a wave, an unsigned integer of 16 bits. A column past
-/// the end of the row is NULL.
+/// Reads a column as a wave. NULL is a swap, and an unsigned integer of 16 bits is the number of a wave. A column
+/// past the end of the row is NULL.
 pub fn wave_in(row: &Row, at: usize) -> Option<Wave>
     ensures returned { MatchOption result (¬ IsWave (column row.now at))
         (λ w. column row.now at ≡ wave_value w) }

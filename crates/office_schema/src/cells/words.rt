@@ -11,8 +11,9 @@ use room_types::{OutOfMemory, PersonId, Word};
 use sqlite::Row;
 use std::alloc::Global;
 
-// Reads a column as a word: sixteen hexadecimal digits in lower case, as words are printed. Allocates only for sixteen
-// hexadecimal digits, in either case. Fails only if an allocation does.
+// Reads a column as a word, written as sixteen hexadecimal digits in lower case. Returns `None` for any other value.
+// Allocates only if the column holds sixteen hexadecimal digits, in lower or upper case. Fails only if an allocation
+// fails.
 fn word_in(alloc: Global, row: &Row, at: usize) -> Result<Option<Word>, OutOfMemory>
     ensures returned { IfOk result (λ found. MatchOption found (¬ IsWord (column row.now at))
         (λ w. column row.now at ≡ text_value (word_text w))) }

@@ -1,4 +1,4 @@
-//! Rebuilding preference lists from rows of a person, a place and a room.
+//! Rebuilds preference lists from rows, each of which holds a person, a place and a room.
 ghost use Rattle.std.specs.Prelude.{◌≡◌, ◌<◌, IfOk, OnErr, MatchOption, length};
 ghost use Rattle.std.specs.List.Sorted.{IsPermutation, IsSorted};
 ghost use Rattle.std.specs.FinMap as map;
@@ -12,9 +12,9 @@ use room_types::grammars::PersonIds;
 use room_types::{Choices, Listing, OutOfMemory, RoomCode, Table, TypeFault};
 use std::alloc::Global;
 
-/// Rebuilds the preference lists that have exactly these rows, in any order. Returns `None` if no valid lists have
-/// them; otherwise the result is unique. Takes O(n log n) time. Fails only if an allocation does, and never without
-/// rows.
+/// Rebuilds the preference lists that have exactly the given rows. The rows may be in any order. Returns `None` if no
+/// valid lists have these rows; otherwise the result is unique. Takes O(n log n) time. Fails only if an allocation
+/// fails, and cannot fail if `rows` is empty.
 pub fn read_choices(
     alloc: Global,
     rows: Vec<ChoiceRecord>,
@@ -62,7 +62,7 @@ fn gather(
     Ok(Some(lists))
 }
 
-// Converts each list to choices. Returns `None` if one of them is not valid.
+// Converts each person's list to `Choices`. Returns `None` if a list is not valid.
 fn all_chosen(
     alloc: Global,
     lists: &Table<PersonIds, Listing<RoomCode>>,
@@ -80,7 +80,7 @@ fn all_chosen(
     Ok(Some(made))
 }
 
-// Converts the codes to choices. Returns `None` if there are too many or one occurs twice.
+// Converts the codes to `Choices`. Returns `None` if there are too many codes, or if a code occurs twice.
 fn chosen(alloc: Global, codes: &[RoomCode]) -> Result<Option<Choices>, OutOfMemory>
     ensures { IfOk result (λ found. MatchOption found (IsChoices codes.now → ⊥)
         (λ choices. (choices ≡ codes.now) × IsChoices codes.now)) }

@@ -10,8 +10,9 @@ use office_state::{RoundMoves, Rounds};
 use room_types::{Move, OutOfMemory};
 use std::alloc::Global;
 
-/// Rebuilds the moves of all rounds from their rows, in any order. Returns `None` if a person moves twice in a round;
-/// otherwise the result is unique. Fails only if an allocation does, and never without rows.
+/// Rebuilds the moves of all rounds from their rows. The rows may be in any order. Returns `None` if a person moves
+/// twice in a round; otherwise the result is unique. Fails only if an allocation fails, and cannot fail if `rows` is
+/// empty.
 pub fn read_moves(alloc: Global, rows: Vec<Move>) -> Result<Option<Rounds<RoundMoves>>, OutOfMemory>
     ensures reads { IfOk result (λ found. Reads AreValidMoves move_rows rows.items found) }
     ensures memory { OnErr result (0 < length rows.items) }

@@ -13,12 +13,11 @@ use office_state::{Office, sound};
 use room_types::OutOfMemory;
 use std::alloc::Global;
 
-/// Rebuilds the lawful office that has exactly these rows, in any order, in tables of this version. Returns `None` if
-/// there is no such office; otherwise the result is unique. Takes O(n log n) time, plus the time of one run of the
-/// round to recompute results.
+/// Rebuilds the lawful office whose rows, in tables of this version, are exactly `records`. The records of each table
+/// may be in any order. Returns `None` if no lawful office has these rows; otherwise the result is unique.
 ///
-/// Fails only if an allocation does. If no table other than the round's has a row, it allocates only to recompute
-/// results.
+/// Takes O(n log n) time, plus the time of one run of the round if results are recomputed. Fails only if an
+/// allocation fails. If every table except `round` is empty, this function allocates only to recompute results.
 pub fn read_office(
     alloc: Global,
     records: OfficeRecords,
@@ -36,7 +35,8 @@ pub fn read_office(
     Ok(Some(office))
 }
 
-// Rebuilds an office with these rows, lawful or not. Returns `None` only if no lawful office has them.
+// Rebuilds an office that has these rows. The office may be unlawful. Returns `None` only if no lawful office has
+// these rows.
 #[tactic(auto, unfolding(crate::specs::rows::Tables::rows_at))]
 fn build_office(
     alloc: Global,

@@ -10,15 +10,16 @@ use room_types::grammars::PersonIds;
 use room_types::{OutOfMemory, Table};
 use std::alloc::Global;
 
-/// The people, and who of them has withdrawn from the round.
+/// All people, and the set of those who have withdrawn from the round.
 #[derive(Drop)]
 pub struct People {
     pub people: Table<PersonIds, Person>,
     pub withdrawn: Table<PersonIds, ()>,
 }
 
-/// Rebuilds the people and withdrawals that have exactly these rows, in any order. Returns `None` if an identifier
-/// occurs twice; otherwise the result is unique. Fails only if an allocation does, and never without rows.
+/// Rebuilds the people and withdrawals that have exactly the given rows. The rows may be in any order. Returns `None`
+/// if an identifier occurs twice; otherwise the result is unique. Fails only if an allocation fails, and cannot fail
+/// if `rows` is empty.
 pub fn read_people(alloc: Global, rows: Vec<PersonRecord>) -> Result<Option<People>, OutOfMemory>
     ensures reads { IfOk result (λ found. Reads AreValid people_rows rows.items found) }
     ensures memory { OnErr result (0 < length rows.items) }

@@ -11,8 +11,8 @@ pub struct PersonRecord {
     pub withdrawn: bool,
 }
 
-/// An entry of a preference list: the room that a person listed at this place, from 0. Records compare by person, then
-/// place, then room.
+/// An entry of a preference list: the room that the person listed at this place. Places count from 0. Records compare
+/// by person, then place, then room.
 #[derive(Debug, PartialEq, Eq, PartialOrd, Ord, Drop)]
 pub struct ChoiceRecord {
     pub person: PersonId,
@@ -29,7 +29,7 @@ pub struct RoundRecord {
     pub phase: Phase,
 }
 
-/// The records of all tables of an office. Those of each table are in any order.
+/// The records of all tables of an office. The records of each table may be in any order.
 #[derive(Drop)]
 pub struct OfficeRecords {
     /// Each room, and whether it is shut.

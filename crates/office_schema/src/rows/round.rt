@@ -1,10 +1,10 @@
-//! Reading the round from its only row.
+//! Reads the round from the only row of table `round`.
 ghost use Rattle.office_schema.specs.rows.Reads.{Reads};
 ghost use Rattle.office_schema.specs.rows.Rows.{IsOfVersion, only_row};
 
 use crate::rows::records::RoundRecord;
 
-/// Returns the row if there is exactly one and it has this version.
+/// Returns the row if there is exactly one row and its version is `version`. Otherwise returns `None`.
 pub fn read_round(rows: &[RoundRecord], version: u16) -> Option<RoundRecord>
     ensures { Reads (IsOfVersion version) only_row rows.now result }
 {

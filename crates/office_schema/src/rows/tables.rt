@@ -1,4 +1,4 @@
-//! Building tables from rows of a key and a value, and sets from rows of a key.
+//! Builds maps from rows of a key and a value, and sets from rows of a key.
 ghost use Rattle.std.specs.Prelude.{◌≡◌, ◌<◌, IfOk, OnErr, length, map as map_list, reverse};
 ghost use Rattle.std.specs.FinMap as map;
 ghost use Rattle.office_schema.specs.rows.Inner.Filled.{filled, key_entry};
@@ -8,8 +8,8 @@ ghost use Rattle.office_schema.specs.rows.Rows.{key_rows};
 use room_types::{Grammar, OutOfMemory, Table, Text};
 use std::alloc::Global;
 
-/// Builds the table that has exactly these entries, in any order. Returns `None` if a key occurs twice. Fails only if
-/// an allocation does, and never without rows.
+/// Builds the map whose entries are exactly `rows`. The rows may be in any order. Returns `None` if a key occurs
+/// twice. Fails only if an allocation fails, and cannot fail if `rows` is empty.
 pub fn read_table<G: Grammar, V: Drop>(
     alloc: Global,
     rows: Vec<(Text<G>, V)>,
@@ -20,7 +20,7 @@ pub fn read_table<G: Grammar, V: Drop>(
     fill(alloc, rows)
 }
 
-// Inserts the entries from the last to the first. Returns `None` if a key occurs twice.
+// Inserts the rows into a new map, from the last row to the first. Returns `None` if a key occurs twice.
 fn fill<G: Grammar, V: Drop>(
     alloc: Global,
     rows: Vec<(Text<G>, V)>,
@@ -39,8 +39,8 @@ fn fill<G: Grammar, V: Drop>(
     Ok(Some(table))
 }
 
-/// Builds the set of these keys, given in any order. Returns `None` if a key occurs twice. Fails only if an allocation
-/// does, and cannot fail if `rows` is empty.
+/// Builds the set whose keys are exactly `rows`. The rows may be in any order. Returns `None` if a key occurs twice.
+/// Fails only if an allocation fails, and cannot fail if `rows` is empty.
 pub fn read_keys<G: Grammar>(
     alloc: Global,
     rows: Vec<Text<G>>,
@@ -51,7 +51,7 @@ pub fn read_keys<G: Grammar>(
     fill_keys(alloc, rows)
 }
 
-// Inserts the keys from the last to the first. Returns `None` if a key occurs twice.
+// Inserts the keys into a new set, from the last key to the first. Returns `None` if a key occurs twice.
 fn fill_keys<G: Grammar>(
     alloc: Global,
     rows: Vec<Text<G>>,

@@ -9,8 +9,8 @@ use crate::tables::running::run;
 use room_types::{PersonId, RoomCode};
 use sqlite::{Alter, Error, Transaction, params};
 
-/// Adds the room at this place of a person's list, from 0. Fails if the list has this place or this room already, or if
-/// the person or the room is unknown.
+/// Adds a room to a person's list at this place. Places count from 0. Fails if the list has this place or this room
+/// already, or if the person or the room is unknown.
 pub fn add_choice<S: Alter>(
     tx: &mut Transaction<'_, S>,
     person: &PersonId,

@@ -8,7 +8,8 @@ ghost use Rattle.office_schema.specs.tables.Steps.{StaysInside};
 use crate::tables::running::run;
 use sqlite::{Alter, Error, Transaction};
 
-/// Creates tables `first` to 9 of the schema, without rows, provided that exactly those before `first` exist.
+/// Creates the tables at places `first` to 9 of `office_schema`, without rows. Presupposes that the database has
+/// exactly the tables at the places before `first`.
 pub fn create_tables_from<S: Alter>(tx: &mut Transaction<'_, S>, first: usize) -> Result<(), Error>
     requires { first ≤ 10 }
     ensures same_reference { tx.new.conn.ghost_name ≡ tx.old.conn.ghost_name }
@@ -24,8 +25,8 @@ pub fn create_tables_from<S: Alter>(tx: &mut Transaction<'_, S>, first: usize) -
     Ok(())
 }
 
-// Returns the statement that creates the table at this place. A table comes after those that it refers to. The tables
-// of a round come last, since they are dropped and created again.
+// Returns the statement that creates the table at this place. Each table comes after the tables that it refers to.
+// The four tables of a round come last, because `clear_round_tables` drops them and creates them again.
 fn table_text(place: usize) -> &'static str
     requires { place < 10 }
     ensures { result.now ≡ table_text place }

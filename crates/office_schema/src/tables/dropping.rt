@@ -12,7 +12,8 @@ use crate::tables::layouts::Layout;
 use crate::tables::running::run;
 use sqlite::{Alter, Error, Transaction};
 
-/// Drops the last tables of the layout, with their rows, until the given number is left.
+/// Drops the tables of the layout, the last one first, until only the first `left` tables remain. Their rows are
+/// dropped too.
 pub(crate) fn drop_tables_to<S: Alter>(
     tx: &mut Transaction<'_, S>,
     layout: Layout,
@@ -49,7 +50,7 @@ fn drop_text(layout: Layout, place: usize) -> &'static str
     }
 }
 
-// As `drop_text`, for the order in which this program creates the tables.
+// Returns the same as `drop_text`, for the layout `Own`.
 fn own_drop_text(place: usize) -> &'static str
     requires low { 3 ≤ place }
     requires high { place < 10 }
@@ -66,7 +67,7 @@ fn own_drop_text(place: usize) -> &'static str
     }
 }
 
-// As `drop_text`, for the documented order.
+// Returns the same as `drop_text`, for the layouts whose tables were created in the order of `docs/formats.md`.
 fn documented_drop_text(place: usize) -> &'static str
     requires low { 3 ≤ place }
     requires high { place < 10 }
@@ -83,7 +84,7 @@ fn documented_drop_text(place: usize) -> &'static str
     }
 }
 
-// As `drop_text`, for the order in which this program created version 1.
+// Returns the same as `drop_text`, for the layout `EarlierFirst`.
 fn earlier_drop_text(place: usize) -> &'static str
     requires low { 3 ≤ place }
     requires high { place < 8 }

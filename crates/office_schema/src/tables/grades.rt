@@ -9,7 +9,7 @@ use crate::tables::running::run;
 use room_types::{Grade, PersonId};
 use sqlite::{Alter, Error, Transaction, params};
 
-/// Adds a person's grade. Fails if the person has one already or is unknown, and for grade 0.
+/// Adds a person's grade. Fails if the person has a grade already, if the person is unknown, or if the grade is 0.
 pub fn add_grade<S: Alter>(
     tx: &mut Transaction<'_, S>,
     person: &PersonId,

@@ -10,8 +10,8 @@ use crate::tables::running::run;
 use room_types::{Label, ListKind, Listing};
 use sqlite::{Alter, Error, Transaction, params};
 
-/// Adds an imported list under its label, with the number of records that it added. Fails if a list is stored under
-/// this label already.
+/// Adds an imported list under its label. `count` is the number of records that the import added. Fails if a list is
+/// stored under this label already.
 pub fn add_list<S: Alter>(
     tx: &mut Transaction<'_, S>,
     label: &Label,

@@ -5,15 +5,16 @@ ghost use Rattle.office_schema.specs.tables.Layouts.{has_grades, has_leavers, ta
 /// A layout of an office's tables in a database: their version, and the order in which they were created.
 #[derive(Clone, Copy, Debug, PartialEq, Eq, Drop)]
 pub enum Layout {
-    /// Version 3, as this program creates it.
+    /// Version 3, with the tables in the order in which this program creates them.
     Own,
-    /// Version 3, in the documented order.
+    /// Version 3, with the tables in the order of `docs/formats.md`.
     Documented,
-    /// Version 2, in the documented order: without leavers.
+    /// Version 2, with the tables in the order of `docs/formats.md`. This version has no table of leavers.
     DocumentedSecond,
-    /// Version 1, in the documented order: without grades and leavers.
+    /// Version 1, with the tables in the order of `docs/formats.md`. This version has no tables of grades and
+    /// leavers.
     DocumentedFirst,
-    /// Version 1, as this program created it.
+    /// Version 1, with the tables in the order in which this program created them in that version.
     EarlierFirst,
 }
 
@@ -44,7 +45,7 @@ impl Layout {
         }
     }
 
-    /// Returns whether there is a table of grades.
+    /// Returns whether the layout has a table of grades.
     pub fn has_grades(self) -> bool
         ensures { result ≡ has_grades self }
     {
@@ -57,7 +58,7 @@ impl Layout {
         }
     }
 
-    /// Returns whether there is a table of leavers.
+    /// Returns whether the layout has a table of leavers.
     pub fn has_leavers(self) -> bool
         ensures { result ≡ has_leavers self }
     {

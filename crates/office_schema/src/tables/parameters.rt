@@ -6,7 +6,7 @@ ghost use Rattle.office_schema.specs.cells.Cells.{text_or_null, wave_value};
 
 use room_types::{RoomCode, Wave};
 
-/// Returns the room's code, or `None` for NULL.
+/// Returns the room's code, or `None` if there is no room. A statement binds `None` as NULL.
 pub(crate) fn code_or_null(room: &Option<RoomCode>) -> Option<&str>
     ensures { bound_value (or_null (λ code. Text code.now) result) ≡ text_or_null room.now }
 {
@@ -16,7 +16,7 @@ pub(crate) fn code_or_null(room: &Option<RoomCode>) -> Option<&str>
     }
 }
 
-/// Returns the wave's number, or `None` for NULL: a swap has no number.
+/// Returns the number of the wave, or `None` for a swap, which has no number. A statement binds `None` as NULL.
 pub(crate) fn number_or_null(wave: Wave) -> Option<u32>
     ensures { bound_value (or_null (λ number. Int (pos number)) result) ≡ wave_value wave }
 {

@@ -10,8 +10,8 @@ use crate::tables::running::run;
 use room_types::{Key, Name, PersonId, RoomCode};
 use sqlite::{Alter, Error, Transaction, params};
 
-/// Adds a person, who has not withdrawn. Fails if the identifier, the key or the home is taken, or if the home is not a
-/// room.
+/// Adds a person, who has not withdrawn. Fails if the identifier, the key or the home is taken, or if the home is not
+/// a room.
 pub fn add_person<S: Alter>(
     tx: &mut Transaction<'_, S>,
     id: &PersonId,
@@ -47,7 +47,8 @@ pub fn drop_person<S: Alter>(tx: &mut Transaction<'_, S>, id: &PersonId) -> Resu
     run(tx, "DELETE FROM person WHERE id = ?1", params![id.as_str()])
 }
 
-/// Sets or clears a person's home. Does nothing if the person is unknown. Fails if the home is taken or is not a room.
+/// Sets or clears a person's home. Does nothing if the person is unknown. Fails if the home is taken or is not a
+/// room.
 pub fn set_home<S: Alter>(
     tx: &mut Transaction<'_, S>,
     id: &PersonId,

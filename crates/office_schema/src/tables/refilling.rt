@@ -1,4 +1,4 @@
-//! Converting the tables of another layout to the one of this program, with all their rows.
+//! Converts the tables of any layout to the layout that this program creates, and keeps all rows.
 ghost use Rattle.std.specs.Prelude.{◌≡◌, IfSome, OnOk};
 ghost use Rattle.sqlite.specs.Held.{state};
 ghost use Rattle.office_schema.specs.rows.Tables.{Tables};
@@ -24,9 +24,9 @@ use room_types::{Grade, Label, Move, PersonId, Word};
 use sqlite::{Alter, Error, ErrorCode, Transaction};
 use std::alloc::Global;
 
-/// Converts the tables of this layout to the layout and version that this program creates. `records` has to hold all
-/// their rows. Drops the tables after the first three, creates those of this program, fills them from `records`, and
-/// sets the version.
+/// Converts the tables of `layout` to the layout and version that this program creates. `records` has to hold all
+/// rows of these tables. Drops the tables after the first three, and creates those of this program's layout. Then
+/// fills the new tables from `records` and sets the version.
 pub fn migrate_tables<S: Alter>(
     alloc: Global,
     tx: &mut Transaction<'_, S>,
@@ -49,7 +49,8 @@ pub fn migrate_tables<S: Alter>(
     set_version(tx)
 }
 
-// Drops the tables after the first three, and creates those of this program without rows.
+// Drops the tables of `layout` after the first three. Then creates the tables after the first three of this program's
+// layout, without rows.
 fn rebuild_tables<S: Alter>(tx: &mut Transaction<'_, S>, layout: Layout) -> Result<(), Error>
     ensures same_reference { tx.new.conn.ghost_name ≡ tx.old.conn.ghost_name }
     ensures made { OnOk result
@@ -78,7 +79,7 @@ fn refill<R: Refilled, S: Alter>(
     Ok(())
 }
 
-/// A row of a table that is filled again.
+/// A row that `refill` can add to its table.
 pub trait Refilled {
     /// The tables with this row added.
     ghost with_row: { Self → Tables → Tables };
@@ -145,7 +146,7 @@ impl Refilled for ChoiceRecord {
         _alloc: Global,
         tx: &mut Transaction<'_, S>,
     ) -> Result<(), Error> {
-        // A lawful list has at most `CHOICE_LIMIT` places, so the number fits.
+        // A lawful list has at most `CHOICE_LIMIT` places, so the place fits in 32 bits.
         let Some(place) = narrow_place(self.place) else {
             return Err(Error::SqliteFailure(ErrorCode::DatabaseCorrupt));
         };

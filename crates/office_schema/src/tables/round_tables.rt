@@ -12,8 +12,8 @@ use crate::tables::layouts::Layout;
 use sqlite::{Alter, Error, Transaction};
 
 /// Deletes all words, results, choices and leavers. Drops the four tables and creates them again in the same places,
-/// since the store in memory scans the whole table for each row that it deletes. If this fails, some of the tables may
-/// be missing for the rest of the transaction.
+/// because the store in memory would scan the whole table for each deleted row. On an error, some of the four tables
+/// may be missing for the rest of the transaction.
 pub fn clear_round_tables<S: Alter>(tx: &mut Transaction<'_, S>) -> Result<(), Error>
     ensures same_reference { tx.new.conn.ghost_name ≡ tx.old.conn.ghost_name }
     ensures made { OnOk result

@@ -10,7 +10,7 @@ use crate::tables::running::run;
 use room_types::Phase;
 use sqlite::{Alter, Error, Transaction, params};
 
-/// Adds the row of the round, with the version of these tables. Fails if there is one already.
+/// Adds the row of table `round`, with the version that this program creates. Fails if the table has a row already.
 pub fn add_round<S: Alter>(
     tx: &mut Transaction<'_, S>,
     number: u16,
@@ -52,7 +52,7 @@ pub fn set_round<S: Alter>(
     )
 }
 
-/// Sets the version of the tables to the one that this program creates.
+/// Sets the version in table `round` to the version that this program creates.
 pub fn set_version<S: Alter>(tx: &mut Transaction<'_, S>) -> Result<(), Error>
     ensures same_reference { tx.new.conn.ghost_name ≡ tx.old.conn.ghost_name }
     ensures made { OnOk result

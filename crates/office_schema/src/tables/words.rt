@@ -10,7 +10,7 @@ use room_types::{PersonId, Word};
 use sqlite::{Alter, Error, Transaction, params};
 use std::alloc::Global;
 
-/// Adds the word that a person drew. Fails if the person has one already or is unknown.
+/// Adds the word that a person drew. Fails if the person has a word already, or if the person is unknown.
 pub fn add_word<S: Alter>(
     alloc: Global,
     tx: &mut Transaction<'_, S>,

@@ -6,7 +6,8 @@ use Rattle.office_state.specs.Round.{round_people, round_rooms, round_market, nu
 use Rattle.office_state.specs.declared.office.Office.{Office}
 use Rattle.office_state.specs.declared.round.problem.RoundProblem.{RoundProblem}
 
--- `round` is the problem of the office's round, with the names of its people and rooms, and the number of each room
+-- `round` holds the problem of the office's round, the names of the round's people and rooms, and the number of each
+-- room
 pub record IsProblemOf (office : Office) (round : RoundProblem) : Type 0 where
   pub people : round.people.items ≡ round_people office
   pub rooms : round.rooms.items ≡ round_rooms office

@@ -19,7 +19,8 @@ use Rattle.office_state.specs.declared.office.moves.RoundMoves.{RoundMoves}
 use Rattle.office_state.specs.declared.office.Assigned.{Assigned}
 use Rattle.office_state.specs.declared.office.person.Person.{Person}
 
--- whether no two of these people share the text that `which` gives for a person, and none of them has a text in `seen`
+-- whether the texts that `which` gives for these people differ from one another and from every text in `seen`. A
+-- person for whom `which` gives no text does not count.
 abbrev pub differ_from : (Person → Option Text) → TextMap (Unit {0}) → List (Text × Person) → Bool
 differ_from which seen [] = true
 differ_from which seen (e ∷ es) = elim (which e.1) [
@@ -29,7 +30,7 @@ differ_from which seen (e ∷ es) = elim (which e.1) [
       else differ_from which (map.insert seen text tt) es
 ]
 
--- whether a room is known and not shut, by its entry among the rooms
+-- whether a room is known and not shut. The argument is the room's entry in the table of rooms, or none.
 abbrev pub is_unshut : Option Bool → Bool
 is_unshut None = false
 is_unshut (Some shut) = not shut
@@ -52,23 +53,23 @@ is_recorded_list rooms codes =
     is_choices codes
     && (not (is_empty codes) && list_all (λ code. map.contains_key rooms code) codes)
 
--- whether a person has this result in the map
+-- whether the map `results` has the result `found` for a person
 abbrev pub is_given : TextMap Assigned → Text → Assigned → Bool
 is_given results person found = elim (map.get results person) [
   | None ↦ false
   | Some given ↦ is_same_text given.room found.room
 ]
 
--- whether a wave is wave 0, that of the people who leave the college
+-- whether a wave is wave 0, the wave of the people who leave the college
 abbrev pub is_wave_0 : Wave → Bool
 is_wave_0 Swap = false
 is_wave_0 (Nth number) = eqb number 0
 
--- whether a move goes into a room, or has wave 0
+-- whether a move has a new room or has wave 0
 abbrev pub is_recorded_move : Moved → Bool
 is_recorded_move moved = is_some moved.to || is_wave_0 moved.wave
 
--- whether a round has a move, and each of its moves goes into a room or has wave 0
+-- whether a round has at least one move, and each of its moves has a new room or has wave 0
 abbrev pub is_recorded_round : RoundMoves → Bool
 is_recorded_round kept =
     not (eqb (map.len kept.by_person) 0)
@@ -83,6 +84,6 @@ abbrev pub is_leaver : TextMap Person → TextMap (Unit {0}) → Text → Bool
 is_leaver people withdrawn person =
     map.contains_key people person && not (map.contains_key withdrawn person)
 
--- whether an imported list is within the limits of bytes and records
+-- whether an imported list has at most `byte_limit` bytes and added at most `record_limit` records
 abbrev pub is_short : StoredImport → Bool
 is_short kept = nat_le (length kept.bytes) byte_limit && nat_le kept.count record_limit

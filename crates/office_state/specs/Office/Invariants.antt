@@ -19,7 +19,7 @@ use Rattle.office_state.specs.declared.office.moves.RoundMoves.{RoundMoves}
 use Rattle.office_state.specs.declared.office.Office.{Office}
 use Rattle.office_state.specs.declared.office.person.Person.{Person}
 
--- no two people share the text (a home or a key) that `which` gives for them
+-- no two people share a text (a home or a key): `which` gives the text for a person
 abbrev pub Unshared : (Person → Option Text) → TextMap Person → Type 0
 Unshared which people =
     (p q text : Text) → had_by which people p ≡ Some text → had_by which people q ≡ Some text
@@ -34,8 +34,8 @@ abbrev pub HomesOpen : TextMap Bool → TextMap Person → Type 0
 HomesOpen rooms people = (p room : Text) → had_by (λ p. p.home) people p ≡ Some room
     → map.get rooms room ≡ Some false
 
--- rooms and people: no two people share a key or a home, each home is a known room that is not shut, and the numbers of
--- rooms and of people are within their limits
+-- rooms and people: no two people share a key or a home, each home is a known room that is not shut, and the numbers
+-- of rooms and of people are within their limits
 pub record IsValidRegister (rooms : TextMap Bool) (people : TextMap Person) : Type 0 where
   pub keys : Unshared (λ p. Some p.key) people
   pub homes : Unshared (λ p. p.home) people
@@ -43,8 +43,8 @@ pub record IsValidRegister (rooms : TextMap Bool) (people : TextMap Person) : Ty
   pub few_rooms : map.len rooms ≤ room_limit
   pub few_people : map.len people ≤ people_limit
 
--- lists and withdrawals: each person who has a list or has withdrawn is known, and each list has from one to forty
--- rooms, all known and none twice
+-- preference lists and withdrawals: each person who has a list or has withdrawn is known, and each list has from one
+-- to forty rooms, all known and none twice
 pub record AreValidLists (rooms : TextMap Bool) (people : TextMap Person) (choices : TextMap (List Text))
     (withdrawn : TextMap (Unit {0})) : Type 0 where
   pub choosers : (p : Text) → map.contains_key choices p ≡ true → map.contains_key people p ≡ true
@@ -55,8 +55,8 @@ pub record AreValidLists (rooms : TextMap Bool) (people : TextMap Person) (choic
   pub withdrawers : (p : Text) → map.contains_key withdrawn p ≡ true
       → map.contains_key people p ≡ true
 
--- the round: its number is within the limit, and at least 1 while a round is under way; between rounds there
--- are no lists and no withdrawals
+-- the round: the round number is at most `round_limit`, and at least 1 while a round is under way; between rounds
+-- there are no preference lists and no withdrawals
 pub record IsValidRound (number : ℕ) (phase : Phase) (choices : TextMap (List Text))
     (withdrawn : TextMap (Unit {0})) : Type 0 where
   pub few_rounds : number ≤ round_limit
@@ -64,7 +64,7 @@ pub record IsValidRound (number : ℕ) (phase : Phase) (choices : TextMap (List 
   pub idle_choices : is_idle phase ≡ true → choices ≡ map.empty
   pub idle_withdrawn : is_idle phase ≡ true → withdrawn ≡ map.empty
 
--- grades: people with a grade are known, and grade 0 is not recorded
+-- grades: each person with a grade is known, and grade 0 is not recorded
 pub record AreValidGrades (people : TextMap Person) (grades : TextMap ℕ) : Type 0 where
   pub graded : (p : Text) → map.contains_key grades p ≡ true → map.contains_key people p ≡ true
   pub none_zero : (p : Text) → map.get grades p ≡ Some 0 → ⊥
@@ -76,7 +76,7 @@ pub record AreValidLeavers (phase : Phase) (people : TextMap Person) (withdrawn 
   pub apart : (p : Text) → map.contains_key going p ≡ true → map.contains_key withdrawn p ≡ false
   pub idle_going : is_idle phase ≡ true → going ≡ map.empty
 
--- words: before the draw there are none; from the draw on, each participant has one and nobody else does
+-- words: before the draw there are none; from the draw on, each participant has a word and nobody else does
 pub record AreValidWords (phase : Phase) (people : TextMap Person) (withdrawn : TextMap (Unit {0}))
     (going : TextMap (Unit {0})) (words : TextMap ℕ) : Type 0 where
   pub none : has_words phase ≡ false → words ≡ map.empty
@@ -84,13 +84,14 @@ pub record AreValidWords (phase : Phase) (people : TextMap Person) (withdrawn : 
       → map.contains_key words p
       ≡ (map.contains_key people p && not (map.contains_key withdrawn p || map.contains_key going p))
 
--- results: before the run there are none; from the run on, they are those of top trading cycles for the round's problem
+-- results: before the rooms are traded there are none; afterwards they are what top trading cycles give for the
+-- round's problem
 pub record AreValidResults (office : Office) : Type 0 where
   pub none : has_results office.phase ≡ false → office.results ≡ map.empty
   pub given : has_results office.phase ≡ true → office.results ≡ round_results office
 
--- moves: their rounds are over, and a move without a new room has wave 0. A round without moves is not
--- recorded.
+-- moves: each round in the table of moves is over and has at least one move, and each move without a new room has
+-- wave 0
 pub record AreValidMoves (office : Office) : Type 0 where
   pub over : (round : ℕ) → map.contains_key office.moves round ≡ true → is_over office round ≡ true
   pub none_empty : (round : ℕ) (kept : RoundMoves) → map.get office.moves round ≡ Some kept
@@ -99,7 +100,8 @@ pub record AreValidMoves (office : Office) : Type 0 where
       → map.get (moves_of office.moves round) p ≡ Some moved
       → moved.to ≡ None → moved.wave ≡ Nth 0
 
--- imported lists: the number of them, and the bytes and records of each, are within the limits
+-- imported lists: there are at most `label_limit`, and each has at most `byte_limit` bytes and added at most
+-- `record_limit` records
 pub record AreValidImports (lists : TextMap StoredImport) : Type 0 where
   pub few : map.len lists ≤ label_limit
   pub short : (label : Text) (kept : StoredImport) → map.get lists label ≡ Some kept
@@ -107,7 +109,7 @@ pub record AreValidImports (lists : TextMap StoredImport) : Type 0 where
   pub counted : (label : Text) (kept : StoredImport) → map.get lists label ≡ Some kept
       → kept.count ≤ record_limit
 
--- all invariants: what holds of an office before and after each command
+-- the office satisfies all invariants, as it does before and after each command
 pub record IsLawful (office : Office) : Type 0 where
   pub register : IsValidRegister office.rooms office.people
   pub lists : AreValidLists office.rooms office.people office.choices office.withdrawn

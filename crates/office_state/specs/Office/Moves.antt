@@ -9,16 +9,16 @@ use Rattle.room_types.specs.declared.moves.Move.{Move}
 use Rattle.office_state.specs.declared.office.moves.Moved.{Moved}
 use Rattle.office_state.specs.declared.office.moves.RoundMoves.{RoundMoves}
 
--- finite maps from numbers of rounds
+-- finite maps from round numbers
 abbrev pub RoundMap : Type 0 → Type 0
 RoundMap X = FinMap nat_cmp X
 
--- the moves of a round, by person
+-- the recorded moves of a round, by person; the empty map if the round has none
 abbrev pub moves_of : RoundMap RoundMoves → ℕ → TextMap Moved
 moves_of moves round =
     unwrap_or (option_map (λ (kept : RoundMoves). kept.by_person) (map.get moves round)) map.empty
 
--- the moves with one more move
+-- the moves after recording `move` under its round and person
 abbrev pub with_move : RoundMap RoundMoves → Move → RoundMap RoundMoves
 with_move moves move =
     map.insert moves move.round

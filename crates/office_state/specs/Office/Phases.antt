@@ -14,7 +14,7 @@ abbrev pub is_open : Phase → Bool
 is_open Opened = true
 is_open _ = false
 
--- the lists are final, and nothing is drawn yet
+-- the lists are final, and no words are drawn yet
 abbrev pub is_closed : Phase → Bool
 is_closed Closed = true
 is_closed _ = false
@@ -29,12 +29,12 @@ abbrev pub has_run : Phase → Bool
 has_run Ran = true
 has_run _ = false
 
--- each participant may see the result
+-- each participant may see their result
 abbrev pub is_published : Phase → Bool
 is_published Published = true
 is_published _ = false
 
--- rooms and people may be added, and rooms shut or reopened
+-- the office may add rooms and people, and may shut or reopen rooms
 abbrev pub is_preparing : Phase → Bool
 is_preparing phase = is_idle phase || is_open phase
 
@@ -56,7 +56,7 @@ has_words Drawn = true
 has_words Ran = true
 has_words Published = true
 
--- there are results
+-- the rooms are traded, so that there are results
 abbrev pub has_results : Phase → Bool
 has_results Ran = true
 has_results Published = true

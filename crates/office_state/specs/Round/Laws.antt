@@ -23,14 +23,14 @@ pub record IsRoundAssignment (office : Office) (gives : Text → Option Text) : 
       → is_participant office other ≡ true
       → gives person ≡ Some room → gives other ≡ Some room → person ≡ other
 
--- no participant ranks what they get below their home, or below no room if they have no home
+-- each participant ranks what they get at least as high as their home, or as no room if they have no home
 abbrev pub IsRationalFor : Office → (Text → Option Text) → Type 0
 IsRationalFor office gets =
     (person : Text) → is_participant office person ≡ true
     → round_rank office person (gets person) ≤ round_rank office person (home_of office person)
 
--- Pareto efficient: each assignment that leaves no participant worse off than `gets` gives every participant the same
--- as `gets`, so no assignment makes somebody better off and nobody worse
+-- Pareto efficient: if an assignment leaves no participant worse off than `gets`, it gives every participant the same
+-- as `gets`. So no assignment makes somebody better off and nobody worse.
 abbrev pub IsEfficientFor : Office → (Text → Option Text) → Type 0
 IsEfficientFor office gets =
     (gives : Text → Option Text) → IsRoundAssignment office gives
@@ -38,7 +38,8 @@ IsEfficientFor office gets =
     → round_rank office person (gives person) ≤ round_rank office person (gets person))
     → (person : Text) → is_participant office person ≡ true → gives person ≡ gets person
 
--- a group of participants with homes trades its own homes: each member gets a member's home, and no two get the same
+-- a group of participants, all with homes, trades its own homes: each member gets a member's home, and no two members
+-- get the same home
 pub record TradesOwnRooms
     (office : Office) (group : Text → Bool) (gives : Text → Option Text) : Type 0 where
   pub participants : (person : Text) → group person ≡ true → is_participant office person ≡ true
@@ -52,7 +53,8 @@ pub record TradesOwnRooms
       (person other : Text) → group person ≡ true → group other ≡ true
       → gives person ≡ gives other → person ≡ other
 
--- each trade of a group's own homes that leaves no member worse off than `gets` gives every member the same as `gets`
+-- if a group trades its own homes and no member is worse off than with `gets`, then every member gets the same as
+-- with `gets`
 abbrev pub HasNoBetterTradeFor : Office → (Text → Option Text) → Type 0
 HasNoBetterTradeFor office gets =
     (group : Text → Bool) (gives : Text → Option Text) → TradesOwnRooms office group gives
@@ -60,8 +62,8 @@ HasNoBetterTradeFor office gets =
     → round_rank office person (gives person) ≤ round_rank office person (gets person))
     → (person : Text) → group person ≡ true → gives person ≡ gets person
 
--- an assignment of the round's rooms, individually rational and Pareto efficient, at which no group
--- of tenants has a better trade of its own rooms
+-- `gets` is an assignment of the round's rooms. It is individually rational and Pareto efficient, and no group of
+-- tenants has a better trade of its own rooms.
 pub record IsWellTraded (office : Office) (gets : Text → Option Text) : Type 0 where
   pub assignment : IsRoundAssignment office gets
   pub rational : IsRationalFor office gets
@@ -79,17 +81,16 @@ pub record HaveSameEntries (one other : Office) : Type 0 where
   pub grades : one.grades ≡ other.grades
   pub going : one.going ≡ other.going
 
--- the participants, by identifier, with their words alone
+-- the identifier and word of each participant, without the grade, in order of identifier
 abbrev pub plain_tickets_of : Office → List PlainTicket
 plain_tickets_of office =
     map_list (λ person. (person, word_of office person)) (participants office)
 
--- the participants in the order of their words, and by identifier where words are equal, as if there were no
--- grades
+-- the participants by word, and by identifier if words are equal; their grades do not count
 abbrev pub people_by_word : Office → List Text
 people_by_word office = plain_order (plain_tickets_of office)
 
--- the round's problem with the people in this order, with their homes and lists as they count in the round
+-- the round's problem if `people` is the order of the people. Homes and lists are those that count in the round.
 abbrev pub market_in : Office → List Text → Market
 market_in office people = record {
   people = length people;
@@ -98,7 +99,7 @@ market_in office people = record {
   lists = map_list (λ person. round_list office person (choices_of office person)) people;
 }
 
--- what each participant gets by top trading cycles in the problem with the people in this order
+-- what each participant gets by top trading cycles if `people` is the order of the people
 abbrev pub results_in : Office → List Text → TextMap Assigned
 results_in office people =
     map.from_entries
@@ -111,17 +112,17 @@ results_in office people =
       },
     )) (participants office))
 
--- the people of the round, its problem and its results are those of the order by word and identifier
+-- the round's people, problem and results are those that the order by word and identifier gives
 pub record GoesByWord (office : Office) : Type 0 where
   pub people : round_people office ≡ people_by_word office
   pub market : round_market office ≡ market_in office (people_by_word office)
   pub results : round_results office ≡ results_in office (people_by_word office)
 
--- if nobody has a grade, the round goes by word and identifier alone
+-- if no grades are recorded, the round's order is the order by word and identifier alone
 abbrev pub UngradedGoesByWord : Type 0
 UngradedGoesByWord = (office : Office) → office.grades ≡ map.empty → GoesByWord office
 
--- two offices have the same round
+-- the rounds of two offices have the same people, rooms, problem and results
 pub record HaveSameRound (one other : Office) : Type 0 where
   pub people : round_people one ≡ round_people other
   pub rooms : round_rooms one ≡ round_rooms other

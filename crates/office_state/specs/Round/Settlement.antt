@@ -15,9 +15,9 @@ use Rattle.office_state.specs.declared.office.moves.RoundMoves.{RoundMoves}
 use Rattle.office_state.specs.declared.office.Office.{Office}
 use Rattle.office_state.specs.declared.office.person.Person.{Person}
 
--- whether the settlement sets a person's home to the recorded result: whether the person is known and has not
--- withdrawn. In a lawful office a person who leaves the college has no result, so the settlement leaves them without a
--- home.
+-- whether the settlement sets a person's home to their recorded result: whether the person is known and has not
+-- withdrawn. In a lawful office a person who leaves the college has no result, so the settlement leaves them without
+-- a home.
 abbrev pub is_settled : Office → Text → Bool
 is_settled office person = knows_person office person && not (has_withdrawn office person)
 
@@ -25,24 +25,24 @@ is_settled office person = knows_person office person && not (has_withdrawn offi
 abbrev pub has_room : Office → Text → Bool
 has_room office person = is_some (home_of office person) || is_some (recorded_result office person)
 
--- whether the recorded result differs from the home; if so, the settlement changes the home of a person who has not
--- withdrawn
+-- whether a person's recorded result differs from their home. If it does, the settlement changes the home, unless the
+-- person has withdrawn.
 abbrev pub changes_home : Office → Text → Bool
 changes_home office person = not (is_same_text (home_of office person) (recorded_result office person))
 
--- the people whose home the settlement changes, by identifier, each with the old and the new room; a person
--- who leaves the college has no new room
+-- the people whose home the settlement changes, in order of identifier, each with the old and the new room. In a
+-- lawful office a person who leaves the college has no new room.
 abbrev pub relocations : Office → List Relocation
 relocations office =
     map_list (λ person. (person, home_of office person, recorded_result office person))
     (filter (changes_home office) (people_not_withdrawn office))
 
--- only those who leave the college lose a room without getting another
+-- each relocation without a new room is that of a person who leaves the college
 abbrev pub OnlyLeaversMoveOut : Office → Type 0
 OnlyLeaversMoveOut office =
     All (λ (relocation : Relocation). relocation.2 ≡ None → is_going office relocation.0 ≡ true) (relocations office)
 
--- the moves of a round: each relocation with its wave
+-- the moves of a round: one move for each relocation, with the wave at the same place in the list of waves
 abbrev pub moves_with : ℕ → List Relocation → List Wave → List Move
 moves_with round (relocation ∷ others) (wave ∷ waves) =
     record { round = round; person = relocation.0; from = relocation.1; to = relocation.2; wave = wave }
@@ -50,16 +50,17 @@ moves_with round (relocation ∷ others) (wave ∷ waves) =
 moves_with round [] waves = []
 moves_with round (relocation ∷ others) [] = []
 
--- the moves of the round
+-- the moves that settle the office's round: one for each relocation, with its wave
 abbrev pub settled_moves : Office → List Move
 settled_moves office = moves_with office.number (relocations office) (waves_of (relocations office))
 
--- the map of moves with these moves recorded, one after the other
+-- the map of moves after recording these moves one by one
 abbrev pub with_moves : RoundMap RoundMoves → List Move → RoundMap RoundMoves
 with_moves = fold with_move
 
--- a person's entry after the settlement: the recorded result becomes the home, but a person who has withdrawn keeps
--- theirs. In a lawful office a person who leaves the college has no result, and so no home afterwards.
+-- a person's entry after the settlement. The recorded result becomes the home, unless the person has withdrawn: then
+-- they keep their home. In a lawful office a person who leaves the college has no result, and so has no home
+-- afterwards.
 abbrev pub settled_person : Office → Text × Person → Text × Person
 settled_person office entry = (
   entry.0,
@@ -67,7 +68,7 @@ settled_person office entry = (
       else entry.1,
 )
 
--- the people after the day of moving
+-- the people after the settlement, with their new homes
 abbrev pub settled_people : Office → TextMap Person
 settled_people office =
     map.from_entries (map_list (settled_person office) (map.entries office.people))

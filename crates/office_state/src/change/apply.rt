@@ -14,12 +14,13 @@ use room_types::{
     Choices, Grade, Key, Label, ListKind, Listing, Name, OutOfMemory, PersonId, RoomCode,
 };
 
-/// Applies a change. These changes do not allocate: `DropPerson`, `PutRound`, `ClearRound`, `PutChoices` of an empty list,
-/// `PutGrade` of grade 0, and `PutHome` of an unknown person. `PutHome` and `DropPerson` of an unknown person change nothing.
+/// Applies a change. These changes do not allocate: `DropPerson`, `PutRound`, `ClearRound`, `PutChoices` of an empty
+/// list, `PutGrade` of grade 0, and `PutHome` of an unknown person. `PutHome` and `DropPerson` of an unknown person
+/// change nothing.
 ///
 /// # Errors
 ///
-/// `OutOfMemory` if an allocation fails. The office is then as before.
+/// `OutOfMemory` if an allocation fails. The office is then unchanged.
 pub fn apply(office: &mut Office, change: &Change) -> Result<(), OutOfMemory>
     ensures ok { OnOk result (office.new ≡ applied office.old change.now) }
     ensures err { OnErr result (office.new ≡ office.old) }

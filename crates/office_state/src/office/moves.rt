@@ -13,7 +13,7 @@ use std::collections::BTreeMap;
 use std::collections::btree_map::Iter;
 use std::marker::Model;
 
-/// A recorded move, apart from its round and person.
+/// A recorded move, without its round and person. `Office::moves` stores it under the round and the person.
 #[derive(Debug, Drop)]
 pub struct Moved {
     /// The old room, or `None` for a newcomer.
@@ -66,7 +66,7 @@ impl ExactClone for RoundMoves {
     ghost same = { λ x y h. h };
 }
 
-/// A finite map from numbers of rounds to values.
+/// A finite map from round numbers to values.
 #[derive(Drop)]
 pub struct Rounds<V> {
     alloc: Global,
@@ -96,14 +96,14 @@ impl<V> Rounds<V> {
         }
     }
 
-    /// Returns the value of a round, if it has one.
+    /// Returns the value of a round, or `None` if the round has no value.
     pub fn get(&self, round: u16) -> Option<&V>
         ensures { option_copied result ≡ map.get self.now round }
     {
         self.tree.get(&round)
     }
 
-    /// Iterates over the rounds with their values, by ascending round.
+    /// Iterates over the rounds and their values, in ascending order of round number.
     pub fn iter(&self) -> Iter<'_, u16, V>
         ensures rest { result ≡ map.entries self.now }
         ensures runs { ShowsInOrder (deref_pair {K = ℕ} {X = V}) }
@@ -120,7 +120,7 @@ impl<V> Rounds<V> {
 }
 
 impl<V: ExactClone> Rounds<V> {
-    /// Copies the map. The empty map is copied without an allocation.
+    /// Copies the map. Does not allocate if the map is empty.
     pub(crate) fn copy(&self) -> Result<Self, OutOfMemory>
         ensures copy { IfOk result (λ copy. copy ≡ self.now) }
         ensures memory { OnErr result (0 < map.len self.now) }
@@ -137,7 +137,11 @@ impl<V: ExactClone> Rounds<V> {
 }
 
 impl Rounds<RoundMoves> {
-    /// Records a move. If an allocation fails, the map is as before.
+    /// Records a move under its round and person. If the person already has a move in that round, replaces it.
+    ///
+    /// # Errors
+    ///
+    /// `OutOfMemory` if an allocation fails. The map is then unchanged.
     pub fn add(&mut self, moved: &Move) -> Result<(), OutOfMemory>
         ensures ok { OnOk result (self.new ≡ with_move self.old moved.now) }
         ensures err { OnErr result (self.new ≡ self.old) }
@@ -154,7 +158,8 @@ impl Rounds<RoundMoves> {
         }
     }
 
-    // Records the first move of a round, or replaces the moves of a round by this one.
+    // Stores a move as the only move of a round. Replaces all moves that the round already has. If an allocation
+    // fails, the map is unchanged.
     fn begin(&mut self, round: u16, person: PersonId, kept: Moved) -> Result<(), OutOfMemory>
         ensures ok { OnOk result (self.new ≡
             map.insert self.old round (record { by_person = map.insert map.empty person kept })) }

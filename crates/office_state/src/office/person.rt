@@ -11,12 +11,12 @@ pub struct Person {
     pub name: Name,
     /// The secret by which the person authenticates.
     pub key: Key,
-    /// Where the person lives, if anywhere.
+    /// The room where the person lives, or `None` if they have no home.
     pub home: Option<RoomCode>,
 }
 
 impl Person {
-    /// Copies the person, with another home or with none.
+    /// Copies the person, but with `home` as the home.
     pub(crate) fn copy_with_home(&self, home: &Option<RoomCode>) -> Result<Person, OutOfMemory>
         ensures { IfOk result (λ moved. moved ≡ record self.now { home = home.now }) }
     {

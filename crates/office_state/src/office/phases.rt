@@ -19,7 +19,7 @@ pub fn is_open(phase: Phase) -> bool
     matches!(phase, Phase::Opened)
 }
 
-/// Returns whether the lists are final and nothing is drawn yet.
+/// Returns whether the lists are final and no words are drawn yet.
 pub fn is_closed(phase: Phase) -> bool
     ensures { result ≡ is_closed phase }
 {
@@ -40,7 +40,7 @@ pub fn has_run(phase: Phase) -> bool
     matches!(phase, Phase::Ran)
 }
 
-/// Returns whether there are results: whether the rooms are traded, published or not.
+/// Returns whether the rooms are traded, so that there are results. The results may be published or not.
 pub fn has_results(phase: Phase) -> bool
     ensures { result ≡ has_results phase }
 {
@@ -54,7 +54,7 @@ pub fn is_published(phase: Phase) -> bool
     matches!(phase, Phase::Published)
 }
 
-/// Returns whether rooms and people may be added, and rooms shut or reopened.
+/// Returns whether the office may add rooms and people, and may shut or reopen rooms.
 pub fn is_preparing(phase: Phase) -> bool
     ensures { result ≡ is_preparing phase }
 {

@@ -15,7 +15,7 @@ use room_types::{Grade, Grammar, Key, OutOfMemory, PersonId, RoomCode, Table, Te
 use std::alloc::Global;
 
 impl Office {
-    /// Returns who lives in a room, or `None` if nobody does. Takes time linear in people.
+    /// Returns who lives in a room, or `None` if nobody does. Takes time linear in the number of people.
     pub fn tenant(&self, room: &RoomCode) -> Option<&PersonId>
         ensures { option_copied result ≡ tenant self.now room.now }
     {
@@ -48,7 +48,7 @@ impl Office {
         Ok(tenants)
     }
 
-    /// Returns the person with this key, or `None` if nobody has it. Takes time linear in people.
+    /// Returns the person with this key, or `None` if nobody has it. Takes time linear in the number of people.
     pub fn owner(&self, key: &Key) -> Option<&PersonId>
         ensures { option_copied result ≡ owner self.now key.now }
     {
@@ -67,8 +67,8 @@ impl Office {
         self.people.get(person)?.home.as_ref()
     }
 
-    /// Returns the room that is recorded as a person's result, or `None` if the result is no room or no result is
-    /// recorded.
+    /// Returns the room that is recorded as a person's result. Returns `None` if no result is recorded, or if the
+    /// recorded result is no room.
     pub fn recorded_result(&self, person: &PersonId) -> Option<&RoomCode>
         ensures { option_copied result ≡ recorded_result self.now person.now }
     {
@@ -103,15 +103,15 @@ impl Office {
         self.has_withdrawn(person) || self.is_going(person)
     }
 
-    /// Returns whether a person takes part in the round: whether they are known, have not withdrawn and do not leave the
-    /// college.
+    /// Returns whether a person takes part in the round: whether they are known, have not withdrawn and do not leave
+    /// the college.
     pub fn is_participant(&self, person: &PersonId) -> bool
         ensures { result ≡ is_participant self.now person.now }
     {
         self.people.contains_key(person) && !self.sits_out(person)
     }
 
-    /// Returns a person's grade, which is 0 if none is recorded.
+    /// Returns a person's grade, or grade 0 if none is recorded.
     pub fn grade_of(&self, person: &PersonId) -> Grade
         ensures { result ≡ grade_of self.now person.now }
     {
@@ -119,8 +119,8 @@ impl Office {
     }
 
     /// Returns whether a person may see their result: whether the phase is `Published`, and the person has not
-    /// withdrawn and does not leave the college. While a lawful office is `Published`, the call returns `true` for an
-    /// unknown person too.
+    /// withdrawn and does not leave the college. The call does not check that the person is known. So in phase
+    /// `Published`, a lawful office returns `true` for an unknown person.
     pub fn is_shown(&self, person: &PersonId) -> bool
         ensures { result ≡ is_shown self.now person.now }
     {
@@ -154,8 +154,8 @@ impl Office {
         count
     }
 
-    /// Returns the participants, by identifier: the people who have not withdrawn and do not leave the college. If there are
-    /// none, the call does not allocate.
+    /// Returns the participants in order of identifier: the people who have not withdrawn and do not leave the
+    /// college. Does not allocate if there are no participants.
     ///
     /// # Errors
     ///
@@ -174,7 +174,7 @@ impl Office {
     }
 }
 
-/// Copies an optional text. `None` is copied without an allocation.
+/// Copies an optional text. Does not allocate for `None`.
 ///
 /// # Errors
 ///
@@ -195,7 +195,7 @@ fn lives_in(person: &Person, room: &RoomCode) -> bool
     is_room(person.home.as_ref(), room)
 }
 
-/// Returns whether both are the same room, or both are none.
+/// Returns whether both are the same room or both are `None`.
 pub(crate) fn is_same_room(one: &Option<RoomCode>, other: &Option<RoomCode>) -> bool
     ensures { result ≡ is_same_text one.now other.now }
 {
@@ -206,7 +206,7 @@ pub(crate) fn is_same_room(one: &Option<RoomCode>, other: &Option<RoomCode>) -> 
     }
 }
 
-/// Returns whether `found` is this room.
+/// Returns whether `found` is `Some` and holds the code `room`.
 pub(crate) fn is_room(found: Option<&RoomCode>, room: &RoomCode) -> bool
     ensures { result ≡ is_text (option_copied found.entry) room.now }
 {

@@ -4,13 +4,13 @@ ghost use Rattle.std.specs.Prelude.{◌≡◌, ◌<◌, IfOk, OnErr, length};
 use room_types::{ExactClone, ListKind, Listing};
 use std::alloc::AllocError;
 
-/// A list that was imported under a label. It is stored so that the same import can be recognized when it is repeated.
+/// A list that was imported under a label. The office stores it to recognize when the same import is repeated.
 #[derive(Drop)]
 pub struct StoredImport {
     pub kind: ListKind,
     /// The bytes that were imported.
     pub bytes: Listing<u8>,
-    /// The number of records that it added.
+    /// The number of records that the import added.
     pub count: u16,
 }
 

@@ -1,4 +1,5 @@
-//! Theorems about the definitions, for every office. Each contract is the theorem; the function does nothing.
+//! Theorems about the round and its results, for every office. The contract of each function states a theorem, and
+//! the function does nothing.
 ghost use Rattle.std.specs.Prelude.{◌≡◌, None, true, List, map as map_list};
 ghost use Rattle.std.specs.FinMap as map;
 ghost use Rattle.room_types.specs.Choices.{IsChoices};
@@ -16,24 +17,25 @@ ghost use Rattle.office_state.specs.Round.Lists.{IsStrategyproofFor, IsGroupStra
 
 /// In a lawful office the round's problem is well formed, and top trading cycles give an assignment of the round's
 /// rooms. The assignment is individually rational: nobody ranks what they get below their home, or below no room if
-/// they have no home. It is Pareto efficient: no other assignment makes somebody better off and nobody worse. It leaves
-/// no better trade apart: no group of tenants can trade its own rooms and make one of the group better off and none
-/// worse.
+/// they have no home. It is Pareto efficient: no other assignment makes somebody better off and nobody worse. No
+/// group of tenants has a better trade of its own rooms: if a trade makes one member better off, it makes another
+/// member worse off.
 pub fn well_traded_rounds()
     ensures well_formed { (office : Office) → IsLawful office → IsMarket (round_market office) }
     ensures traded { (office : Office) → IsLawful office → IsWellTraded office (result_of office) }
 {}
 
-/// In each lawful office whose rooms are traded, the recorded results are such an assignment: individually rational,
-/// Pareto efficient and without a better trade apart.
+/// In each lawful office whose rooms are traded, the recorded results are an assignment with the same properties: it
+/// is individually rational and Pareto efficient, and no group of tenants has a better trade of its own rooms.
 pub fn well_traded_results()
     ensures { (office : Office) → IsLawful office → has_results office.phase ≡ true
         → IsWellTraded office (recorded_result office) }
 {}
 
-/// Strategy-proofness: while all others keep their lists, no other list gets a participant a room that their recorded list
-/// ranks above the recorded result (Roth 1982; Abdulkadiroglu and Sönmez 1999). What another list gives is what the round
-/// would give if that list were recorded.
+/// Strategy-proofness: if all others keep their lists, no participant can gain by handing in another list. By their
+/// recorded list, a participant ranks the recorded result at least as high as what the other list would get them
+/// (Roth 1982; Abdulkadiroglu and Sönmez 1999). The clause `by_another` states what another list would get them: what
+/// the round gives them if that list is recorded.
 pub fn strategyproof()
     ensures best { (office : Office) → IsLawful office → has_results office.phase ≡ true
         → IsStrategyproofFor office (recorded_result office) }
@@ -44,22 +46,22 @@ pub fn strategyproof()
 {}
 
 /// Group strategy-proofness: suppose that a group of participants hands in other lists together, and all others keep
-/// theirs. If nobody in the group gets what their recorded list ranks below the recorded result, then every
-/// participant, in the group or not, gets their recorded result (Bird 1984; Pápai 2000).
+/// theirs. If every member, by their recorded list, ranks the new result at least as high as the recorded one, then
+/// every participant, in the group or not, gets their recorded result (Bird 1984; Pápai 2000).
 pub fn group_strategyproof()
     ensures { (office : Office) → IsLawful office → has_results office.phase ≡ true
         → IsGroupStrategyproofFor office (recorded_result office) }
 {}
 
-/// Nonbossiness: if a participant gets the same with another list, then so does every other participant (Satterthwaite and
-/// Sonnenschein 1981; Pápai 2000).
+/// Nonbossiness: suppose that a participant hands in another list and still gets their recorded result. Then every
+/// other participant also gets their recorded result (Satterthwaite and Sonnenschein 1981; Pápai 2000).
 pub fn nonbossy()
     ensures { (office : Office) → IsLawful office → has_results office.phase ≡ true
         → IsNonbossyFor office (recorded_result office) }
 {}
 
-/// A round has a result for each participant, and for nobody else. The results are in order of identifier, and inserting them
-/// one by one into the empty map makes the same map.
+/// A round has a result for each participant, and for nobody else. The map of results holds them in order of
+/// identifier. Inserting its entries one by one into the empty map gives the same map.
 pub fn participant_results()
     ensures each { (office : Office) (person : Text) →
         map.contains_key (round_results office) person ≡ is_participant office person }
@@ -70,20 +72,21 @@ pub fn participant_results()
         with_all map.empty (map.entries (round_results office)) ≡ round_results office }
 {}
 
-/// A round's people, rooms, problem and results depend only on the rooms, people, lists, withdrawals, words, grades and
-/// leavers of the office, and not on phase, number, recorded results, moves or imports.
+/// Two offices have the same round if they have the same rooms, people, lists, withdrawals, words and grades, and the
+/// same people leave the college. So a round's people, rooms, problem and results do not depend on the office's
+/// phase, round number, recorded results, moves and imports.
 pub fn same_round()
     ensures { (one other : Office) → HaveSameEntries one other → HaveSameRound one other }
 {}
 
-/// If nobody has a grade, the participants are ordered by their words alone, and by identifier where words are equal: people,
-/// problem and results are as if there were no grades.
+/// If nobody has a recorded grade, the round orders the participants by word, and by identifier if words are equal.
+/// The round's people, problem and results are those that this order gives.
 pub fn order_without_grades()
     ensures { UngradedGoesByWord }
 {}
 
-/// In a lawful office those who leave the college have no result. Once the rooms are traded, nobody else loses a room by the
-/// settlement without getting another.
+/// In a lawful office, people who leave the college have no room as their recorded result. Once the rooms are traded,
+/// everybody else whose home the settlement changes gets a new room.
 pub fn only_leavers_move_out()
     ensures no_room { (office : Office) (person : Text) → IsLawful office
         → is_going office person ≡ true → recorded_result office person ≡ None }

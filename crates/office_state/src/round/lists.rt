@@ -1,4 +1,4 @@
-//! Homes and lists, with rooms as numbers.
+//! Converts homes and preference lists from room codes to room numbers.
 ghost use Rattle.std.specs.Prelude.{◌≡◌, IfOk, OnOk, [], None, filter_map, map as map_list};
 ghost use Rattle.std.specs.Option.{option_copied, option_and_then};
 ghost use Rattle.std.specs.List.{All};
@@ -13,8 +13,8 @@ use room_types::grammars::RoomCodes;
 use room_types::{OutOfMemory, PersonId, RoomCode, Table};
 use std::alloc::Global;
 
-/// Returns the home of each person, as the number of the room. An entry is `None` if the person has no home, or if the
-/// home has no number.
+/// Returns, for each person, the number of their home. An entry is `None` if the person has no home, or if `numbers`
+/// has no number for the home.
 pub(crate) fn homes(
     alloc: Global,
     office: &Office,
@@ -42,8 +42,8 @@ fn home_number(
     numbers.get(home).copied()
 }
 
-/// Returns the numbers of the rooms on a list that come before the person's own room, or of all its rooms if the person
-/// has no room or does not list it. Rooms without a number are left out.
+/// Returns the numbers of the rooms that `codes` lists before `home`. If there is no home, or if `codes` does not
+/// list the home, returns the numbers of all listed rooms. Leaves out the rooms that have no number in `numbers`.
 pub(crate) fn numbers_of(
     alloc: Global,
     numbers: &Table<RoomCodes, usize>,
@@ -71,7 +71,8 @@ fn before_own<'a>(home: Option<&RoomCode>, codes: &'a [RoomCode]) -> &'a [RoomCo
     }
 }
 
-/// Returns each person's recorded list as it counts in the round: what `numbers_of` returns for it.
+/// Returns, for each person, what `numbers_of` returns for their home and their recorded list. A person without a
+/// recorded list gets an empty list.
 pub(crate) fn lists(
     alloc: Global,
     office: &Office,

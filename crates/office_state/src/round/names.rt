@@ -1,4 +1,4 @@
-//! The numbering of the names of a problem.
+//! Numbers the people or rooms of a problem.
 ghost use Rattle.std.specs.Prelude.{◌≡◌, IfOk, List, ℕ};
 ghost use Rattle.std.specs.FinMap as map;
 ghost use Rattle.office_state.specs.Round.{number_in};
@@ -6,7 +6,8 @@ ghost use Rattle.office_state.specs.Round.{number_in};
 use room_types::{Grammar, OutOfMemory, Table, Text};
 use std::alloc::Global;
 
-/// Returns the number of each name: the index of its first occurrence in `names`. Makes O(n log n) comparisons.
+/// Returns a map from each name to its number: the index of its first occurrence in `names`. Makes O(n log n)
+/// comparisons for n names.
 pub(crate) fn numbers<G: Grammar>(
     alloc: Global,
     names: &[Text<G>],

@@ -11,9 +11,9 @@ use room_types::{Choices, OutOfMemory, PersonId, RoomCode};
 use std::alloc::Global;
 use trade_line::what_if::run_with_list;
 
-/// Returns the room that a participant would get with this list instead of the recorded one, or `None` for no room. The
-/// order and all other lists stay the same. By the recorded list, what the call returns never ranks above what the
-/// round gives the participant.
+/// Returns the room that a participant would get with `choices` in place of their recorded list, or `None` if they
+/// would get no room. The drawn order and the lists of all others stay the same. By their recorded list, the
+/// participant ranks what the round gives them at least as high as the returned result.
 ///
 /// # Errors
 ///

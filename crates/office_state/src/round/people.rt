@@ -7,8 +7,9 @@ use draw_order::order;
 use room_types::{Grade, OutOfMemory, PersonId, Word};
 use std::alloc::Global;
 
-/// Returns the participants in the drawn order, in n log n steps for n people. Before the draw each word counts as 0, so the
-/// order is by grade and then by identifier. Without participants, the call does not allocate.
+/// Returns the participants in the drawn order: by grade, then by word, then by identifier. Before the draw each word
+/// counts as 0, so the order is by grade and then by identifier. Takes n log n steps for n people. Does not allocate
+/// if there are no participants.
 ///
 /// # Errors
 ///
@@ -22,7 +23,7 @@ pub fn round_people(alloc: Global, office: &Office) -> Result<Vec<PersonId>, Out
     order(alloc, &tickets)
 }
 
-// Returns the participants by identifier, with their grades and words.
+// Returns the identifier, grade and word of each participant, in order of identifier.
 fn tickets(alloc: Global, office: &Office) -> Result<Vec<(PersonId, Grade, Word)>, OutOfMemory>
     ensures tickets { IfOk result (λ tickets. tickets.items ≡ tickets_of office.now) }
     ensures memory { OnErr result (0 < length (tickets_of office.now)) }
@@ -36,8 +37,8 @@ fn tickets(alloc: Global, office: &Office) -> Result<Vec<(PersonId, Grade, Word)
     Ok(tickets)
 }
 
-/// Returns the word that a person drew, or word 0 if none is recorded. From the draw on, each participant of a lawful office
-/// has one.
+/// Returns the word that was drawn for a person, or word 0 if none is recorded. In a lawful office, each participant
+/// has a recorded word from the draw on.
 pub fn word_of(office: &Office, person: &PersonId) -> Word
     ensures { result ≡ word_of office.now person.now }
 {

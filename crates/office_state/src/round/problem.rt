@@ -1,4 +1,4 @@
-//! The problem of the round, with the names of its people and rooms.
+//! Builds the trading problem of the round.
 ghost use Rattle.std.specs.Prelude.{◌≡◌, IfOk, OnOk};
 ghost use Rattle.trade_line.specs.Market.{IsMarket};
 ghost use Rattle.office_state.specs.Office.Invariants.{HomesDiffer};
@@ -16,20 +16,21 @@ use std::alloc::Global;
 use trade_line::fault::TradeFault;
 use trade_line::problem::Problem;
 
-/// The problem of a round, with the names of its people and rooms.
+/// The trading problem of a round. The problem refers to people and rooms by number: the index in `people` or
+/// `rooms`.
 #[derive(Drop)]
 pub(crate) struct RoundProblem {
     /// The participants in the drawn order.
     pub(crate) people: Vec<PersonId>,
-    /// The rooms of the round, by code.
+    /// The rooms of the round, in order of code.
     pub(crate) rooms: Vec<RoomCode>,
-    /// The number of each room.
+    /// The number of each room: its index in `rooms`.
     pub(crate) numbers: Table<RoomCodes, usize>,
     pub(crate) problem: Problem,
 }
 
-/// Builds the problem of the office's round, which is well formed because homes differ. Takes n log n steps for n people,
-/// rooms and list entries.
+/// Builds the problem of the office's round. The problem is well formed because no two people have the same home.
+/// Takes n log n steps, where n counts people, rooms and list entries.
 ///
 /// # Errors
 ///
@@ -55,7 +56,8 @@ pub(crate) fn round_problem(alloc: Global, office: &Office) -> Result<RoundProbl
     }
 }
 
-/// Converts the fault `OutOfMemory`. A well-formed problem, or a list that may be handed in, causes no other fault.
+/// Converts the fault `OutOfMemory` to the error of the same name. The caller must not pass any other fault; a
+/// well-formed problem or list causes none.
 pub(crate) fn out_of_memory(fault: TradeFault) -> OutOfMemory
     requires { fault ≡ TradeFault.OutOfMemory }
 {

@@ -19,8 +19,9 @@ use trade_line::outcome::Outcome;
 use trade_line::problem::Problem;
 use trade_line::trade::run;
 
-/// Returns the result of each participant: the rooms that top trading cycles give for the problem of the office's round
-/// (Abdulkadiroglu and Sönmez 1999). The functions of `round::laws` state its properties in a lawful office.
+/// Runs top trading cycles on the problem of the office's round, and returns the result of each participant
+/// (Abdulkadiroglu and Sönmez 1999). The functions of `round::laws` state the properties of these results in a lawful
+/// office.
 ///
 /// # Errors
 ///
@@ -37,7 +38,7 @@ pub fn round_results(
     results_by_person(alloc, &round.people, &round.rooms, &outcome)
 }
 
-// Runs the exchange for the problem.
+// Runs top trading cycles on the problem.
 fn outcome_of(alloc: Global, problem: &Problem) -> Result<Outcome, OutOfMemory>
     ensures { IfOk result (λ outcome. outcome.rooms ≡ ttc problem.now) }
 {
@@ -50,7 +51,7 @@ fn outcome_of(alloc: Global, problem: &Problem) -> Result<Outcome, OutOfMemory>
     Ok(run(problem, line, bench))
 }
 
-// Returns the result of each person, by identifier.
+// Returns a map from each person to their result: the room whose number `outcome` gives them, or no room.
 fn results_by_person(
     alloc: Global,
     people: &[PersonId],
@@ -72,7 +73,7 @@ fn results_by_person(
     Ok(results)
 }
 
-/// Returns the room with this number, or `None` if there is no number or no such room.
+/// Returns a copy of the room with this number. Returns `None` if `number` is `None`, or if no room has the number.
 pub(crate) fn room_named(
     rooms: &[RoomCode],
     number: Option<usize>,

@@ -8,7 +8,8 @@ use room_types::grammars::RoomCodes;
 use room_types::{OutOfMemory, RoomCode, Table};
 use std::alloc::Global;
 
-/// Returns the rooms that are not shut and are not the home of a person who has withdrawn, by code.
+/// Returns the rooms of the round, in order of code: the rooms that are not shut and are not the home of a person who
+/// has withdrawn.
 pub(crate) fn round_rooms(alloc: Global, office: &Office) -> Result<Vec<RoomCode>, OutOfMemory>
     ensures { IfOk result (λ rooms. rooms.items ≡ round_rooms office.now) }
 {

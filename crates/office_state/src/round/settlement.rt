@@ -10,11 +10,11 @@ use office_lists::Relocation;
 use room_types::OutOfMemory;
 use std::alloc::Global;
 
-/// Returns the people whose home the settlement of the round changes, by identifier, each with the old and the new
-/// room. The new room is the recorded result. In a lawful office a person who leaves the college has no result, and so
-/// no new room. If no results are recorded, the call returns all people who have a home and have not withdrawn, each
-/// without a new room. Makes one pass over the people. Allocates only if a person who has not withdrawn has a home or a
-/// recorded room.
+/// Returns the people whose home the settlement of the round changes, in order of identifier, each with the old and
+/// the new room. The new room is the recorded result. In a lawful office a person who leaves the college has no
+/// result, and so gets no new room. If no results are recorded, the call returns everybody who has a home and has not
+/// withdrawn, each without a new room. Makes one pass over the people. Allocates only if a person who has not
+/// withdrawn has a home or a recorded room.
 ///
 /// # Errors
 ///

@@ -1,4 +1,4 @@
-//! The invariants on imported lists.
+//! Tests the invariants on imported lists.
 ghost use Rattle.std.specs.Prelude.{◌≡◌};
 ghost use Rattle.std.specs.Bool.{Decides};
 ghost use Rattle.std.specs.List.{list_all};
@@ -11,7 +11,8 @@ use crate::office::limits::{BYTE_LIMIT, LABEL_LIMIT};
 use crate::office::stored_import::StoredImport;
 use office_lists::RECORD_LIMIT;
 
-/// Returns whether the invariants on imported lists hold.
+/// Returns whether the invariants on imported lists hold: the office stores at most `LABEL_LIMIT` lists, and each has
+/// at most `BYTE_LIMIT` bytes and added at most `RECORD_LIMIT` records.
 pub(crate) fn are_valid_imports(office: &Office) -> bool
     ensures { Decides result (AreValidImports office.now.lists) }
 {
@@ -21,7 +22,7 @@ pub(crate) fn are_valid_imports(office: &Office) -> bool
     are_imports_short(office)
 }
 
-// Returns whether each imported list is within the limits of bytes and records.
+// Returns whether each imported list has at most `BYTE_LIMIT` bytes and added at most `RECORD_LIMIT` records.
 fn are_imports_short(office: &Office) -> bool
     ensures { result ≡ list_all (λ e. is_short e.1) (map.entries office.now.lists) }
 {

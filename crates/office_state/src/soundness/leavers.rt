@@ -1,4 +1,4 @@
-//! The invariants on those who leave the college.
+//! Tests the invariants on those who leave the college.
 ghost use Rattle.std.specs.Prelude.{◌≡◌};
 ghost use Rattle.std.specs.Bool.{Decides};
 ghost use Rattle.std.specs.List.{list_all};
@@ -10,7 +10,8 @@ use crate::office::Office;
 use crate::office::phases::is_idle;
 use room_types::PersonId;
 
-/// Returns whether the invariants on those who leave the college hold.
+/// Returns whether the invariants on those who leave the college hold. Between rounds there are none. During a round,
+/// each of them is known and has not withdrawn.
 pub(crate) fn are_valid_leavers(office: &Office) -> bool
     ensures { Decides result (AreValidLeavers office.now.phase office.now.people office.now.withdrawn
         office.now.going) }

@@ -1,4 +1,4 @@
-//! The invariants on lists and withdrawals.
+//! Tests the invariants on preference lists and withdrawals.
 ghost use Rattle.std.specs.Prelude.{◌≡◌};
 ghost use Rattle.std.specs.Bool.{Decides};
 ghost use Rattle.std.specs.List.{list_all};
@@ -9,7 +9,8 @@ ghost use Rattle.office_state.specs.Inner.Soundness.{is_recorded_list};
 use crate::office::Office;
 use room_types::{Choices, RoomCode};
 
-/// Returns whether the invariants on lists and withdrawals hold.
+/// Returns whether the invariants on preference lists and withdrawals hold. Each person who has a list or has
+/// withdrawn is known. No list is empty, and each listed room is known.
 pub(crate) fn are_valid_lists(office: &Office) -> bool
     ensures { Decides result
         (AreValidLists office.now.rooms office.now.people office.now.choices office.now.withdrawn) }
@@ -34,7 +35,7 @@ fn are_choosers_known(office: &Office) -> bool
         .all(|(person, _)| office.people.contains_key(person))
 }
 
-// Returns whether no list is empty, and each listed room is known.
+// Returns whether no list is empty and each listed room is known.
 fn are_lists_recorded(office: &Office) -> bool
     ensures { result ≡
         list_all (λ e. is_recorded_list office.now.rooms e.1) (map.entries office.now.choices) }

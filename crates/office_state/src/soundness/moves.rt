@@ -1,4 +1,4 @@
-//! The invariants on moves.
+//! Tests the invariants on recorded moves.
 ghost use Rattle.std.specs.Prelude.{◌≡◌};
 ghost use Rattle.std.specs.Bool.{Decides};
 ghost use Rattle.std.specs.List.{list_all};
@@ -11,7 +11,8 @@ use crate::office::Office;
 use crate::office::moves::{Moved, RoundMoves};
 use room_types::Wave;
 
-/// Returns whether the invariants on moves hold.
+/// Returns whether the invariants on recorded moves hold. Each round in the table of moves is over and has at least
+/// one move, and each move without a new room has wave 0.
 pub(crate) fn are_valid_moves(office: &Office) -> bool
     ensures { Decides result (AreValidMoves office.now) }
 {
@@ -28,7 +29,7 @@ fn are_rounds_over(office: &Office) -> bool
     office.moves.iter().all(|(round, _)| office.is_over(*round))
 }
 
-// Returns whether each recorded round has a move, and each move without a new room has wave 0.
+// Returns whether each round in the table has at least one move, and each move without a new room has wave 0.
 fn are_rounds_recorded(office: &Office) -> bool
     ensures { result ≡ list_all (λ e. is_recorded_round e.1) (map.entries office.now.moves) }
 {

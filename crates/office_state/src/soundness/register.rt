@@ -1,4 +1,4 @@
-//! The invariants on rooms and people.
+//! Tests the invariants on rooms and people.
 ghost use Rattle.std.specs.Prelude.{◌≡◌, ◌<◌, IfOk, OnErr, Some, length};
 ghost use Rattle.std.specs.Bool.{Decides};
 ghost use Rattle.std.specs.List.{list_all};
@@ -14,7 +14,9 @@ use room_types::grammars::{Keys, RoomCodes};
 use room_types::{OutOfMemory, Table};
 use std::alloc::Global;
 
-/// Returns whether the invariants on rooms and people hold, in n log n steps.
+/// Returns whether the invariants on rooms and people hold: there are at most `ROOM_LIMIT` rooms and `PEOPLE_LIMIT`
+/// people, each home is a known room that is not shut, and no two people have the same key or the same home. Takes n
+/// log n steps for n rooms and people.
 pub(crate) fn is_valid_register(alloc: Global, office: &Office) -> Result<bool, OutOfMemory>
     ensures lawful { IfOk result
         (λ lawful. Decides lawful (IsValidRegister office.now.rooms office.now.people)) }

@@ -1,4 +1,4 @@
-//! The invariants on results.
+//! Tests the invariants on results.
 ghost use Rattle.std.specs.Prelude.{◌≡◌, IfOk, OnErr, true};
 ghost use Rattle.std.specs.Bool.{Decides};
 ghost use Rattle.std.specs.List.{list_all};
@@ -15,7 +15,8 @@ use room_types::grammars::PersonIds;
 use room_types::{OutOfMemory, PersonId, Table};
 use std::alloc::Global;
 
-/// Returns whether the invariants on results hold. If the phase has results, the round is run again.
+/// Returns whether the recorded results are valid. If the phase has results, the call runs the round again, and the
+/// recorded results must be the same. Otherwise no result may be recorded.
 pub(crate) fn are_valid_results(alloc: Global, office: &Office) -> Result<bool, OutOfMemory>
     requires { HomesDiffer office.now }
     ensures lawful { IfOk result (λ lawful. Decides lawful (AreValidResults office.now)) }
@@ -28,7 +29,7 @@ pub(crate) fn are_valid_results(alloc: Global, office: &Office) -> Result<bool, 
     Ok(are_same(&office.results, &given))
 }
 
-// Returns whether the two maps are the same.
+// Returns whether the two maps are equal.
 fn are_same(found: &Table<PersonIds, Assigned>, given: &Table<PersonIds, Assigned>) -> bool
     ensures { Decides result (found.now ≡ given.now) }
 {

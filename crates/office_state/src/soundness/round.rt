@@ -1,5 +1,5 @@
-//! The invariants on the round: its number is within the limit, and at least 1 while a round is under way; between
-//! rounds there are no lists and no withdrawals.
+//! Tests the invariants on the round: the round number is at most `ROUND_LIMIT`, and at least 1 while a round is
+//! under way. Between rounds there are no preference lists and no withdrawals.
 ghost use Rattle.std.specs.Bool.{Decides};
 ghost use Rattle.office_state.specs.Office.Invariants.{IsValidRound};
 

@@ -1,4 +1,4 @@
-//! The invariants on words.
+//! Tests the invariants on drawn words.
 ghost use Rattle.std.specs.Prelude.{◌≡◌, ◌||◌};
 ghost use Rattle.std.specs.Bool.{Decides};
 ghost use Rattle.std.specs.List.{list_all};
@@ -10,7 +10,8 @@ ghost use Rattle.office_state.specs.Round.{is_participant};
 use crate::office::Office;
 use crate::office::phases::has_words;
 
-/// Returns whether the invariants on words hold.
+/// Returns whether the invariants on words hold. Before the draw there are none. From the draw on, each participant
+/// has a word and nobody else does.
 pub(crate) fn are_valid_words(office: &Office) -> bool
     ensures { Decides result
         (AreValidWords office.now.phase office.now.people office.now.withdrawn office.now.going
@@ -25,7 +26,7 @@ pub(crate) fn are_valid_words(office: &Office) -> bool
     all_participants_drew(office)
 }
 
-// Returns whether each word is that of a participant.
+// Returns whether each recorded word belongs to a participant.
 fn only_participants_drew(office: &Office) -> bool
     ensures { result ≡
         list_all (λ e. is_participant office.now e.0) (map.entries office.now.words) }

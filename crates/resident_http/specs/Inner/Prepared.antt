@@ -7,17 +7,19 @@ use Rattle.resident_http.specs.declared.responses.CommandResponses.{CommandRespo
 use Rattle.resident_http.specs.declared.prepared.PreparedResponse.{PreparedResponse}
 use Rattle.resident_http.specs.declared.prepared.ResponseUnavailable.{ResponseUnavailable}
 
--- the status and the bytes are those of this response
+-- the prepared response has the status and the bytes of `answer`
 pub record IsPrepared (response : PreparedResponse) (answer : Answer) : Type 0 where
   pub status : response.status ≡ answer.status
   pub bytes : response.bytes.items ≡ bytes_of answer
 
--- The prepared response has this property. Without one, 503 `Unavailable` has it.
+-- The response that the server writes has the property `P`. It is the prepared response if there is one, and
+-- otherwise the response 503 `Unavailable`.
 abbrev pub WithAnswer : Result PreparedResponse ResponseUnavailable → (Answer → Type 0) → Type 0
 WithAnswer (Ok response) P = (answer : Answer) × IsPrepared response answer × P answer
 WithAnswer (Err none) P = P unavailable_answer
 
--- the responses to all answers that a command can get, with this body for success
+-- These are the prepared responses to each answer that a resident's command can get. The success response has this
+-- body.
 pub record AreCommandResponses (responses : CommandResponses) (body : List ℕ) : Type 0 where
   pub success : IsPrepared responses.success (success_answer body)
   pub bad_phase : IsPrepared responses.bad_phase (fault_answer 409 (codes "BadPhase"))

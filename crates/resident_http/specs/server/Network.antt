@@ -5,9 +5,11 @@ use Rattle.room_types.specs.Streams.{Output}
 use Rattle.room_types.specs.declared.stream.Stream.{Ghosts as Calls}
 use Rattle.room_types.specs.declared.watched.Watched.{Watched}
 
--- How ports, sockets and connections behave. Listening on a port returns a socket or fails; a socket can be closed. A
--- socket accepts and closes connections, each after some output. Each of these is a relation between a state and the next.
--- For a connection: its calls, the bytes that remain to be read, and those that were written, where they are known.
+-- How ports, sockets and connections behave. `listens` and `fails` describe how listening on a port succeeds or
+-- fails, and `stops` how a socket is closed. `accepts` and `closes` describe how a socket accepts and closes a
+-- connection, after some output has been written. Each of these is a relation between the states before and after one
+-- call. `calls` describes the calls on a connection, `remaining` the bytes still to be read from it, and `contents`
+-- the bytes written to it, where they are known.
 pub record Network (P : Type 0) : Type 1 where
   pub Socket : Type 0
   pub Stream : Type 0

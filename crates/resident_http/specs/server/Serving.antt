@@ -19,8 +19,8 @@ use Rattle.room_types.specs.declared.stream.Stream.{Ghosts as Calls}
 use Rattle.room_types.specs.declared.watched.Watched.{Watched}
 
 module _ {S : Type 0} (g : Ghosts S) where
-  -- A connection served at a desk. If the disk returned what was written to it, the office that the desk represents served
-  -- the connection too, and the desk represents the office after it.
+  -- The desk serves a connection. If the disk returned what was written to it, the office that the desk represents
+  -- may serve the connection in the same way. The desk then represents the office after this service.
   pub record ServesAtDesk {T : Type 0} (calls : Calls T) (old new : DeskState S) (before after : Connection T) : Type 0 where
     pub served : Served
     pub follows : Follows (state g old.conn) (state g new.conn)
@@ -29,7 +29,8 @@ module _ {S : Type 0} (g : Ghosts S) where
         → (next : Office) × ServesConnection calls Handles served office next before after × Represents g new next
 
   module _ {L T : Type 0} (calls : Calls T) (remaining contents : T → Option (List ℕ)) (accepts : L → Output → Option (Watched T) → L → Type 0) (closes : L → Output → Watched T → L → Type 0) (printed : Output) where
-    -- An unused connection was accepted, served, and closed before anything more was printed. None of its calls was wasted.
+    -- The listener accepted an unused connection. The server served and closed the connection before it printed
+    -- anything more. It made no call on the connection after a failure, and no read after the end.
     pub record Serves (listener : L) (old : DeskState S) (listener' : L) (new : DeskState S) : Type 0 where
       pub between : L
       pub before : Watched T
@@ -41,22 +42,24 @@ module _ {S : Type 0} (g : Ghosts S) where
       pub no_wasted : StopsAtEnd before after
       pub closed : closes between printed after listener'
 
-    -- One accept: the connection was served, or none could be accepted and nothing else happened.
+    -- The listener was asked for one connection. Either it accepted one, which was served. Or it could accept none,
+    -- and nothing else happened.
     abbrev pub ServesNext : L → DeskState S → L → DeskState S → Type 0
     ServesNext listener old listener' new =
         Serves listener old listener' new ⊎ (accepts listener printed None listener' × (new ≡ old))
 
-    -- this number of accepts, one after another
+    -- the listener was asked for this number of connections, one after another
     unfoldable pub ServesEach : L → DeskState S → ℕ → L → DeskState S → Type 0
     ServesEach listener old zero listener' new = (listener' ≡ listener) × (new ≡ old)
     ServesEach listener old (suc count) listener' new =
         (middle : L) × (between : DeskState S) × ServesEach listener old count middle between × ServesNext middle between listener' new
 
   module _ {L T : Type 0} (calls : Calls T) (remaining contents : T → Option (List ℕ)) (accepts : L → Output → Option (Watched T) → L → Type 0) (closes : L → Output → Watched T → L → Type 0) where
-    -- The line with the listening port was printed and flushed. Then the listener was asked for this number of connections, one
-    -- after another. Each one that was accepted was served, and closed before the next was asked for. Nothing was printed
-    -- meanwhile; then the number was printed. Or an allocation for the two lines failed, or the first line could not be printed:
-    -- then the listener was asked for no connection.
+    -- One of three cases holds. In the first, the line with the port was printed and flushed. Then the listener was
+    -- asked for `count` connections, one after another. Each one that it accepted was served, and closed before the
+    -- next was asked for. Nothing was printed meanwhile. At the end, the line with `count` was printed. In the second
+    -- case, the first line could not be printed. In the third, an allocation for the two lines failed. In both, the
+    -- listener was asked for no connection.
     abbrev pub ServesAll : L → DeskState S → L → DeskState S → ℕ → ℕ → ℕ → Output → Output → Type 0
     ServesAll listener old listener' new port count status out out' =
         ((printed : Output) × Prints (listening_text port) 0 0 out printed × ServesEach calls remaining contents accepts closes printed listener old count listener' new
@@ -64,7 +67,8 @@ module _ {S : Type 0} (g : Ghosts S) where
         ⊎ ((listener' ≡ listener) × (new ≡ old) × (status ≡ 3) × Prints (listening_text port) 0 status out out')
         ⊎ ((listener' ≡ listener) × (new ≡ old) × PrintsUnavailable status out out')
 
-  -- A socket listens on the port, residents are served on it, and it is closed. Or listening on the port failed.
+  -- Either listening on the port returned a socket, residents were served on the socket, and the socket was closed.
+  -- Or listening on the port failed, and `unavailable` was printed.
   abbrev pub ServesPort : {P : Type 0} → Network P → P → DeskState S → P → DeskState S → ℕ → ℕ → ℕ → Output → Output → Type 0
   ServesPort {P} network ports old ports' new port count status out out' =
       ((listener : network.Socket) × (listener' : network.Socket) × (between : P) × network.listens ports port listener between

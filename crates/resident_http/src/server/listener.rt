@@ -7,8 +7,8 @@ use room_types::{Stream, Watched};
 use std::io::Write;
 use std::net::{Ipv4Addr, SocketAddr, TcpListener, TcpStream};
 
-/// A listening socket. The contract of each call is a relation between the states of the socket before and after it.
-/// Generic code can establish that relation only by making the call.
+/// A listening socket. The contract of each method is a relation between the socket's states before and after the
+/// call. Generic code can establish this relation only by making the call.
 pub trait Listener {
     ghost use Rattle.std.specs.Prelude.{IfSome, Option, ⊤};
     ghost use Rattle.resident_http.specs.server.Unused.{IsUnused};
@@ -24,13 +24,13 @@ pub trait Listener {
     /// After this output had been written, closing this connection led from the old state to the new one.
     ghost closes: { Self → Output → Watched Self.Stream → Self → Type 0 } = { λ _ _ _ _. ⊤ };
 
-    /// Waits for the next connection and returns it, or `None` if it could not be accepted. The connection is `Watched`
-    /// from the start, and unused. `printed` is the output written before.
+    /// Waits for the next connection and returns it, or returns `None` if the connection could not be accepted. The
+    /// returned connection is `Watched`, and no call has been made on it yet. `printed` is the output written so far.
     fn accept<W: Write>(&mut self, printed: &Watched<W>) -> Option<Watched<Self::Stream>>
         ensures accepts { accepts self.old (output_of W.contents printed.now) result self.new }
         ensures unused { IfSome result IsUnused };
 
-    /// Closes a connection. `printed` is the output written before.
+    /// Closes a connection. `printed` is the output written so far.
     fn close<W: Write>(&mut self, connection: Watched<Self::Stream>, printed: &Watched<W>)
         ensures { closes self.old (output_of W.contents printed.now) connection self.new };
 }
@@ -52,8 +52,8 @@ impl Listener for TcpListener {
     }
 }
 
-/// The ports that residents connect to. The contract of each call is a relation between the states of the ports before
-/// and after it. Generic code can establish that relation only by making the call.
+/// The ports that residents connect to. The contract of each method is a relation between the states of the ports
+/// before and after the call. Generic code can establish this relation only by making the call.
 pub trait Ports {
     ghost use Rattle.std.specs.Prelude.{ℕ, IfOk, OnErr, ⊤};
 
@@ -72,7 +72,7 @@ pub trait Ports {
     ///
     /// # Errors
     ///
-    /// `Unavailable` if it cannot listen on the port.
+    /// `Unavailable` if listening on the port fails.
     fn listen(&mut self, port: u16) -> Result<Self::Socket, Unavailable>
         ensures listening { IfOk result (λ socket. listens self.old port socket self.new) }
         ensures failed { OnErr result (fails self.old port self.new) };
@@ -82,15 +82,15 @@ pub trait Ports {
         ensures { stops self.old socket self.new };
 }
 
-/// The ports of 127.0.0.1, which no other machine can reach. Only this type holds the runtime, so code that is generic in
-/// the ports cannot reach others.
+/// The ports of 127.0.0.1, which no other machine can reach. Code that is generic in `Ports` cannot reach other
+/// ports, because only this type holds the runtime.
 #[derive(Drop)]
 pub struct Loopback<'a> {
     rt: &'a HostRuntime,
 }
 
 impl<'a> Loopback<'a> {
-    /// Returns the ports of 127.0.0.1, listening on none.
+    /// Returns the ports of 127.0.0.1. None of them is being listened on yet.
     pub fn new(rt: &'a HostRuntime) -> Self {
         Loopback { rt }
     }

@@ -16,8 +16,8 @@ use sqlite::Alter;
 use std::alloc::{AllocError, Global};
 use std::io::Write;
 
-/// Listens on this port, serves residents as `serve_listener` does, and closes the listener. If it cannot listen on the
-/// port, it prints `unavailable`. Returns the exit status.
+/// Listens on this port, serves residents as `serve_listener` does, and closes the listener. If listening on the port
+/// fails, prints `unavailable`. Returns the exit status.
 pub fn serve_port<S: Alter, P: Ports, W: Write>(
     alloc: Global,
     desk: &mut Desk<S>,
@@ -44,10 +44,12 @@ pub fn serve_port<S: Alter, P: Ports, W: Write>(
     }
 }
 
-/// Prints `listening on 127.0.0.1:PORT`. Then asks the listener for `count` connections, one after another; serves each
-/// one that is accepted, and closes it before it asks for the next. Then prints `served COUNT`. Allocates both lines
-/// first: an allocation for them fails before anybody is served, or not at all. If the first line cannot be printed,
-/// asks for no connection. Returns the exit status.
+/// Prints `listening on 127.0.0.1:PORT`. Then asks the listener for `count` connections, one after another. Serves
+/// each one that is accepted, and closes it before asking for the next. Then prints `served COUNT`. Returns the exit
+/// status.
+///
+/// Allocates both lines at the start. If an allocation fails, prints `unavailable` and asks for no connection. If the
+/// first line cannot be printed, also asks for no connection.
 pub fn serve_listener<S: Alter, L: Listener, W: Write>(
     alloc: Global,
     desk: &mut Desk<S>,
@@ -72,8 +74,8 @@ pub fn serve_listener<S: Alter, L: Listener, W: Write>(
 }
 
 /// Asks the listener for `count` connections, one after another. Serves a resident on each one that is accepted, and
-/// closes it before it asks for the next. A connection that could not be accepted also counts. `printed` is the output
-/// written before.
+/// closes it before asking for the next. A connection that could not be accepted also counts. `printed` is the output
+/// written so far.
 pub fn serve_each<S: Alter, L: Listener, W: Write>(
     alloc: Global,
     desk: &mut Desk<S>,

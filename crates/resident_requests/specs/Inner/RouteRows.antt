@@ -5,7 +5,7 @@ use Rattle.matchit.specs.Router.{RouteOf}
 use Rattle.resident_requests.specs.declared.routes.Route.{Route}
 use Rattle.resident_requests.specs.declared.routes.Route.TheVariants as route
 
--- the row of a path without parameters
+-- the router's row for a path without parameters
 abbrev pub plain_route : List ℕ → Route → List ℕ × RouteOf Route
 plain_route path route = (path, record { pattern = path; text = path; names = []; value = route })
 

@@ -11,7 +11,8 @@ flat_list entries starts p =
 abbrev pub flat_lists : List ℕ → List ℕ → List (List ℕ)
 flat_lists entries starts = map (flat_list entries starts) (range_with_len 0 (pred (length starts)))
 
--- the entries are those of the lists, one list after the other, and the last start is the end
+-- `entries` contains the lists one after the other; `starts` has the start of each list, and then the end of
+-- `entries`
 pub record AreFlat (entries : List ℕ) (starts : List ℕ) (lists : List (List ℕ)) : Type 0 where
   pub starts_len : length starts ≡ suc (length lists)
   pub ordered : (p : ℕ) → p < length lists

@@ -9,16 +9,17 @@ Links next previous a [] z = (slice_index_or next a 0 ≡ z) × (slice_index_or 
 Links next previous a (x ∷ xs) z =
     (slice_index_or next a 0 ≡ x) × (slice_index_or previous x 0 ≡ a) × Links next previous x xs z
 
--- the numbers along `next`, from a on and before the sentinel, at most k of them
+-- follows `next` from a on and collects the numbers before the sentinel `end`, at most k of them
 abbrev pub along : List ℕ → ℕ → ℕ → ℕ → List ℕ
 along next end zero a = []
 along next end (suc k) a = cond (a == end) [] (a ∷ along next end k (slice_index_or next a 0))
 
--- the people in line: those along `next`, from the sentinel back to it
+-- the people in line: follows `next` from the sentinel until it leads back to the sentinel
 abbrev pub linked_people : List ℕ → List Bool → List ℕ
 linked_people next waits = along next (length waits) (length waits) (slice_index_or next (length waits) 0)
 
--- a ring of the people in line and the sentinel, and whether each person is in it
+-- `next` and `previous` link the people xs and the sentinel in a ring; `waits` records for each person whether they
+-- are in xs
 pub record IsLinkedRing (next : List ℕ) (previous : List ℕ) (waits : List Bool) (xs : List ℕ) : Type 0 where
   pub next_len : length next ≡ suc (length waits)
   pub previous_len : length previous ≡ suc (length waits)

@@ -19,14 +19,14 @@ CursorAt m c p x = rank m p x ≡ cursor c p
 abbrev pub StaysAt : Market → List ℕ → ℕ → Option ℕ → Type 0
 StaysAt m c p x = (cursor c p < length (list_of m p)) × CursorAt m c p x
 
--- of the people behind a, each one who has asked has the cursor at the home of the person before them
+-- take the people behind a: each of them who has asked has the cursor at the home of the person before them
 abbrev pub StayBehind : Market → List Bool → List ℕ → ℕ → List ℕ → Type 0
 StayBehind m asked c a [] = Unit {0}
 StayBehind m asked c a (b ∷ r) =
     (slice_index_or asked b false ≡ true → StaysAt m c b (home m a)) × StayBehind m asked c b r
 
--- in the line, of the people behind the first, each one who has asked has the cursor at the home of the person before
--- them
+-- take the people in line behind the first: each of them who has asked has the cursor at the home of the person
+-- before them
 abbrev pub StayInLine : Market → List Bool → List ℕ → List ℕ → Type 0
 StayInLine m asked c [] = Unit {0}
 StayInLine m asked c (a ∷ r) = StayBehind m asked c a r
@@ -41,7 +41,7 @@ pub record AreCursors (m : Market) (s : State) (c : List ℕ) : Type 0 where
   pub waiting : StayInLine m s.asked c s.line
   pub served : (p : ℕ) → p < m.people → among s.line p ≡ false → CursorAt m c p (given_to s p)
 
--- the number of entries before the cursors
+-- the number of list entries before the cursors, for all people together
 abbrev pub cursor_sum : Market → List ℕ → ℕ
 cursor_sum m c = sum_below m.people (cursor c)
 
@@ -53,9 +53,9 @@ spent m line c p = cond (among line p) 0 (cond (nat_lt (cursor c p) (length (lis
 abbrev pub spent_sum : Market → List ℕ → List ℕ → ℕ
 spent_sum m line c = sum_below m.people (spent m line c)
 
--- for a turn from s to t in which a asks for the room: nobody joins the line; and if the cursors satisfy `AreCursors`
--- before the turn and that of a is at the room, then they satisfy it after the turn too, and the cursor of each person
--- who leaves is before the end of the list
+-- A turn leads from s to t, and in it a asks for the room. Nobody joins the line. Suppose that the cursors satisfy
+-- `AreCursors` before the turn, and that the cursor of a is at the room. Then the cursors satisfy `AreCursors` after
+-- the turn too, and the cursor of each person who leaves is before the end of their list.
 pub record KeepsCursors (m : Market) (a : ℕ) (room : ℕ) (s t : State) : Type 0 where
   pub inside : (p : ℕ) → among t.line p ≡ true → among s.line p ≡ true
   pub cursors : (c : List ℕ) → AreCursors m s c → StaysAt m c a (Some room) → AreCursors m t c
@@ -63,8 +63,9 @@ pub record KeepsCursors (m : Market) (a : ℕ) (room : ℕ) (s t : State) : Type
       (c : List ℕ) → AreCursors m s c → StaysAt m c a (Some room)
       → (p : ℕ) → among s.line p ≡ true → among t.line p ≡ false → cursor c p < length (list_of m p)
 
--- a turn that leads from s to t and moves the cursors from c to d reads `read` entries: those that a cursor
--- passes, and the one at which it stops, unless it stops at the end of the list and its person leaves
+-- A turn leads from s to t, moves the cursors from c to d, and reads `read` entries. These are the entries that a
+-- cursor passes, and the entry at which the cursor stops. No entry is counted for the stop if the cursor stops at the
+-- end of the list and its person leaves.
 pub record TurnReads (m : Market) (s : State) (c : List ℕ) (t : State) (d : List ℕ) (read : ℕ) : Type 0 where
   pub cursors : AreCursors m t d
   pub reads : read + cursor_sum m c + spent_sum m t.line d

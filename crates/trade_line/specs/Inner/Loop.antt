@@ -17,7 +17,8 @@ pub record Ring (m : Market) (tenant : ℕ) (room : ℕ) (s : State) : Type 0 wh
   pub ends : last_of person others ≡ tenant
   pub first_wish : wish m (stage_at s) person ≡ Some room
 
--- those in `past` have left the loop with their wishes, and the first person of the line is to get `next`
+-- those in `past` have left the loop, each with the room that they wish for, and the first person of the line is to
+-- get `next`
 pub record Closing (m : Market) (tenant : ℕ) (room : ℕ) (s t : State) (next : Option ℕ) : Type 0 where
   pub ring : Ring m tenant room s
   pub past : List ℕ
@@ -32,7 +33,7 @@ pub record Closing (m : Market) (tenant : ℕ) (room : ℕ) (s t : State) (next 
   pub asked_kept : t.asked ≡ s.asked
   pub fits : IsSizedFor m t
 
--- the whole loop has left with its wishes
+-- the whole loop has left, each person with the room that they wish for
 pub record Closed (m : Market) (tenant : ℕ) (room : ℕ) (s t : State) : Type 0 where
   pub ring : Ring m tenant room s
   pub line_is : t.line ≡ ring.after ++ ring.asks.fresh

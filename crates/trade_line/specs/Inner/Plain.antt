@@ -5,14 +5,14 @@ use Rattle.trade_line.specs.Market.{Market, IsMarket, is_room}
 use Rattle.trade_line.specs.TopTradingCycles.{Stage, wish, is_on_cycle, gets, gets_within}
 use Rattle.trade_line.specs.declared.plain.Remaining.{Remaining}
 
--- the stage of two vectors of marks
+-- the stage at which the marked people and the marked rooms remain
 abbrev pub marked_stage : List Bool → List Bool → Stage
 marked_stage people rooms = record { people = λ p. slice_index_or people p false; rooms = λ r. slice_index_or rooms r false }
 
 abbrev pub remains : Remaining → Stage
 remains s = marked_stage s.people.items s.rooms.items
 
--- a mark for each person and each room
+-- the market is well formed, and `s` has one mark for each person and one for each room
 pub record AreMarks (m : Market) (s : Remaining) : Type 0 where
   pub market : IsMarket m
   pub people_len : length s.people.items ≡ m.people
@@ -23,7 +23,7 @@ abbrev pub Gives : Market → Stage → List (Option ℕ) → List (Option ℕ) 
 Gives m s old new = (p : ℕ) → p < m.people
     → slice_index_or new p None ≡ cond (is_on_cycle m s p) (wish m s p) (slice_index_or old p None)
 
--- a step in which the first n people had their turn
+-- a step under way: the step has handled the first n people and not yet the others
 pub record Stepping (m : Market) (s : Stage) (old : List (Option ℕ)) (given : List (Option ℕ)) (people : List Bool) (rooms : List Bool) (n : ℕ) : Type 0 where
   pub people_len : length people ≡ m.people
   pub rooms_len : length rooms ≡ m.rooms
@@ -38,7 +38,8 @@ pub record Stepping (m : Market) (s : Stage) (old : List (Option ℕ)) (given : 
       → slice_index_or given p None ≡ cond (is_on_cycle m s p) (wish m s p) (slice_index_or old p None)
   pub kept : (p : ℕ) → n ≤ p → slice_index_or given p None ≡ slice_index_or old p None
 
--- after some steps: everybody who is gone was given what they get, and k steps are still to come
+-- after some steps: everybody who is gone was given what they get; everybody who remains was given nothing yet and
+-- gets what the next k steps give
 pub record Stepped (m : Market) (s : Stage) (given : List (Option ℕ)) (k : ℕ) : Type 0 where
   pub gone : (p : ℕ) → p < m.people → s.people p ≡ false → gets m p ≡ slice_index_or given p None
   pub there : (p : ℕ) → p < m.people → s.people p ≡ true → gets m p ≡ gets_within m k s p

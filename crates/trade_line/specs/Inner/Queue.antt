@@ -14,7 +14,7 @@ abbrev pub Ascends : List ℕ → Type 0
 Ascends [] = Unit {0}
 Ascends (a ∷ r) = AscendsFrom a r
 
--- the last of a and those behind a
+-- the last number of the list, or a if the list is empty
 abbrev pub last_of : ℕ → List ℕ → ℕ
 last_of a [] = a
 last_of a (b ∷ r) = last_of b r
@@ -29,7 +29,7 @@ abbrev pub Waits : Market → Stage → List ℕ → Type 0
 Waits m s [] = Unit {0}
 Waits m s (a ∷ r) = WaitsBehind m s a r
 
--- the last of those who wait is first in priority of the people in line
+-- the last of those who wait has the highest priority of all people in line
 abbrev pub LastIsLeast : List ℕ → List ℕ → Type 0
 LastIsLeast [] line = Unit {0}
 LastIsLeast (a ∷ r) line = (p : ℕ) → among line p ≡ true → last_of a r ≤ p
@@ -38,7 +38,8 @@ LastIsLeast (a ∷ r) line = (p : ℕ) → among line p ≡ true → last_of a r
 abbrev pub stage_of : List ℕ → List Bool → Stage
 stage_of line remaining = record { people = among line; rooms = λ r. slice_index_or remaining r false }
 
--- the line begins with those who asked, each waiting for the home of the person before; the others ascend
+-- the line begins with the people who have asked; each of them but the first waits for the home of the person before
+-- them; the people behind have not asked and are in priority order
 pub record Queue (m : Market) (line : List ℕ) (asked : List Bool) (remaining : List Bool) : Type 0 where
   pub waiting : List ℕ
   pub fresh : List ℕ
@@ -51,7 +52,7 @@ pub record Queue (m : Market) (line : List ℕ) (asked : List Bool) (remaining :
   pub once : Once line
   pub known : (p : ℕ) → among line p ≡ true → p < m.people
 
--- f gives the people who were served what they were given, and gives the people in line what a series of removals from
+-- f gives each served person what they were given, and gives the people in line what some series of removals from
 -- this stage gives
 pub record Settles (m : Market) (line : List ℕ) (remaining : List Bool) (given : List (Option ℕ)) (f : ℕ → Option ℕ) : Type 0 where
   pub served : (p : ℕ) → p < m.people → among line p ≡ false → f p ≡ slice_index_or given p None

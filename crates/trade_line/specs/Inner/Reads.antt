@@ -5,12 +5,12 @@ use Rattle.std.specs.Prelude.{ℕ, suc, Bool, false, cond, List, [], ◌∷◌, 
 abbrev pub is_marked : List Bool → ℕ → Bool
 is_marked marks r = slice_index_or marks r false
 
--- the number of entries up to the first that passes, or of all if none does
+-- the number of entries up to and including the first that passes, or the number of all entries if none passes
 abbrev pub reads : (ℕ → Bool) → List ℕ → ℕ
 reads passes [] = 0
 reads passes (x ∷ xs) = cond (passes x) 1 (suc (reads passes xs))
 
--- the number of entries before the first that passes, or of all if none does
+-- the number of entries before the first that passes, or the number of all entries if none passes
 abbrev pub skipped : (ℕ → Bool) → List ℕ → ℕ
 skipped passes [] = 0
 skipped passes (x ∷ xs) = cond (passes x) 0 (suc (skipped passes xs))

@@ -3,7 +3,7 @@ use Rattle.std.specs.Prelude.{◌≡◌, ℕ, ◌<◌, Bool, true, Option, false
 use Rattle.trade_line.specs.Market.{Market}
 use Rattle.trade_line.specs.TopTradingCycles.{Stage, wish, successor, leave}
 
--- q is reached from p by steps of g
+-- zero or more steps of g lead from p to q
 pub data Reach (g : ℕ → ℕ) : ℕ → ℕ → Type 0 where
   here : {p : ℕ} → Reach g p p
   there : {p q : ℕ} → Reach g (g p) q → Reach g p q
@@ -15,7 +15,8 @@ pub record IsTrade (m : Market) (s : Stage) (group : ℕ → Bool) : Type 0 wher
   pub closed : (p : ℕ) → group p ≡ true → group (successor m s p) ≡ true
   pub cycle : (p : ℕ) → group p ≡ true → Reach (successor m s) (successor m s p) p
 
--- f gives everybody who remains what a series of such removals gives
+-- some series of removals of such groups continues until nobody remains, and f gives each person what they wish for
+-- when they leave
 pub data Leads (m : Market) (f : ℕ → Option ℕ) : Stage → Type 0 where
   done : {s : Stage} → ((p : ℕ) → s.people p ≡ false) → Leads m f s
   trade : {s : Stage} (group : ℕ → Bool) → IsTrade m s group

@@ -3,7 +3,7 @@ use Rattle.std.specs.Prelude.{◌≡◌, ℕ, ◌<◌, Option, Some, None, List,
 use Rattle.trade_line.specs.Below.{first_below}
 use Rattle.trade_line.specs.Market.{Market, is_room, tenant}
 
--- who lives in each room
+-- `tenants` has the tenant of each room, if any
 pub record IsTenants (m : Market) (tenants : List (Option ℕ)) : Type 0 where
   pub tenants_len : length tenants ≡ m.rooms
   pub tenants_are : (r : ℕ) → r < m.rooms → slice_index_or tenants r None ≡ tenant m r

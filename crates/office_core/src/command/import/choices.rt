@@ -12,12 +12,14 @@ use office_state::{Change, Office};
 use room_types::OutOfMemory;
 use std::alloc::Global;
 
-/// Returns a change for each person's list.
+/// Parses and checks a list of choices. Does not change the office. Returns one change for each record; the change
+/// replaces the person's list.
 ///
 /// # Errors
 ///
 /// `BadRecord` for the first record that cannot be parsed. If every record can be parsed, `BadRecord` for the first
-/// whose own command the office refuses. `OutOfMemory` if an allocation fails.
+/// record whose `SetChoices` command the office refuses after the commands of the records before it. `OutOfMemory` if
+/// an allocation fails.
 #[tactic(auto, using(crate::proofs::imports::ListChecks::few_entries, crate::proofs::imports::ListChecks::few_changes))]
 pub fn choices_added(alloc: Global, office: &Office, bytes: &[u8]) -> Result<Vec<Change>, Refusal>
     ensures added { IfOk result
@@ -30,7 +32,8 @@ pub fn choices_added(alloc: Global, office: &Office, bytes: &[u8]) -> Result<Vec
     each_choices_added(alloc, office, entries.as_slice())
 }
 
-// Returns a change for each list. The checks of one do not depend on the others, so each is checked against the same office.
+// Checks each person's list and returns one change for each. The checks of one list do not depend on the other lists,
+// so every check uses the same office.
 fn each_choices_added(
     alloc: Global,
     office: &Office,
@@ -53,7 +56,7 @@ fn each_choices_added(
     Ok(changes)
 }
 
-// Returns the change of an entry.
+// Returns the change that replaces the list of this entry's person.
 fn imported_choices_change(entry: &ChoicesEntry) -> Result<Change, OutOfMemory>
     ensures { IfOk result (λ change. change ≡ choices_command.change entry.now) }
 {

@@ -1,4 +1,4 @@
-//! The refusal of a list for one of its records.
+//! Refuses a list because the office refuses the command of one of its records.
 ghost use Rattle.std.specs.Prelude.{◌≡◌, ◌<◌, ◌+◌};
 ghost use Rattle.office_lists.specs.Records.{record_limit};
 ghost use Rattle.office_core.specs.Inner.Tries.{denial_of};
@@ -6,8 +6,9 @@ ghost use Rattle.office_core.specs.Inner.Tries.{denial_of};
 use crate::refusal::Refusal;
 use office_lists::Cause;
 
-/// Converts the refusal of a record's own command to the refusal of the list. `index` counts the data records from 0;
-/// the refusal counts the header as record 0. Returns `OutOfMemory` unchanged.
+/// Returns the refusal of a list when the office refuses the command of one record with `refusal`. `index` is the
+/// position of that record, where 0 is the first record after the header. `BadRecord` counts the header as record 0,
+/// so its `at` is `index + 1`. Returns `OutOfMemory` unchanged.
 pub(crate) fn denial_of(index: usize, refusal: &Refusal) -> Refusal
     requires { index < record_limit }
     ensures { result ≡ denial_of (index + 1) refusal.now }

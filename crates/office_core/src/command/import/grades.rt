@@ -12,12 +12,14 @@ use office_state::{Change, Office};
 use room_types::{GradeRow, OutOfMemory};
 use std::alloc::Global;
 
-/// Returns a change for each person's grade.
+/// Parses and checks a list of grades. Does not change the office. Returns one change for each record; the change
+/// gives the person the grade.
 ///
 /// # Errors
 ///
 /// `BadRecord` for the first record that cannot be parsed. If every record can be parsed, `BadRecord` for the first
-/// whose own command the office refuses. `OutOfMemory` if an allocation fails.
+/// record whose `SetGrade` command the office refuses after the commands of the records before it. `OutOfMemory` if
+/// an allocation fails.
 #[tactic(auto, using(crate::proofs::imports::ListChecks::few_entries, crate::proofs::imports::ListChecks::few_changes))]
 pub fn grades_added(alloc: Global, office: &Office, bytes: &[u8]) -> Result<Vec<Change>, Refusal>
     ensures added { IfOk result
@@ -30,7 +32,8 @@ pub fn grades_added(alloc: Global, office: &Office, bytes: &[u8]) -> Result<Vec<
     each_grade_added(alloc, office, entries.as_slice())
 }
 
-// Returns a change for each grade. The checks of one do not depend on the others, so each is checked against the same office.
+// Checks each grade and returns one change for each. The checks of one grade do not depend on the other grades, so
+// every check uses the same office.
 fn each_grade_added(
     alloc: Global,
     office: &Office,
@@ -53,7 +56,7 @@ fn each_grade_added(
     Ok(changes)
 }
 
-// Returns the change of an entry.
+// Returns the change that gives the person of this entry the grade.
 fn imported_grade_change(entry: &GradeRow) -> Result<Change, OutOfMemory>
     ensures { IfOk result (λ change. change ≡ grade_command.change entry.now) }
 {

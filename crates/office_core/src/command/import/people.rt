@@ -17,12 +17,14 @@ use room_types::rows::copy_optional;
 use room_types::{OutOfMemory, RoomCode};
 use std::alloc::Global;
 
-/// Returns a change for each person of the list.
+/// Parses and checks a list of people. Does not change the office. Returns one change for each record; the change
+/// adds the person.
 ///
 /// # Errors
 ///
 /// `BadRecord` for the first record that cannot be parsed. If every record can be parsed, `BadRecord` for the first
-/// whose own command the office refuses. `OutOfMemory` if an allocation fails.
+/// record whose `AddPerson` command the office refuses after the commands of the records before it. `OutOfMemory` if
+/// an allocation fails.
 #[tactic(auto, using(crate::proofs::imports::ListChecks::few_entries, crate::proofs::imports::ListChecks::few_changes))]
 pub fn people_added(alloc: Global, office: &Office, bytes: &[u8]) -> Result<Vec<Change>, Refusal>
     ensures added { IfOk result
@@ -34,7 +36,8 @@ pub fn people_added(alloc: Global, office: &Office, bytes: &[u8]) -> Result<Vec<
     each_person_added(alloc, office, people.as_slice())
 }
 
-// Returns a change for each person. Checks each person against the office with all earlier people of the list added.
+// Checks each person against the office with all earlier people of the list added. Returns one change for each
+// person.
 fn each_person_added(
     alloc: Global,
     office: &Office,
@@ -58,7 +61,7 @@ fn each_person_added(
     Ok(changes)
 }
 
-// Checks that the person may be added to the office, with the people of the register in place of the office's own.
+// Checks that the person may be added. Uses the people of the register in place of the office's own people.
 fn may_add_person(office: &Office, register: &Register, entry: &PersonEntry) -> Result<(), Refusal>
     requires { IsIndexed register.now }
     ensures { Passes
@@ -81,8 +84,8 @@ fn may_add_person(office: &Office, register: &Register, entry: &PersonEntry) -> 
     Ok(())
 }
 
-// Checks that one more person may have this home, if there is one: the room is known and not shut, and nobody in the
-// register lives there.
+// Checks the home of a new person, if there is one: the room is known and not shut, and nobody in the register lives
+// there.
 fn may_have_home(
     office: &Office,
     register: &Register,
@@ -103,7 +106,7 @@ fn may_have_home(
     Ok(())
 }
 
-// Returns the change of an entry.
+// Returns the change that adds the person of this entry.
 fn imported_person_change(entry: &PersonEntry) -> Result<Change, OutOfMemory>
     ensures { IfOk result (λ change. change ≡ person_command.change entry.now) }
 {

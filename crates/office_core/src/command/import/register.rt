@@ -1,4 +1,5 @@
-//! The people of an office, with tables of their keys and homes. A lookup in a table replaces a scan of the people.
+//! A register of people, with a table of their keys and a table of the tenants of rooms. A lookup in a table replaces
+//! a scan of the people.
 ghost use Rattle.std.specs.Prelude.{◌≡◌, false, IfOk, OnOk};
 ghost use Rattle.std.specs.FinMap as map;
 ghost use Rattle.office_core.specs.Inner.Tries.{HasKeys, IsIndexed, placed};
@@ -14,14 +15,14 @@ use std::alloc::Global;
 #[derive(Drop)]
 pub(crate) struct Register {
     pub(crate) people: Table<PersonIds, Person>,
-    /// The keys that somebody has.
+    /// The keys of the people.
     pub(crate) keys: Table<Keys, ()>,
-    /// The tenant of each room that is somebody's home.
+    /// Maps each room that is somebody's home to its tenant.
     pub(crate) tenants: Table<RoomCodes, PersonId>,
 }
 
 impl Register {
-    /// Makes the register of the office's people. Scans them once for each table.
+    /// Makes a register of the office's people. Scans the people once for each table.
     pub(crate) fn of(alloc: Global, office: &Office) -> Result<Register, OutOfMemory>
         ensures people { IfOk result (λ register. register.people ≡ office.now.people) }
         ensures indexed { IfOk result IsIndexed }
@@ -33,7 +34,7 @@ impl Register {
         })
     }
 
-    /// Adds a person who is not known yet.
+    /// Adds a person whose identifier is not yet in the register.
     #[tactic(auto, using(crate::proofs::imports::Indexed::still_indexed))]
     pub(crate) fn add(&mut self, entry: &PersonEntry) -> Result<(), OutOfMemory>
         requires unknown { map.contains_key self.old.people entry.now.person ≡ false }
@@ -69,7 +70,7 @@ fn place_in_register(
     }
 }
 
-// Returns the keys that somebody has.
+// Returns a table of the people's keys.
 fn keys(alloc: Global, people: &Table<PersonIds, Person>) -> Result<Table<Keys, ()>, OutOfMemory>
     ensures { IfOk result (HasKeys people.now) }
 {

@@ -12,12 +12,14 @@ use office_state::{Change, Office};
 use room_types::{OutOfMemory, RoomCode};
 use std::alloc::Global;
 
-/// Returns a change for each room of the list.
+/// Parses and checks a list of rooms. Does not change the office. Returns one change for each record; the change adds
+/// the room.
 ///
 /// # Errors
 ///
 /// `BadRecord` for the first record that cannot be parsed. If every record can be parsed, `BadRecord` for the first
-/// whose own command the office refuses. `OutOfMemory` if an allocation fails.
+/// record whose `AddRoom` command the office refuses after the commands of the records before it. `OutOfMemory` if an
+/// allocation fails.
 #[tactic(auto, using(crate::proofs::imports::ListChecks::few_entries, crate::proofs::imports::ListChecks::few_changes))]
 pub fn rooms_added(alloc: Global, office: &Office, bytes: &[u8]) -> Result<Vec<Change>, Refusal>
     ensures added { IfOk result
@@ -29,7 +31,7 @@ pub fn rooms_added(alloc: Global, office: &Office, bytes: &[u8]) -> Result<Vec<C
     each_room_added(alloc, office, rooms.as_slice())
 }
 
-// Returns a change for each room. Checks each room against the office with all earlier rooms of the list added.
+// Checks each room against the office with all earlier rooms of the list added. Returns one change for each room.
 fn each_room_added(
     alloc: Global,
     office: &Office,
@@ -53,7 +55,7 @@ fn each_room_added(
     Ok(changes)
 }
 
-// Returns the change of an entry.
+// Returns the change that adds this room.
 fn imported_room_change(room: &RoomCode) -> Result<Change, OutOfMemory>
     ensures { IfOk result (λ change. change ≡ room_command.change room.now) }
 {

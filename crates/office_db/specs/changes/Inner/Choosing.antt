@@ -4,7 +4,7 @@ use Rattle.room_types.specs.Texts.{Text}
 use Rattle.office_schema.specs.rows.Tables.{Tables}
 use Rattle.office_schema.specs.tables.Edits.{with_choice}
 
--- adds a row for each room, with places from this one on
+-- adds a row for each room; the first room has this place, and each next room has the next place
 abbrev pub with_choices : Text → ℕ → List Text → Tables → Tables
 with_choices person place [] tables = tables
 with_choices person place (room ∷ rooms) tables =

@@ -8,7 +8,7 @@ use Rattle.office_schema.specs.declared.rows.records.PersonRecord.{PersonRecord}
 abbrev pub nobody : People
 nobody = record { people = maps.empty; withdrawn = maps.empty }
 
--- who has withdrawn, after one more row
+-- the set of people who have withdrawn, after one more row is added
 abbrev pub marked : TextMap (Unit {0}) → PersonRecord → TextMap (Unit {0})
 marked withdrawn row = if row.withdrawn then maps.insert withdrawn row.id tt else withdrawn
 
@@ -16,7 +16,7 @@ abbrev pub with_person : People → PersonRecord → People
 with_person p row =
     record { people = maps.insert p.people row.id row.person; withdrawn = marked p.withdrawn row }
 
--- Adds the people of the rows in order. There is no result if an identifier is there already.
+-- Adds the people of the rows in order. The result is `None` if an identifier occurs already.
 abbrev pub filled_people : People → List PersonRecord → Option People
 filled_people p [] = Some p
 filled_people p (row ∷ rows) =

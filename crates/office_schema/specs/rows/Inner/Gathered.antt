@@ -14,12 +14,12 @@ row_cmp a b =
     ordering_then (text_cmp a.person b.person)
     (ordering_then (nat_cmp a.place b.place) (text_cmp a.room b.room))
 
--- a person's list, which is empty if there is none
+-- the list of a person, or the empty list if the person has none
 abbrev pub list_at : TextMap (List Text) → Text → List Text
 list_at lists person = unwrap_or (map.get lists person) []
 
--- Appends each row's room to the list of its person. There is no result if a row's place is not the length of that
--- list.
+-- Appends the room of each row to the list of the row's person. The result is `None` if the place of a row is not the
+-- length of this list so far.
 abbrev pub gathered : TextMap (List Text) → List ChoiceRecord → Option (TextMap (List Text))
 gathered lists [] = Some lists
 gathered lists (row ∷ rows) =
@@ -27,7 +27,7 @@ gathered lists (row ∷ rows) =
     then gathered (map.insert lists row.person (list_at lists row.person ++ row.room ∷ [])) rows
     else None
 
--- Inserts the entries into the map. There is no result if one of them is not a valid list of choices.
+-- Inserts the entries into the map. The result is `None` if the list of an entry is not a valid list of choices.
 abbrev pub chosen_from : TextMap (List Text) → List (Text × List Text)
     → Option (TextMap (List Text))
 chosen_from made [] = Some made

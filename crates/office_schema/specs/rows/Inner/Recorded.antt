@@ -5,7 +5,7 @@ use Rattle.room_types.specs.declared.moves.Move.{Move}
 use Rattle.office_state.specs.Office.Moves.{RoundMap, moves_of, with_move}
 use Rattle.office_state.specs.declared.office.moves.RoundMoves.{RoundMoves}
 
--- Adds the moves of the rows in order. There is no result if somebody moves twice in a round.
+-- Adds the moves of the rows in order. The result is `None` if a person moves twice in a round.
 abbrev pub recorded_moves : RoundMap RoundMoves → List Move → Option (RoundMap RoundMoves)
 recorded_moves moves [] = Some moves
 recorded_moves moves (row ∷ rows) =

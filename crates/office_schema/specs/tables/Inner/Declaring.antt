@@ -1,4 +1,4 @@
--- The effect of creating one table, of dropping some, and of dropping and creating all.
+-- The effects of creating one table, of dropping several tables, and of replacing the tables of a layout.
 use Rattle.std.specs.Prelude.{◌≡◌, ◌⊎◌, ◌≤◌, ℕ, []}
 use Rattle.sqlite_schema.specs.declared.schema.Table.{Table}
 use Rattle.sqlite_catalog.specs.Change.{created, next_tree, KeepsRows}
@@ -11,22 +11,22 @@ use Rattle.office_schema.specs.tables.Tables.{HasTables, HasTablesIn}
 use Rattle.office_schema.specs.declared.tables.layouts.Layout.{Layout}
 use Rattle.office_schema.specs.tables.Declaring.{LeavesFirst}
 
--- There is one more table, without rows, and the others are unchanged.
+-- The database has one more table, without rows. The other tables are unchanged.
 pub record Adds (table : Table) (old new : Database) : Type 0 where
   pub schema : new.schema ≡ created old.schema table
   pub empty : new.trees (next_tree old.schema) ≡ []
   pub others : KeepsRows old.schema.tables old.trees new.trees
 
--- What is left if dropping all but the first `left` tables of the layout fails: more than these may be there, or the
--- transaction is rolled back.
+-- The state after dropping all but the first `left` tables of the layout fails: more tables than these may remain, or
+-- the transaction is rolled back.
 abbrev pub DropsTooFew : Layout → ℕ → State → State → Type 0
 DropsTooFew layout left old new =
     IsIntact new
     → ((after : ℕ) × (left ≤ after) × (after ≤ table_count layout) × LeavesFirst layout after old new)
     ⊎ RollsBack old new
 
--- The tables of the layout are replaced by those that this program creates. Rooms, people and the round have the same
--- rows, and the other tables have none.
+-- The tables that this program creates have replaced the tables of the layout. Tables `room`, `person` and `round`
+-- have the same rows as before, and the other tables have no rows.
 pub record Rebuilds (layout : Layout) (old new : State) : Type 0 where
   pub shown : (tables : Tables) → HasCleanDisk new → HasTablesIn layout old.now tables
       → HasTables new.now (record tables {
