@@ -1,4 +1,4 @@
--- An office that is found in a file, and why none is found.
+-- What `find_in` does when it finds an office in a file, and when it fails.
 use Rattle.std.specs.Prelude.{◌≡◌, ◌⊎◌, ℕ, ℤ, List, false, IfErr, IsSome, Result, Some}
 use Rattle.sqlite.specs.Held.{Held, state}
 use Rattle.sqlite.specs.State.{HasCleanDisk}
@@ -18,26 +18,32 @@ use Rattle.office_schema.specs.declared.tables.layouts.Layout.{Layout}
 use Rattle.office_schema.specs.declared.tables.layouts.Layout.TheVariants.{Own}
 
 module _ {S : Type 0} (g : Ghosts S) where
-  -- The database of the connection holds the rows of an office, and the desk shows that office, if the disk returned what was
-  -- written and the tables are declared as those of an office.
+  -- Suppose that the disk returned what was written, the tables are declared as those of an office and have a layout,
+  -- and no row lacks a cell (`AreWhole`). Then the database of the connection held the rows of an office, and the
+  -- desk shows that office.
   abbrev pub ShowsFound : Held S → DeskState S → Type 0
   ShowsFound connection desk =
       HasCleanDisk (state g desk.conn) → AreDeclared (state g connection).now.schema → (layout : Layout)
       → layout_in (state g connection).now.schema ≡ Some layout → AreWhole layout (state g connection).now.trees
       → (office : Office) × HoldsOfficeIn layout (state g connection).now office × Shows g desk office
 
-  -- If the connection had its tables in the layout of this program, the desk has the same tables, as long as no fault closes
-  -- the connection.
+  -- If the connection had its tables in the layout that this program creates, the database of the desk is the same,
+  -- provided that the disk returned what was written and the connection is open.
   abbrev pub LeavesFound : Held S → DeskState S → Type 0
   LeavesFound connection desk =
       layout_in (state g connection).now.schema ≡ Some Own → IsIntact (state g desk.conn)
       → (state g desk.conn).now ≡ (state g connection).now
 
-  -- The database of a connection is refused with this fault, and leaves the other connection, which is in no transaction. The
-  -- schema allows the fault, whatever the disk does (`allowed`). If the tables are declared as those of an office and the disk
-  -- returned what was written, the tables give the cause (`cause`). If the first three tables are an office's and the row of
-  -- table `round` holds another version, the fault is that version or `Unavailable` (`other`). If the other connection is
-  -- intact, the tables are unchanged (`undone`).
+  -- `Desk::adopt` refuses the database of `connection` with this fault, and returns the connection as `refused`,
+  -- which is in no transaction. If `refused` is intact, the tables are unchanged (`undone`). If the schema does not
+  -- begin with the first three tables of an office, the connection is unchanged (`unread`). If nothing has the name
+  -- of table `round`, the fault is `NotAnOffice` (`absent`). The schema allows the fault, whatever the disk does
+  -- (`allowed`).
+  --
+  -- If the disk returned what was written and the tables are declared as those of an office, the database has a cause
+  -- for the fault (`cause`). If the disk returned what was written, the first three tables are an office's, and the
+  -- row of table `round` holds another version, the fault is `OtherVersion` with that version, or `Unavailable`
+  -- (`other`).
   pub record RefusesFound (connection refused : Held S) (fault : DeskFault) : Type 0 where
     pub outside : refused.in_transaction ≡ false
     pub follows : Follows (state g connection) (state g refused)
@@ -51,10 +57,11 @@ module _ {S : Type 0} (g : Ghosts S) where
         → HasCleanDisk (state g refused) → (fault ≡ Unavailable) ⊎ (fault ≡ OtherVersion version)
 
 module _ {F S : Type 0} (access : FileAccess F S) where
-  -- The desk uses the database that was opened, which has exactly the tables of an office of the version of this program. It
-  -- caches an office. It shows the office that was found, and leaves tables in the layout of this program unchanged, each under
-  -- its own premises (`shows`, `unchanged`). If the first three tables are an office's and the row of table `round` holds
-  -- another version, the disk did not return what was written (`other`).
+  -- The desk uses the database that was opened. Its tables had a layout of the version of this program (`laid`). The
+  -- desk caches an office (`cached`). It shows the office that the tables held (`shows`), and leaves tables in the
+  -- layout that this program creates unchanged (`unchanged`); `ShowsFound` and `LeavesFound` state the premises. If
+  -- the first three tables are an office's and the row of table `round` holds another version, the disk did not
+  -- return what was written (`other`).
   pub record OpensFound (files : F) (path : List ℕ) (desk : DeskState S) (files' : F) : Type 0 where
     pub connection : Held S
     pub opened : access.finds files path connection files'
@@ -66,7 +73,7 @@ module _ {F S : Type 0} (access : FileAccess F S) where
     pub other : (version : ℤ) → BeginsOffice (state access.base connection).now.schema
         → HoldsOtherVersion (state access.base connection).now version → ¬ HasCleanDisk (state access.base desk.conn)
 
-  -- The database that was opened is refused, and its connection is closed.
+  -- The file was opened, its database was refused with this fault (`RefusesFound`), and the connection was closed.
   pub record ClosesFound (files : F) (path : List ℕ) (fault : DeskFault) (files' : F) : Type 0 where
     pub connection : Held S
     pub between : F
@@ -75,7 +82,7 @@ module _ {F S : Type 0} (access : FileAccess F S) where
     pub refuses : RefusesFound access.base connection refused fault
     pub closed : access.closes between refused files'
 
-  -- The file was not opened, or the database that was opened is refused.
+  -- On an error, either the file was not opened and the fault is `Unavailable`, or `ClosesFound` holds.
   abbrev pub IsFileFault : F → List ℕ → Result (DeskState S) DeskFault → F → Type 0
   IsFileFault files path result files' =
       IfErr result (λ fault. ((fault ≡ Unavailable) × access.fails files path files') ⊎ ClosesFound files path fault files')

@@ -1,4 +1,4 @@
--- An office that is created in a file, and why none is created.
+-- What `create_in` does when it creates an office in a file, and when it fails.
 use Rattle.std.specs.Prelude.{◌≡◌, ◌≢◌, ◌⊎◌, ℕ, List, IfErr, Result, false}
 use Rattle.sqlite.specs.Held.{Held, state}
 use Rattle.sqlite_trees.specs.declared.store.Store.{Ghosts}
@@ -11,9 +11,10 @@ use Rattle.office_schema.specs.tables.Schema.{no_schema}
 use Rattle.office_schema.specs.tables.Steps.{Follows, IsIntact}
 
 module _ {S : Type 0} (g : Ghosts S) where
-  -- The database of a connection is refused with this fault, and leaves the other connection, which is in no transaction. The
-  -- fault is `AlreadyThere` if and only if a name is taken. Then, and if the schema has anything else, no statement ran. If the other connection is
-  -- intact, the tables are unchanged (`undone`).
+  -- `Desk::create` refuses the database of `connection` with this fault, and returns the connection as `refused`,
+  -- which is in no transaction. The fault is `AlreadyThere` if and only if something has the name of one of an
+  -- office's tables; otherwise it is `Unavailable`. If the schema is not empty, the connection is unchanged (`taken`,
+  -- `foreign`). If `refused` is intact, the tables are unchanged (`undone`).
   pub record RefusesNew (connection refused : Held S) (fault : DeskFault) : Type 0 where
     pub outside : refused.in_transaction ≡ false
     pub follows : Follows (state g connection) (state g refused)
@@ -31,7 +32,7 @@ module _ {F S : Type 0} (access : FileAccess F S) where
     pub blank : (state access.base connection).now.schema ≡ no_schema
     pub follows : Follows (state access.base connection) (state access.base desk.conn)
 
-  -- The database that was opened is refused, and its connection is closed.
+  -- The file was opened, its database was refused with this fault (`RefusesNew`), and the connection was closed.
   pub record ClosesNew (files : F) (path : List ℕ) (fault : DeskFault) (files' : F) : Type 0 where
     pub connection : Held S
     pub between : F
@@ -40,7 +41,7 @@ module _ {F S : Type 0} (access : FileAccess F S) where
     pub refuses : RefusesNew access.base connection refused fault
     pub closed : access.closes between refused files'
 
-  -- The file was not opened, or the database that was opened is refused.
+  -- On an error, either the file was not opened and the fault is `Unavailable`, or `ClosesNew` holds.
   abbrev pub IsCreateFault : F → List ℕ → Result (DeskState S) DeskFault → F → Type 0
   IsCreateFault files path result files' =
       IfErr result (λ fault. ((fault ≡ Unavailable) × access.fails files path files') ⊎ ClosesNew files path fault files')

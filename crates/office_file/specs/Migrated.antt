@@ -1,4 +1,4 @@
--- An office of an earlier version in a file, and why it is not migrated.
+-- What `migrate_in` does when it migrates an office in a file, and when it fails.
 use Rattle.std.specs.Prelude.{◌≡◌, ◌⊎◌, ℕ, ℤ, List, false, IfErr, IsSome, IsTrue, Result, Some}
 use Rattle.sqlite.specs.Held.{Held, state}
 use Rattle.sqlite.specs.State.{HasCleanDisk}
@@ -21,8 +21,9 @@ use Rattle.office_schema.specs.tables.Tables.{HoldsOfficeIn}
 use Rattle.office_schema.specs.declared.tables.layouts.Layout.{Layout}
 
 module _ {S : Type 0} (g : Ghosts S) where
-  -- The database of the connection held the rows of an office of an earlier version, and the desk shows that office, if the
-  -- disk returned what was written and the tables were declared as those of an office.
+  -- Suppose that the disk returned what was written, the tables were declared as those of an office and had a layout,
+  -- and no row lacked a cell (`AreWhole`). Then the database of the connection held the rows of an office of the
+  -- version of that layout, and the desk shows that office.
   abbrev pub ShowsMigrated : Held S → DeskState S → Type 0
   ShowsMigrated connection desk =
       HasCleanDisk (state g desk.conn) → AreDeclared (state g connection).now.schema → (layout : Layout)
@@ -30,14 +31,19 @@ module _ {S : Type 0} (g : Ghosts S) where
       → (office : Office) × IsOfVersion (version_of layout) office × HoldsOfficeIn layout (state g connection).now office
       × Shows g desk office
 
-  -- The database of a connection is refused with this fault, and leaves the other connection, which is in no transaction. The
-  -- schema allows the fault, whatever the disk does (`allowed`). If the tables are declared as those of an office and the disk
-  -- returned what was written, the tables give the cause (`cause`); if the first three are an office's, they allow the fault,
-  -- whatever follows them (`returned`). If the database begins with the rows of an office of an earlier version and the name of
-  -- a table that it lacks is taken, the fault is `AlreadyThere` or `Unavailable` (`taken`). It is `AlreadyThere` only if the
-  -- first rows are those of an office (`rows`). If the first three tables are an office's and the row of table `round` holds a
-  -- version that is not an earlier one, the fault is that version or `Unavailable` (`other`). If the other connection is
-  -- intact, the tables are unchanged (`undone`).
+  -- `Desk::migrate` refuses the database of `connection` with this fault, and returns the connection as `refused`,
+  -- which is in no transaction. If `refused` is intact, the tables are unchanged (`undone`). If the schema does not
+  -- begin with the first three tables of an office, the connection is unchanged (`unread`). If nothing has the name
+  -- of table `round`, the fault is `NotAnOffice` (`absent`). The schema allows the fault, whatever the disk does
+  -- (`allowed`).
+  --
+  -- The other fields hold if the disk returned what was written. If the tables are declared as those of an office,
+  -- the database has a cause for the fault (`cause`). If the first three tables are an office's, whatever tables
+  -- follow, the database has the cause that `MayReturnFault` requires (`returned`). Suppose that the database begins
+  -- with the rows of an office of an earlier version, and something has the name of a table that this version lacks;
+  -- then the fault is `AlreadyThere` or `Unavailable` (`taken`). If the fault is `AlreadyThere`, `AreRowsAsStated`
+  -- holds (`rows`). If the first three tables are an office's and the row of table `round` holds a version other than
+  -- 1 and 2, the fault is `OtherVersion` with that version, or `Unavailable` (`other`).
   pub record RefusesMigration (connection refused : Held S) (fault : DeskFault) : Type 0 where
     pub outside : refused.in_transaction ≡ false
     pub follows : Follows (state g connection) (state g refused)
@@ -57,10 +63,12 @@ module _ {S : Type 0} (g : Ghosts S) where
         → HasCleanDisk (state g refused) → (fault ≡ Unavailable) ⊎ (fault ≡ OtherVersion version)
 
 module _ {F S : Type 0} (access : FileAccess F S) where
-  -- The desk uses the database that was opened, which had exactly the tables of an earlier version. It caches an office, and
-  -- shows the one that the tables held. If the disk returned what was written, the row of table `round` held the version of the
-  -- tables (`stated`). The disk did not return what was written if that row holds a version that is not an earlier one (`other`),
-  -- or if the database begins with an office of an earlier version and the name of a table that it lacks is taken (`taken`).
+  -- The desk uses the database that was opened. Its tables had a layout of an earlier version (`laid`). The desk
+  -- caches an office (`cached`), and shows the one that the tables held (`shows`). If the disk returned what was
+  -- written, the row of table `round` held the version of that layout (`stated`). In two cases the disk did not
+  -- return what was written: the row of table `round` held a version other than 1 and 2 (`other`); or the database
+  -- began with the rows of an office of an earlier version, and something had the name of a table that this version
+  -- lacks (`taken`).
   pub record OpensMigrated (files : F) (path : List ℕ) (desk : DeskState S) (files' : F) : Type 0 where
     pub connection : Held S
     pub opened : access.finds files path connection files'
@@ -75,7 +83,8 @@ module _ {F S : Type 0} (access : FileAccess F S) where
     pub other : (version : ℤ) → StatesVersion (state access.base connection).now version → IsNotEarlier version
         → ¬ HasCleanDisk (state access.base desk.conn)
 
-  -- The database that was opened is refused, and its connection is closed.
+  -- The file was opened, its database was refused with this fault (`RefusesMigration`), and the connection was
+  -- closed.
   pub record ClosesUnmigrated (files : F) (path : List ℕ) (fault : DeskFault) (files' : F) : Type 0 where
     pub connection : Held S
     pub between : F
@@ -84,7 +93,7 @@ module _ {F S : Type 0} (access : FileAccess F S) where
     pub refuses : RefusesMigration access.base connection refused fault
     pub closed : access.closes between refused files'
 
-  -- The file was not opened, or the database that was opened is refused.
+  -- On an error, either the file was not opened and the fault is `Unavailable`, or `ClosesUnmigrated` holds.
   abbrev pub IsMigrateFault : F → List ℕ → Result (DeskState S) DeskFault → F → Type 0
   IsMigrateFault files path result files' =
       IfErr result (λ fault. ((fault ≡ Unavailable) × access.fails files path files') ⊎ ClosesUnmigrated files path fault files')

@@ -1,4 +1,4 @@
--- The files of the system, of which one is opened.
+-- What opening and closing a file of the system does.
 use Rattle.std.specs.Prelude.{⊤}
 use Rattle.sqlite.specs.Files.{over_files}
 use Rattle.sqlite_disk.specs.declared.Disk.{Ghosts}
@@ -7,8 +7,8 @@ use Rattle.sqlite_wal.specs.Recovery.{Image}
 use Rattle.office_file.specs.Access.{FileAccess}
 use Rattle.office_file.specs.Files.{IsOpenedOver}
 
--- A file of the system and its log had these contents when it was opened, if the disk returned what they held. Nothing is known
--- of which file a path names, whether it can be opened, or what closing does.
+-- A file of the system and its log had these contents when the file was opened, if the disk returned what they held.
+-- The record does not say which file a path names, whether it can be opened, or what closing does.
 abbrev pub system_access : {D : Type 0} {g : Ghosts D} → Image → FileAccess ⊤ (FileStore D g)
 system_access contents = record {
   base = over_files;

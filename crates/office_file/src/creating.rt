@@ -17,10 +17,11 @@ use std::alloc::Global;
 ///
 /// # Errors
 ///
-/// `AlreadyThere` if and only if a table, an index, a view or a trigger of the opened database has one of the ten
-/// names. `Unavailable` otherwise: the file was not opened, it has other tables, the disk failed, or memory ran out. On
-/// an error the opened connection is closed. Its tables are unchanged, unless a fault had closed it before or the disk
-/// failed to return what was written.
+/// `AlreadyThere` if and only if a table, an index, a view or a trigger of the opened database has the name of one of
+/// an office's ten tables. `Unavailable` otherwise: the file was not opened, its schema has something under other
+/// names, the disk failed, or memory ran out. On an error the function closes the connection that it opened. The
+/// tables are unchanged, unless a fault had closed the connection before or the disk failed to return what was
+/// written.
 pub fn create_in<B: Alter, F: Files<B> + Closes<Connection<B>>>(
     alloc: Global,
     files: &mut F,

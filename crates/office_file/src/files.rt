@@ -1,4 +1,4 @@
-//! Places with files of offices.
+//! Traits that open and close office files, and the files of the system, which implement them.
 ghost use Rattle.std.specs.Prelude.{⊤};
 ghost use Rattle.sqlite_wal.specs.Files.{image_at};
 ghost use Rattle.office_file.specs.Files.{IsOpenedOver};
@@ -7,22 +7,20 @@ use crate::opening::{FileConnection, open_file, open_present_file};
 use office_store::Unavailable;
 use sqlite::{Alter, Connection, FileFrom, FileStore, Start};
 
-/// A place with files of offices: each is opened by its path, as a database over the store `B`. The contract of each
-/// call is a relation between the states of the place before and after it. Generic code can establish that relation
-/// only by making the call.
+/// Opens office files by their paths, each as a database over the store `B`. The contract of each call is a relation
+/// between the states of `self` before and after the call. Generic code can establish that relation only by making
+/// the call.
 pub trait Files<B: Alter> {
     ghost use Rattle.std.specs.Prelude.{◌≡◌, false, List, ℕ, IfOk, OnErr, ⊤};
     ghost use Rattle.sqlite.specs.Held.{Held};
 
-    /// Opening the file of this path, which was created if it was missing, returned this connection and led from the
-    /// old state to the new one.
+    /// `open` with this path returned this connection, and led from the old state to the new one.
     ghost opens: { Self → List ℕ → Held B → Self → Type 0 } = { λ _ _ _ _. ⊤ };
 
-    /// Opening the file of this path, which was there, returned this connection and led from the old state to the new
-    /// one.
+    /// `open_present` with this path returned this connection, and led from the old state to the new one.
     ghost finds: { Self → List ℕ → Held B → Self → Type 0 } = { λ _ _ _ _. ⊤ };
 
-    /// Opening the file of this path failed and led from the old state to the new one.
+    /// `open` or `open_present` with this path failed, and led from the old state to the new one.
     ghost fails: { Self → List ℕ → Self → Type 0 } = { λ _ _ _. ⊤ };
 
     /// Opens the database in the file of this path. Creates a missing file.
@@ -39,15 +37,15 @@ pub trait Files<B: Alter> {
     ///
     /// # Errors
     ///
-    /// `Unavailable` if there is no file, or it cannot be opened.
+    /// `Unavailable` if there is no file at this path, or if the file cannot be opened.
     fn open_present(&mut self, path: &str) -> Result<Connection<B>, Unavailable>
         ensures outside { IfOk result (λ connection. connection.in_transaction ≡ false) }
         ensures found { IfOk result (λ connection. finds self.old path.now connection self.new) }
         ensures failed { OnErr result (fails self.old path.now self.new) };
 }
 
-/// Something that closes connections of type `C`. The contract of `close` is a relation between its states before and after
-/// the call.
+/// Closes connections of type `C`. The contract of `close` is a relation between the states of `self` before and
+/// after the call.
 pub trait Closes<C> {
     ghost use Rattle.std.specs.Prelude.{⊤};
 
@@ -59,23 +57,23 @@ pub trait Closes<C> {
         ensures { closes self.old connection self.new };
 }
 
-/// The files of the system, of which only one can be opened. That file and its log held what `S` represents. The
-/// contracts do not say which file a path names. Only this type has the runtime, so code that is generic in the files
-/// cannot reach any other.
+/// The files of the system. A value opens at most one file: after the first call of `open` or `open_present`, each
+/// further call fails. `S` represents what that file and its log held. The contracts do not say which file a path
+/// names. Only this type holds the runtime, so code that is generic over `Files` cannot open a file in any other way.
 #[derive(Drop)]
 pub struct SystemFiles<'a, S: Start> {
     opening: Option<(&'a HostRuntime, S)>,
 }
 
 impl<'a, S: Start> SystemFiles<'a, S> {
-    /// Returns the files of the system, of which none is opened yet.
+    /// Returns a value that has not opened a file yet. `start` represents what the file and its log held.
     pub fn new(rt: &'a HostRuntime, start: S) -> Self {
         SystemFiles {
             opening: Some((rt, start)),
         }
     }
 
-    // Returns the files of the system, of which none can be opened: for closing alone.
+    // Returns a value that cannot open a file, but can close connections.
     pub(crate) fn unopened() -> Self {
         SystemFiles { opening: None }
     }

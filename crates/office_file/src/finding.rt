@@ -8,14 +8,15 @@ use office_store::{Desk, DeskFault, Unavailable};
 use sqlite::{Alter, Connection};
 use std::alloc::Global;
 
-/// Opens a desk over the office that the file at this path holds. The tables must be those of the version of this
-/// program, in this program's order or in the documented one. Opens the file once. Does not create a missing file.
+/// Opens a desk over the office that the file at this path holds. The tables must have the version of this program.
+/// They may be in the order in which this program creates them, or in the documented order (`Layout::Documented`).
+/// Opens the file once. Does not create a missing file.
 ///
 /// # Errors
 ///
-/// `Unavailable` if the file was not opened. Otherwise the fault with which `Desk::adopt` refuses the database that was
-/// opened: `NotAnOffice`, `OtherVersion` or `Unavailable`. The connection is then closed. Its tables are unchanged,
-/// unless a fault had closed it before or the disk failed to return what was written.
+/// `Unavailable` if the file was not opened. Otherwise the fault that `Desk::adopt` returns for the opened database:
+/// `NotAnOffice`, `OtherVersion` or `Unavailable`. The function then closes the connection. The tables are unchanged,
+/// unless a fault had closed the connection before or the disk failed to return what was written.
 pub fn find_in<B: Alter, F: Files<B> + Closes<Connection<B>>>(
     alloc: Global,
     files: &mut F,

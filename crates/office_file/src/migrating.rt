@@ -8,14 +8,15 @@ use office_store::{Desk, DeskFault, Unavailable};
 use sqlite::{Alter, Connection};
 use std::alloc::Global;
 
-/// Opens a desk over the office of an earlier version that the file at this path holds, and recreates its tables in the
-/// version of this program. Opens the file once. Does not create a missing file.
+/// Opens the file at this path, which holds an office of an earlier version. Migrates its tables to the version of
+/// this program, and returns a desk over the office. Opens the file once. Does not create a missing file.
 ///
 /// # Errors
 ///
-/// `Unavailable` if the file was not opened. Otherwise the fault with which `Desk::migrate` refuses the database that
-/// was opened: `NotAnOffice`, `OtherVersion`, `AlreadyThere` or `Unavailable`. The connection is then closed. Its
-/// tables are unchanged, unless a fault had closed it before or the disk failed to return what was written.
+/// `Unavailable` if the file was not opened. Otherwise the fault that `Desk::migrate` returns for the opened
+/// database: `NotAnOffice`, `OtherVersion`, `AlreadyThere` or `Unavailable`. The function then closes the connection.
+/// The tables are unchanged, unless a fault had closed the connection before or the disk failed to return what was
+/// written.
 pub fn migrate_in<B: Alter, F: Files<B> + Closes<Connection<B>>>(
     alloc: Global,
     files: &mut F,

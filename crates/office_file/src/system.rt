@@ -18,7 +18,7 @@ use crate::migrating::migrate_in;
 use office_store::{Desk, DeskFault};
 use sqlite::{FileFrom, FileStore, Start, Wary};
 
-/// A desk over a file of the system and its log, which held what `S` represents.
+/// A desk over a database file and its log. `S` represents what the two held when the file was opened.
 pub type FileDesk<S> = Desk<FileStore<FileFrom<S>>>;
 
 /// Creates a desk over the file at this path, and makes the tables of the empty office in it. Creates a missing file.
@@ -37,7 +37,8 @@ pub fn create_file(rt: &HostRuntime, path: &str) -> Result<FileDesk<Wary>, DeskF
     create_over(rt, path, Wary)
 }
 
-/// Does what `create_file` does, for any contents of the file and its log, which `start` represents.
+/// Does what `create_file` does, for any contents of the file and its log before the call. `start` represents these
+/// contents.
 ///
 /// # Errors
 ///
@@ -71,7 +72,8 @@ pub fn on_file(rt: &HostRuntime, path: &str) -> Result<FileDesk<Wary>, DeskFault
     find_over(rt, path, Wary)
 }
 
-/// Does what `on_file` does, for any contents of the file and its log, which `start` represents.
+/// Does what `on_file` does, for any contents of the file and its log before the call. `start` represents these
+/// contents.
 ///
 /// # Errors
 ///
@@ -85,8 +87,8 @@ pub fn find_over<S: Start>(rt: &HostRuntime, path: &str, start: S) -> Result<Fil
     find_in(rt.alloc(), &mut files, path)
 }
 
-/// Opens a desk over the office of an earlier version that the file at this path holds, and recreates its tables in the
-/// version of this program. Does not create a missing file.
+/// Opens the file at this path, which holds an office of an earlier version. Migrates its tables to the version of
+/// this program, and returns a desk over the office. Does not create a missing file.
 ///
 /// # Errors
 ///
@@ -99,7 +101,8 @@ pub fn migrate_file(rt: &HostRuntime, path: &str) -> Result<FileDesk<Wary>, Desk
     migrate_over(rt, path, Wary)
 }
 
-/// Does what `migrate_file` does, for any contents of the file and its log, which `start` represents.
+/// Does what `migrate_file` does, for any contents of the file and its log before the call. `start` represents these
+/// contents.
 ///
 /// # Errors
 ///
@@ -117,8 +120,8 @@ pub fn migrate_over<S: Start>(
     migrate_in(rt.alloc(), &mut files, path)
 }
 
-/// Closes the file of a desk, if there is a desk. Callers pass the desk to this function because the proof that an open file
-/// can be dropped takes minutes in each crate that drops one.
+/// Closes the file of a desk, if there is a desk. Callers pass the desk to this function because the proof that an
+/// open file can be dropped takes minutes in each crate that drops one.
 pub fn close_file<S: Start>(desk: Result<FileDesk<S>, DeskFault>) {
     let mut files = SystemFiles::unopened();
     close(&mut files, desk);

@@ -1,4 +1,4 @@
--- Why tables of an earlier version are not migrated.
+-- The causes for which a migration fails.
 use Rattle.std.specs.Prelude.{◌≡◌, ◌⊎◌, ℕ, ℤ, pos, false, Some, IsSome, IsTrue, take, ⊤}
 use Rattle.sqlite_schema.specs.declared.schema.Schema.{Schema}
 use Rattle.sqlite.specs.Effect.{Database}
@@ -18,7 +18,8 @@ use Rattle.office_migration.specs.Versions.{IsEarlier, IsNotEarlier, IsOfVersion
 use Rattle.office_migration.specs.declared.migrating.MigrateFault.{MigrateFault}
 use Rattle.office_migration.specs.declared.migrating.MigrateFault.TheVariants.{Unavailable, OtherVersion, NotAnOffice, AlreadyThere}
 
--- The tables of the layout, which is of an earlier version, are the rows of an office of that version.
+-- The schema is exactly that of `layout`, a layout of an earlier version. The tables hold the rows of `office`, which
+-- is lawful and is an office of that version.
 pub record HoldsEarlier (layout : Layout) (db : Database) (office : Office) : Type 0 where
   pub earlier : IsEarlier (version_of layout)
   pub lawful : IsLawful office
@@ -26,8 +27,8 @@ pub record HoldsEarlier (layout : Layout) (db : Database) (office : Office) : Ty
   pub kind : IsOfVersion (version_of layout) office
   pub rows : HoldsOfficeIn layout db office
 
--- The first tables are those of a layout of an earlier version, whatever follows them, and hold the rows of an office of that
--- version.
+-- The schema begins with the tables of `layout`, a layout of an earlier version, and has no views. These tables hold
+-- the rows of `office`, which is lawful and is an office of that version. Other tables may follow.
 pub record HoldsEarlierFirst (layout : Layout) (db : Database) (office : Office) : Type 0 where
   pub earlier : IsEarlier (version_of layout)
   pub lawful : IsLawful office
@@ -37,53 +38,56 @@ pub record HoldsEarlierFirst (layout : Layout) (db : Database) (office : Office)
   pub tables : take (table_count layout) db.schema.tables ≡ (schema_of layout).tables
   pub rows : AreHeldIn layout db.trees (rows_at (version_of layout) office)
 
--- The schema begins with the tables of a layout of this version, whatever follows them.
+-- The schema begins with the tables and indexes of a layout of this version, and has no views. Others may follow.
 abbrev pub BeginsAt : ℕ → Schema → Type 0
 BeginsAt version schema =
     (layout : Layout) × (version_of layout ≡ version) × Begins layout schema
 
--- The schema has the tables of a layout and nothing else, and nothing has the name of a table that this version lacks.
+-- The schema is exactly that of some layout, and nothing has the name of a table that this version lacks.
 abbrev pub IsLaid : ℕ → Schema → Type 0
 IsLaid version schema =
     ((layout : Layout) × (schema ≡ schema_of layout))
     × (uses_missing_name version schema ≡ false)
 
--- By names and trees alone, the schema begins with the tables of a layout of this version. Or it has those of a layout and
--- nothing else, and nothing has the name of a table that this version lacks.
+-- A test of the names and trees of tables, which does not compare columns. Either the schema begins with the tables
+-- of a layout of this version. Or it is that of some layout, and nothing has the name of a table that this version
+-- lacks.
 abbrev pub HasKnownNames : ℕ → Schema → Type 0
 HasKnownNames version schema =
     IsSome (first_layout version schema)
     ⊎ (IsSome (layout_in schema) × (uses_missing_name version schema ≡ false))
 
--- If the database begins with the tables of a layout of this version, they are the rows of an office of that version.
+-- If the schema begins with the tables of a layout of this version, and no row lacks a cell (`AreWhole`), the tables
+-- hold the rows of an office of this version.
 abbrev pub AreEarlierRows : ℕ → Database → Type 0
 AreEarlierRows version db =
     (layout : Layout) → version_of layout ≡ version → Begins layout db.schema → AreWhole layout db.trees
     → (office : Office) × HoldsEarlierFirst layout db office
 
--- If the database begins with the tables of a layout of the version in the row of table `round`, they are the rows of an office
--- of that version.
+-- If the row of table `round` holds an earlier version, `AreEarlierRows` holds for that version.
 abbrev pub AreRowsAsStated : Database → Type 0
 AreRowsAsStated db = (version : ℕ) → IsEarlier version → HoldsVersion db (pos version) → AreEarlierRows version db
 
--- The first tables are not the rows of an office of this version.
+-- The first tables do not hold the rows of an office of this version, in any layout of this version.
 abbrev pub AreNoEarlierRows : ℕ → Database → Type 0
 AreNoEarlierRows version db =
     (layout : Layout) → version_of layout ≡ version → (office : Office) → ¬ HoldsEarlierFirst layout db office
 
--- If the first three tables are an office's, and the tables are in a layout, the row of table `round` holds the version of that
--- layout.
+-- If the schema begins with the first three tables of an office (`BeginsOffice`) and has a layout (`layout_in`), the
+-- row of table `round` holds the version of that layout.
 abbrev pub HoldsLayoutVersion : Database → Type 0
 HoldsLayoutVersion db =
     BeginsOffice db.schema → (layout : Layout) → layout_in db.schema ≡ Some layout → HoldsVersion db (pos (version_of layout))
 
--- Table `round` is where an office has it, and its row holds this version.
+-- The schema begins with the first three tables of an office, and the row of table `round` holds this version.
 abbrev pub StatesVersion : Database → ℤ → Type 0
 StatesVersion db version = BeginsOffice db.schema × HoldsVersion db version
 
--- The row of table `round` holds no other version, and the first tables are not the rows of an office of an earlier version. If
--- the row holds a version, the schema begins with the tables of a layout of that version; or it has those of another layout and
--- nothing else, and no missing name is taken. An unknown order says nothing about an office.
+-- The database holds no office of an earlier version. It begins with the first three tables of an office
+-- (`first_tables`). If the row of table `round` holds a version, that is 1 or 2 (`version`). The schema then begins
+-- with the tables of a layout of that version, or it is exactly that of some layout and nothing has the name of a
+-- table that the version lacks (`known`). So tables in an unknown order do not satisfy this record: they may hold an
+-- office. In no layout of an earlier version do the first tables hold the rows of an office of that version (`none`).
 pub record HoldsNoEarlier (db : Database) : Type 0 where
   pub first_tables : BeginsOffice db.schema
   pub version : (version : ℤ) → IsNotEarlier version → ¬ HoldsVersion db version
@@ -91,7 +95,8 @@ pub record HoldsNoEarlier (db : Database) : Type 0 where
       → BeginsAt version db.schema ⊎ IsLaid version db.schema
   pub none : (layout : Layout) (office : Office) → ¬ HoldsEarlierFirst layout db office
 
--- The row of table `round` holds an earlier version, the name of a table that it lacks is taken, and the rows are not at fault.
+-- The row of table `round` holds an earlier version, something has the name of a table that this version lacks, and
+-- `AreEarlierRows` holds for this version.
 pub record HasNameTaken (db : Database) : Type 0 where
   pub version : ℕ
   pub earlier : IsEarlier version
@@ -99,27 +104,28 @@ pub record HasNameTaken (db : Database) : Type 0 where
   pub taken : IsTrue (uses_missing_name version db.schema)
   pub rows : AreEarlierRows version db
 
--- A database may be refused with this fault only for this cause.
+-- The cause that a database must have for a migration to fail with this fault. `Unavailable` needs no cause.
 abbrev pub HasCause : Database → MigrateFault → Type 0
 HasCause db Unavailable = ⊤
 HasCause db (OtherVersion version) = StatesVersion db version × IsNotEarlier version
 HasCause db NotAnOffice = (names_round db.schema ≡ false) ⊎ HoldsNoEarlier db
 HasCause db AlreadyThere = HasNameTaken db
 
--- The row of table `round` holds no other version. If it holds an earlier one, the names show a layout.
+-- If the row of table `round` holds a version, it is an earlier one, and `HasKnownNames` holds for it.
 pub record IsReadAsNone (db : Database) : Type 0 where
   pub version : (version : ℤ) → IsNotEarlier version → ¬ HoldsVersion db version
   pub known : (version : ℕ) → IsEarlier version → HoldsVersion db (pos version)
       → HasKnownNames version db.schema
 
--- If the first three tables are an office's, whatever follows them, a migration may return this fault only with its cause.
+-- The cause that a migration must have to return this fault, if the schema begins with the first three tables of an
+-- office. It does not depend on how the tables after them are declared. `Unavailable` needs no cause.
 abbrev pub MayReturn : Database → MigrateFault → Type 0
 MayReturn db Unavailable = ⊤
 MayReturn db (OtherVersion version) = HoldsVersion db version × IsNotEarlier version
 MayReturn db NotAnOffice = IsReadAsNone db
 MayReturn db AlreadyThere = HasNameTaken db
 
--- Whatever the disk does, the schema allows this fault.
+-- The condition on the schema under which a migration may return this fault, whatever the disk does.
 abbrev pub IsAllowed : Schema → MigrateFault → Type 0
 IsAllowed schema Unavailable = ⊤
 IsAllowed schema (OtherVersion version) = IsTrue (begins_office schema) × IsNotEarlier version
@@ -127,14 +133,14 @@ IsAllowed schema NotAnOffice = (names_round schema ≡ false) ⊎ IsTrue (begins
 IsAllowed schema AlreadyThere =
     IsTrue (begins_office schema) × IsTrue (uses_missing_name 1 schema)
 
--- A version that the fault names is not an earlier one. The fault is not `AlreadyThere`.
+-- The fault is `Unavailable`, `NotAnOffice`, or `OtherVersion` with a version other than 1 and 2.
 abbrev pub IsVersionFault : MigrateFault → Type 0
 IsVersionFault Unavailable = ⊤
 IsVersionFault (OtherVersion version) = IsNotEarlier version
 IsVersionFault NotAnOffice = ⊤
 IsVersionFault AlreadyThere = ⊥
 
--- The fault is not for the version.
+-- The fault is not `OtherVersion`.
 abbrev pub IsNameFault : MigrateFault → Type 0
 IsNameFault Unavailable = ⊤
 IsNameFault (OtherVersion version) = ⊥

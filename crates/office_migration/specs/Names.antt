@@ -3,7 +3,8 @@ use Rattle.std.specs.Prelude.{ℕ, Bool, ◌&&◌, ◌||◌, codes, nat_le, not}
 use Rattle.sqlite_schema.specs.declared.schema.Schema.{Schema}
 use Rattle.sqlite_catalog.specs.Change.{is_used}
 
--- A table that this version lacks has a name that is in use. `grade` and `going` say whether these names are in use.
+-- Something has the name of a table that this version lacks. Version 1 lacks `grade`, and versions 1 and 2 lack
+-- `going`. The arguments `grade` and `going` say whether these names are in use.
 abbrev pub takes_name : Bool → Bool → ℕ → Bool
 takes_name grade going version = not (nat_le 2 version) && grade || going
 

@@ -13,7 +13,7 @@ use Rattle.office_state.specs.declared.office.Office.{Office}
 use Rattle.office_schema.specs.tables.Layouts.{version_of}
 use Rattle.office_schema.specs.declared.tables.layouts.Layout.{Layout}
 
--- Nobody has a grade, and no imported list is one of grades.
+-- Nobody has a grade, and no imported list is a list of grades.
 pub record LacksGrades (office : Office) : Type 0 where
   pub grades : office.grades ≡ map.empty
   pub kinds : (label : Text) (kept : StoredImport) → map.get office.lists label ≡ Some kept
@@ -25,27 +25,28 @@ pub record LacksLeavers (office : Office) : Type 0 where
   pub arrived : (round : ℕ) (p : Text) (moved : Moved)
       → map.get (moves_of office.moves round) p ≡ Some moved → IsSome moved.to
 
--- Grades came with version 2, and leavers with version 3.
+-- The office holds only what an office of this version may hold. Grades came with version 2, and leavers with version
+-- 3.
 abbrev pub IsOfVersion : ℕ → Office → Type 0
 IsOfVersion version office =
     (version < 2 → LacksGrades office) × (version < 3 → LacksLeavers office)
 
--- The version is one before that of this program.
+-- The version is an earlier one: 1 or 2.
 abbrev pub IsEarlier : ℕ → Type 0
 IsEarlier version = (version ≡ 1) ⊎ (version ≡ 2)
 
--- The layout is of such a version.
+-- There is a layout, and its version is 1 or 2.
 abbrev pub IsEarlierLayout : Option Layout → Type 0
 IsEarlierLayout None = ⊥
 IsEarlierLayout (Some layout) = IsEarlier (version_of layout)
 
--- The number is no such version.
+-- The number is neither 1 nor 2.
 abbrev pub IsNotEarlier : ℤ → Type 0
 IsNotEarlier version = (version ≢ pos 1) × (version ≢ pos 2)
 
 -- ---- the tests
 
--- whether an imported list is not one of grades
+-- whether an imported list is of another kind than grades
 abbrev pub is_not_grades : StoredImport → Bool
 is_not_grades kept = elim kept.kind [
   | Rooms ↦ true

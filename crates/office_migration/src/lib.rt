@@ -1,4 +1,5 @@
-//! Recreates the tables of another layout in the layout of this program, with the same office in them.
+//! Migrates the tables of an office to the layout that this program creates. The office that they hold stays the
+//! same.
 #![tactic(auto)]
 
 pub mod migrating;

@@ -1,4 +1,4 @@
-//! Migrates tables of an earlier version to the version of this program.
+//! Migrates the tables of an office of an earlier version to the version of this program.
 ghost use Rattle.std.specs.Prelude.{◌≡◌, ◌⊎◌, false, pos, codes, Some, Err, IfErr, IfOk, IfSome, IsErrAnd, IsTrue, MatchResult, OnErr, OnOk};
 ghost use Rattle.sqlite.specs.Held.{state};
 ghost use Rattle.sqlite.specs.State.{HasCleanDisk};
@@ -35,36 +35,40 @@ use std::alloc::Global;
 /// Why a migration failed.
 #[derive(Clone, Copy, Debug, PartialEq, Eq, Drop)]
 pub enum MigrateFault {
-    /// The database failed or memory ran out, or the tables are in no known layout.
+    /// The database failed, memory ran out, the tables are in no known layout, or the version in table `round` is not
+    /// an integer.
     Unavailable,
-    /// The row of table `round` holds this version, which is not an earlier one.
+    /// The row of table `round` holds this version, which is neither 1 nor 2.
     OtherVersion(i64),
-    /// Nothing has the name of table `round`, or the first tables do not hold the rows of an office of an earlier
-    /// version.
+    /// Nothing has the name of table `round`, or the first tables do not hold the rows of an office of version 1 or
+    /// 2.
     NotAnOffice,
-    /// Something has the name of a table that the earlier version lacks, and the rows are not at fault.
+    /// Something has the name of a table that the earlier version lacks, and the migration found no fault in the
+    /// rows.
     AlreadyThere,
 }
 
-/// Recreates the tables of an earlier version in the version of this program, in one transaction. Returns the office
-/// that they hold: it has no leavers, and no grades that it did not have before. Presupposes that each table with one
-/// of the ten names is declared as that table of an office.
+/// Migrates the tables of an office of version 1 or 2 to the version of this program, in one transaction. Returns the
+/// office that they hold. This office has no leavers, and no grades if its version was 1. Presupposes that each table
+/// with the name of one of an office's ten tables is declared as that table. The call does not compare columns.
 ///
 /// # Errors
 ///
 /// The first of these that applies:
 ///
 /// - `NotAnOffice` if nothing has the name of table `round`.
-/// - `Unavailable` if the first three tables do not have the names and places of an office's, or if there is a view (a
-///   table that the engine does not understand counts as one). No statement has run then.
+/// - `Unavailable` if the first three tables are not `room`, `person` and `round`, each in the tree where an office
+///   keeps it, or if there is a view. Triggers, and tables that the engine does not understand, count as views. No
+///   statement has run then.
 /// - `NotAnOffice` if table `round` does not have exactly one row, `Unavailable` if the version in its row is not an
 ///   integer, or `OtherVersion` if that integer is neither 1 nor 2.
-/// - If something has the name of a table that the version in that row lacks: `NotAnOffice` if the tables of a layout
-///   of that version come first and do not hold the rows of an office of that version, and otherwise `AlreadyThere`.
-/// - `Unavailable` if the tables are in no known layout, or `NotAnOffice` if they do not hold the rows of an office of
-///   the version in the row.
+/// - If something has the name of a table that the version in that row lacks (version 1 lacks `grade`, versions 1 and
+///   2 lack `going`): `NotAnOffice` if the schema begins with the tables of a layout of that version and they do not
+///   hold the rows of an office of that version. Otherwise `AlreadyThere`.
+/// - `Unavailable` if the tables are in no known layout, or `NotAnOffice` if they do not hold the rows of an office
+///   of the version in that row.
 ///
-/// If the database fails or memory runs out, `Unavailable` may take the place of each but the first.
+/// If the database fails or memory runs out, the call may return `Unavailable` instead of any of these but the first.
 /// On an error the tables are unchanged, unless a fault closed the connection or the disk failed to return what was
 /// written.
 pub fn migrate<S: Alter>(alloc: Global, conn: &mut Connection<S>) -> Result<Office, MigrateFault>
@@ -138,7 +142,7 @@ pub fn migrate<S: Alter>(alloc: Global, conn: &mut Connection<S>) -> Result<Offi
     }
 }
 
-// The facts about the schema that a migration needs, taken before anything is read.
+// What a migration needs to know about the schema. `migrate` collects this before it reads any row.
 #[derive(Clone, Copy, Drop)]
 struct Declared {
     // Whether something has the name of the table of grades.
@@ -171,7 +175,7 @@ impl Declared {
     }
 }
 
-// Reads the version in the row of table `round`, which has to be an earlier one.
+// Reads the version in the row of table `round`. Fails unless the version is 1 or 2.
 fn earlier_version<S: Alter>(conn: &mut Connection<S>) -> Result<u16, MigrateFault>
     requires { conn.old.in_transaction ≡ false }
     ensures outside { conn.new.in_transaction ≡ false }

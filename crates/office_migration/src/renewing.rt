@@ -1,4 +1,4 @@
-//! Recreates the tables of another layout in the layout of this program.
+//! Recreates the tables of an office in the layout that this program creates.
 ghost use Rattle.std.specs.Prelude.{◌≡◌, false, None, Some, IfOk, IsTrue, OnErr, OnOk};
 ghost use Rattle.std.specs.Option.{IfSome};
 ghost use Rattle.sqlite.specs.Held.{state};
@@ -24,9 +24,14 @@ use office_state::Office;
 use sqlite::{Alter, Connection, Error, ErrorCode};
 use std::alloc::Global;
 
-/// Recreates the tables of this layout in the layout of this program, in one transaction. Returns the lawful office
-/// that they hold. Returns `None`, and changes nothing, if they hold no lawful office of their version. Reads the rows
-/// twice: to test them, and to write them again.
+/// Recreates tables that are in `layout` in the layout that this program creates, in one transaction. Returns the
+/// office that they hold. Returns `None`, and changes nothing, if they hold no lawful office of the version of
+/// `layout`. Reads the rows twice: first to test them, then to copy them.
+///
+/// # Errors
+///
+/// Fails if the tables cannot be read or written. They are then unchanged, unless a fault closed the connection or
+/// the disk failed to return what was written.
 pub fn renewed_office<S: Alter>(
     alloc: Global,
     conn: &mut Connection<S>,
@@ -64,7 +69,7 @@ pub fn renewed_office<S: Alter>(
     Ok(Some(office))
 }
 
-// Reads the rows, and writes them into recreated tables.
+// Reads the rows of the tables, and recreates the tables with these rows.
 fn renew_read<S: Alter>(
     alloc: Global,
     conn: &mut Connection<S>,
@@ -88,7 +93,7 @@ fn renew_read<S: Alter>(
     Ok(())
 }
 
-// Recreates the tables with these rows, in one transaction.
+// Recreates the tables in the layout that this program creates, with these rows, in one transaction.
 fn renew<S: Alter>(
     alloc: Global,
     conn: &mut Connection<S>,

@@ -1,4 +1,4 @@
-//! Tables of an earlier version that lack a table whose name is taken.
+//! Decides how a migration fails if something has the name of a table that the earlier version lacks.
 ghost use Rattle.std.specs.Prelude.{◌≡◌, ◌⊎◌, false, IsSome};
 ghost use Rattle.std.specs.Option.{IfSome};
 ghost use Rattle.sqlite.specs.Held.{state};
@@ -22,10 +22,10 @@ use sqlite::{Alter, Connection};
 use sqlite_schema::schema::Schema;
 use std::alloc::Global;
 
-/// Returns why tables of this version are refused if something has the name of a table that they lack. Changes no
-/// table. The fault is `NotAnOffice` if the database begins with the tables of a layout of this version, and they do
-/// not hold the rows of an office of this version. It is `Unavailable` if the database fails or memory runs out.
-/// Otherwise it is `AlreadyThere`.
+/// Returns why a migration from this version fails if something has the name of a table that the version lacks.
+/// Changes no table. The fault is `NotAnOffice` if the schema begins with the tables of a layout of this version and
+/// they do not hold the rows of an office of this version. It is `Unavailable` if the database fails or memory runs
+/// out. Otherwise it is `AlreadyThere`.
 pub fn refused_for_name<S: Alter>(
     alloc: Global,
     conn: &mut Connection<S>,

@@ -20,7 +20,7 @@ pub fn is_of_version(office: &Office, version: u16) -> bool
     version >= 3 || lacks_leavers(office)
 }
 
-// Returns whether nobody has a grade, and no imported list is one of grades.
+// Returns whether nobody has a grade, and no imported list is a list of grades.
 fn lacks_grades(office: &Office) -> bool
     ensures { Decides result (LacksGrades office.now) }
 {

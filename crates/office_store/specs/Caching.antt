@@ -7,7 +7,7 @@ use Rattle.office_core.specs.Command.{changes_of}
 use Rattle.office_store.specs.declared.requests.Request.{Request}
 use Rattle.office_store.specs.declared.requests.Request.TheVariants as request
 
--- Applying one of the changes, each after those before it, needs memory.
+-- Applying the changes in turn needs memory for at least one of them.
 abbrev pub changes_allocate : Office → List Change → Bool
 changes_allocate office [] = false
 changes_allocate office (change ∷ changes) =

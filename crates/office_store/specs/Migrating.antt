@@ -1,4 +1,4 @@
--- Why no desk is opened over a database with tables of an earlier version.
+-- The causes for which `Desk::migrate` fails.
 use Rattle.std.specs.Prelude.{◌≡◌, ◌⊎◌, false, ⊤}
 use Rattle.sqlite_schema.specs.declared.schema.Schema.{Schema}
 use Rattle.sqlite.specs.Effect.{Database}
@@ -10,30 +10,33 @@ use Rattle.office_migration.specs.declared.migrating.MigrateFault.TheVariants as
 use Rattle.office_store.specs.declared.desk.faults.DeskFault.{DeskFault}
 use Rattle.office_store.specs.declared.desk.faults.DeskFault.TheVariants.{Unavailable, NotAnOffice, OtherVersion, AlreadyThere}
 
--- The database may be refused with this fault only for this cause. It is no office if nothing has the name of table `round`, or
--- if the tables are not those of an office of an earlier version.
+-- The cause that a database must have for `Desk::migrate` to refuse it with this fault. `Unavailable` needs no cause.
+-- For `NotAnOffice`, either nothing has the name of table `round`, or the tables do not hold the rows of an office of
+-- an earlier version (`HoldsNoEarlier`).
 abbrev pub MayNotMigrate : Database → DeskFault → Type 0
 MayNotMigrate db Unavailable = ⊤
 MayNotMigrate db NotAnOffice = (names_round db.schema ≡ false) ⊎ HoldsNoEarlier db
 MayNotMigrate db (OtherVersion version) = StatesVersion db version × IsNotEarlier version
 MayNotMigrate db AlreadyThere = HasNameTaken db
 
--- If the first three tables are an office's, whatever follows them, the database may be refused with this fault only as a
--- migration may refuse it.
+-- The cause that `Desk::migrate` must have to return this fault, if the schema begins with the first three tables of
+-- an office. It is the cause of the same fault of a migration (`MayReturn`), and does not depend on how the tables
+-- after the first three are declared.
 abbrev pub MayReturnFault : Database → DeskFault → Type 0
 MayReturnFault db Unavailable = ⊤
 MayReturnFault db NotAnOffice = MayReturn db migrate.NotAnOffice
 MayReturnFault db (OtherVersion version) = MayReturn db (migrate.OtherVersion version)
 MayReturnFault db AlreadyThere = MayReturn db migrate.AlreadyThere
 
--- Whatever the disk does, the schema allows this fault only as it allows that of a migration.
+-- The condition on the schema under which `Desk::migrate` may return this fault, whatever the disk does. It is the
+-- condition for the same fault of a migration (`IsAllowed`).
 abbrev pub IsFaultOfMigration : Schema → DeskFault → Type 0
 IsFaultOfMigration schema Unavailable = ⊤
 IsFaultOfMigration schema NotAnOffice = IsAllowed schema migrate.NotAnOffice
 IsFaultOfMigration schema (OtherVersion version) = IsAllowed schema (migrate.OtherVersion version)
 IsFaultOfMigration schema AlreadyThere = IsAllowed schema migrate.AlreadyThere
 
--- the fault of a desk for that of a migration
+-- converts the fault of a migration to the fault of a desk
 abbrev pub migrating_fault : MigrateFault → DeskFault
 migrating_fault migrate.Unavailable = Unavailable
 migrating_fault (migrate.OtherVersion version) = OtherVersion version

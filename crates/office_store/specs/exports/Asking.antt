@@ -18,8 +18,8 @@ use Rattle.office_schema.specs.tables.Tables.{HoldsOffice}
 use Rattle.office_schema.specs.tables.Queries.{alone}
 use Rattle.office_store.specs.exports.Exports.{exported}
 
--- Under the schema of an office, the text is a query that changes nothing. Over the rows of a lawful office, each answer has a
--- row for each record of the export, in its order.
+-- Under the schema of an office, the text is a query that changes nothing. Over the rows of a lawful office, it
+-- returns one row for each record of the export after the header, in the order of the export.
 pub record AsksForExport (kind : ExportKind) (text : List ℕ) (fields : Row → Record) : Type 0 where
   pub query : Query
   pub names : List (List ℕ)

@@ -12,17 +12,18 @@ abbrev pub sent_of : ExportEnd → ℕ
 sent_of (Fault sent) = sent
 sent_of (Unavailable sent) = sent
 
--- whether the device has failed after such an end, given whether it had failed before
+-- whether a write to the output has failed after this end, given whether one had failed before
 abbrev pub has_failed : Bool → ExportEnd → Bool
 has_failed before (Fault sent) = true
 has_failed before (Unavailable sent) = before
 
--- After a failed write, some of `size` bytes are unwritten. Any other early end may come after the last of them.
+-- An early end of an export of `size` bytes. After a failed write, fewer than `size` bytes were written. After any
+-- other failure, at most `size` bytes were.
 abbrev pub StopsWithin : ℕ → ExportEnd → Type 0
 StopsWithin size (Fault sent) = sent < size
 StopsWithin size (Unavailable sent) = sent ≤ size
 
--- Some bytes were written, as many as `count`.
+-- Exactly `count` bytes were written.
 abbrev pub PutsCount : Output → Output → ℕ → Type 0
 PutsCount before after count = (bytes : List ℕ) × Puts before after bytes × (length bytes ≡ count)
 
@@ -36,14 +37,15 @@ abbrev pub BeginsExport : ExportKind → List Record → Type 0
 BeginsExport kind [] = ⊤
 BeginsExport kind (header ∷ records) = header ≡ header_of kind
 
--- If no write failed, an early end comes between two records: whole records were written, as many bytes as the end says.
+-- Unless a write failed, the export ended between two records. Only whole records were written, and `sent` is the
+-- number of their bytes.
 abbrev pub EndsBetween : ExportKind → Output → Output → ExportEnd → Type 0
 EndsBetween kind before after (Fault sent) = ⊤
 EndsBetween kind before after (Unavailable sent) =
     (records : List Record) × BeginsExport kind records × Puts before after (export_bytes records)
     × (length (export_bytes records) ≡ sent)
 
--- The first `count` of these bytes were written, and there are at least as many.
+-- The first `count` of these bytes were written, and the list has at least `count` bytes.
 pub record PutsPrefix (before after : Output) (count : ℕ) (bytes : List ℕ) : Type 0 where
   pub written : Puts before after (take count bytes)
   pub within : count ≤ length bytes

@@ -18,12 +18,12 @@ use Rattle.office_schema.specs.rows.Rows.{move_rows}
 abbrev pub grade_row : Office → Text × Person → GradeRow
 grade_row office entry = record { person = entry.0; grade = grade_of office entry.0 }
 
--- all people by identifier, each with the grade
+-- all people, ordered by identifier, each with the grade
 abbrev pub grade_rows : Office → List GradeRow
 grade_rows office = map (grade_row office) (maps.entries office.people)
 
--- the rooms by code, the people by identifier, the moves by round and then by identifier, or the grades of all people by
--- identifier
+-- the records of an export: the rooms by code, the people by identifier, the moves by round and then by identifier,
+-- or the grades of all people by identifier
 abbrev pub exported : ExportKind → Office → List Record
 exported Rooms office = rooms_export (room_rows office)
 exported People office = people_export (person_rows office)

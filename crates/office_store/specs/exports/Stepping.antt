@@ -12,26 +12,27 @@ use Rattle.office_lists.specs.Exports.{record_bytes}
 use Rattle.office_lists.specs.Records.{Record}
 use Rattle.office_schema.specs.tables.Tables.{HoldsOffice}
 
--- If the connection is open, it was open before; and if it saw the last commit then, the tables and the last commit are
--- unchanged.
+-- If the connection is open, it was open before. If in addition it had no uncommitted changes before, the tables and
+-- the last commit are unchanged.
 abbrev pub KeepsTables : State → State → Type 0
 KeepsTables old new =
     IsTrue new.is_open → IsTrue old.is_open
     × (old.now ≡ old.committed → (new.now ≡ old.now) × (new.committed ≡ old.committed))
 
--- While the connection is open, the tables are the rows of this office. The office is lawful.
+-- While the connection is open, the tables hold the rows of this office. The office is lawful.
 pub record HoldsLawfulOffice (s : State) (office : Office) : Type 0 where
   pub tables : IsTrue s.is_open → HoldsOffice s.now office
   pub lawful : IsLawful office
 
 module _ {S : Type 0} (g : Ghosts S) where
-  -- The query of this text is at its start, over the rows of a lawful office.
+  -- The query with this text has returned no row yet. The tables hold the rows of a lawful office.
   pub record IsAtStart (text : List ℕ) (held : Held S) (office : Office) : Type 0 where
     pub begun : HasGiven g text [] held []
     pub holds : HoldsOffice (state g held).now office
     pub lawful : IsLawful office
 
-  -- The record is that of the next row of the running query. There is none only if all rows have been read.
+  -- The bytes are the record of the next row of the running query. `None` means that all rows have been read, if the
+  -- disk returned what was written.
   abbrev pub GivesRecord : (Row → Record) → Held S → Held S → Option (Vec ℕ Global) → Type 0
   GivesRecord fields old new None = HasCleanDisk (state g new) → Advances g old new None
   GivesRecord fields old new (Some bytes) =

@@ -23,29 +23,30 @@ use sqlite::{Alter, Connection};
 use std::alloc::Global;
 
 impl<S: Alter> Desk<S> {
-    /// Opens a desk over a database whose tables hold the rows of an office of an earlier version. Recreates the tables
-    /// in the version of this program, in one transaction. The desk shows the same office, whatever its phase: it has
-    /// no leavers, and no grades that it did not have before. Presupposes that each table with one of the ten names is
-    /// declared as that table of an office.
+    /// Opens a desk over a database whose tables hold the rows of an office of version 1 or 2. Migrates the tables to
+    /// the version of this program, in one transaction. The desk shows the same office, whatever its phase. This
+    /// office has no leavers, and no grades if its version was 1. Presupposes that each table with the name of one of
+    /// an office's ten tables is declared as that table. The call does not compare columns.
     ///
     /// # Errors
     ///
     /// The first of these that applies:
     ///
     /// - `NotAnOffice` if nothing has the name of table `round`.
-    /// - `Unavailable` if the first three tables do not have the names and places of an office's, or if there is a view
-    ///   (a table that the engine does not understand counts as one). No statement has run then.
+    /// - `Unavailable` if the first three tables are not `room`, `person` and `round`, each in the tree where an
+    ///   office keeps it, or if there is a view. Triggers, and tables that the engine does not understand, count as
+    ///   views. No statement has run then.
     /// - `NotAnOffice` if table `round` does not have exactly one row, `Unavailable` if the version in its row is not
     ///   an integer, or `OtherVersion` if that integer is neither 1 nor 2.
-    /// - If something has the name of a table that the version in that row lacks: `NotAnOffice` if the tables of a
-    ///   layout of that version come first and do not hold the rows of an office of that version, and otherwise
-    ///   `AlreadyThere`.
-    /// - `Unavailable` if the tables are in no known layout, or `NotAnOffice` if they do not hold the rows of an office
-    ///   of the version in the row.
+    /// - If something has the name of a table that the version in that row lacks (version 1 lacks `grade`, versions 1
+    ///   and 2 lack `going`): `NotAnOffice` if the schema begins with the tables of a layout of that version and they
+    ///   do not hold the rows of an office of that version. Otherwise `AlreadyThere`.
+    /// - `Unavailable` if the tables are in no known layout, or `NotAnOffice` if they do not hold the rows of an
+    ///   office of the version in that row.
     ///
-    /// If the database fails or memory runs out, `Unavailable` may take the place of each but the first. The error
-    /// returns the connection. Its tables are unchanged, unless a fault closed it or the disk failed to return what was
-    /// written.
+    /// If the database fails or memory runs out, the call may return `Unavailable` instead of any of these but the
+    /// first. The error returns the connection. The tables are unchanged, unless a fault closed the connection or the
+    /// disk failed to return what was written.
     pub fn migrate(alloc: Global, connection: Connection<S>) -> Result<Desk<S>, Back<S>>
         requires { connection.in_transaction ≡ false }
         ensures follows { IfOk result
@@ -115,7 +116,7 @@ impl<S: Alter> Desk<S> {
     }
 }
 
-// Returns the desk's fault for a failed migration.
+// Converts the fault of a migration to the fault of a desk.
 fn migrating_fault(fault: MigrateFault) -> DeskFault
     ensures { result ≡ migrating_fault fault }
 {

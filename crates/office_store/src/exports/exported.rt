@@ -1,4 +1,4 @@
-//! The query of each kind of export.
+//! The trait `Exported`, which gives each kind of export its query.
 ghost use Rattle.std.specs.Prelude.{◌≡◌, ℕ, IfOk, IfSome, List};
 ghost use Rattle.sqlite_value.specs.Order.{Row as Values};
 ghost use Rattle.office_lists.specs.Exports.{record_bytes};
@@ -11,13 +11,14 @@ use room_types::OutOfMemory;
 use sqlite::Row;
 use std::alloc::Global;
 
-/// A row of an export, as one query shows it.
+/// A type of row that an export writes. Its members specify the query that returns these rows, and the record that
+/// the export writes for each.
 pub trait Exported {
     /// The kind of the export.
     ghost kind: { Kind };
-    /// The text of the query, in the order of the export.
+    /// The text of the query, which returns the rows in the order of the export.
     ghost text: { List ℕ };
-    /// The fields of the record of a row that the query shows.
+    /// Maps a row of the query to the fields of its record.
     ghost fields: { Values → Record };
 
     /// Returns the kind of the export.
@@ -29,7 +30,8 @@ pub trait Exported {
         ensures text { result.now ≡ text }
         ensures asks { AsksForExport kind text fields };
 
-    /// Returns the bytes of the record of a row that the query shows, or `None` if the row is in another form.
+    /// Returns the bytes of the record for a row of the query, or `None` if the row has an unexpected form. Fails if
+    /// an allocation fails.
     fn row_bytes(alloc: Global, row: &Row) -> Result<Option<Vec<u8>>, OutOfMemory>
         ensures { IfOk result
             (λ found. IfSome found (λ bytes. bytes.items ≡ record_bytes (fields row.now))) };
