@@ -1,4 +1,4 @@
-//! Requests, and desks in memory that handle them.
+//! Functions that make requests, and functions that handle requests at desks in memory.
 use office_core::Command;
 use office_lines::{ParsedLine, parse_line};
 use office_state::Office;
@@ -7,7 +7,7 @@ use room_types::{Label, ListKind, Listing, OutOfMemory};
 use sqlite::MemStore;
 use std::alloc::Global;
 
-/// The requests of the lines of these texts.
+/// Parses each line of these texts and returns the requests. Skips lines that are no request.
 pub fn parse_requests(alloc: Global, texts: &[&str]) -> Result<Vec<Request>, OutOfMemory> {
     let mut requests = Vec::new(alloc);
     for text in texts {
@@ -16,7 +16,7 @@ pub fn parse_requests(alloc: Global, texts: &[&str]) -> Result<Vec<Request>, Out
     Ok(requests)
 }
 
-/// Appends the requests of these lines.
+/// Appends the requests of these lines. Skips lines that are no request.
 pub fn ask_lines(
     alloc: Global,
     requests: &mut Vec<Request>,
@@ -30,7 +30,7 @@ pub fn ask_lines(
     Ok(())
 }
 
-/// Appends the request to import this list.
+/// Appends a request to import this list of this kind under the label.
 pub fn ask_list(
     alloc: Global,
     requests: &mut Vec<Request>,
@@ -60,7 +60,7 @@ fn list_command(
     })
 }
 
-/// Drops the desk. All tests drop theirs here, so that dropping one is proved in one place.
+/// Drops the desk. All tests drop their desks here, so that one proof covers every drop.
 pub fn drop_desk(desk: Desk<MemStore>) {
     drop(desk);
 }
@@ -74,7 +74,7 @@ pub fn is_replied<H: Handler>(alloc: Global, handler: &mut H, request: &Request)
     matches!(answer, Answer::Reply(_))
 }
 
-// Handles the request and returns whether the answer is anything but unavailable.
+// Handles the request. Returns whether the answer is anything but `Unavailable`.
 fn is_answered<H: Handler>(alloc: Global, handler: &mut H, request: &Request) -> bool
     requires { H.is_ready handler.old }
     ensures { H.is_ready handler.new }
@@ -83,7 +83,7 @@ fn is_answered<H: Handler>(alloc: Global, handler: &mut H, request: &Request) ->
     !matches!(answer, Answer::Unavailable)
 }
 
-/// Handles these requests. Fails at the first answer that is unavailable.
+/// Handles these requests in turn. Fails at the first answer that is `Unavailable`.
 pub fn furnish(
     alloc: Global,
     desk: &mut Desk<MemStore>,
@@ -97,7 +97,8 @@ pub fn furnish(
     Ok(())
 }
 
-/// The office of a desk in memory after these requests.
+/// Handles these requests at a new desk in memory, and returns the office that the desk then loads. Fails if there is
+/// no desk, an answer is `Unavailable`, or the office cannot be loaded.
 pub fn office_after(alloc: Global, requests: &[Request]) -> Result<Office, OutOfMemory> {
     let Ok(mut desk) = Desk::in_memory(alloc) else {
         return Err(OutOfMemory {});

@@ -1,5 +1,5 @@
-//! Tests of calls that fail: files that stop working at each of their calls, and allocations that fail one by one. And tests of
-//! each request in each phase, which must not fail if no allocation does.
+//! Tests in which calls fail: a file stops working at each of its calls in turn, and each allocation fails in turn.
+//! Other tests make each request in each phase, where no call fails if no allocation does.
 #![tactic(auto)]
 
 #[cfg(test)]

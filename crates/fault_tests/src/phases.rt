@@ -1,5 +1,5 @@
-//! Tests of each request in each phase of a round, at a desk of its own with a hundred people and a hundred rooms. The request
-//! gets a reply if the phase allows it, and otherwise a refusal for the phase.
+//! Tests of each request in each phase of a round, at a desk of its own with a hundred people and a hundred rooms.
+//! The request gets a reply if the phase allows it, and otherwise a refusal for the phase.
 use crate::asking::{ask_lines, ask_list, drop_desk, is_replied, parse_requests};
 use office_core::Refusal;
 use office_store::{Answer, Desk, Handler, Request};
@@ -7,10 +7,10 @@ use room_types::{ListKind, OutOfMemory, Phase};
 use sqlite::MemStore;
 use std::alloc::{AllocError, Global};
 
-// The number of people, and of rooms.
+// The number of people, which is also the number of rooms.
 const MANY: u16 = 100;
 
-// Each phase, and the number of the requests below that lead to it.
+// Each phase, and how many of the requests of `steps` lead to it.
 const PHASES: [(Phase, usize); 6] = [
     (Phase::Idle, 6),
     (Phase::Opened, 9),
@@ -22,7 +22,7 @@ const PHASES: [(Phase, usize); 6] = [
 
 const ALL: &str = "idle open closed drawn ran published";
 
-// Lines, each with the phases that allow it.
+// Lines, each with the names of the phases that allow it.
 const ASKED: [(&str, &str); 26] = [
     ("room H200", "idle open"),
     ("person E200 key0000000000200 Ann Ash", "idle open"),
@@ -61,7 +61,7 @@ fn answers_each_request_only_in_its_phases(rt: HostRuntime) {
     }
 }
 
-// The requests besides `ASKED`, and the steps that lead through the phases.
+// The requests of `steps`, which lead through the phases, and the tested requests that are not in `ASKED`.
 #[derive(Drop)]
 struct Asked {
     steps: Vec<Request>,
@@ -79,7 +79,8 @@ fn all_asked(alloc: Global) -> Result<Asked, OutOfMemory> {
     })
 }
 
-// The kind of request whose answer does not fit this phase, or an empty text if all fit.
+// Returns which kind of request gets an answer that does not fit the phase, or an empty text if all answers fit. The
+// first `made` steps lead to the phase.
 fn misfit(alloc: Global, asked: &Asked, phase: Phase, made: usize) -> &'static str {
     let reached = Reached {
         steps: &asked.steps,
@@ -99,7 +100,7 @@ fn misfit(alloc: Global, asked: &Asked, phase: Phase, made: usize) -> &'static s
     }
 }
 
-// A number of steps to take, and the phase that they lead to.
+// The first `made` of the steps lead to the phase.
 #[derive(Drop)]
 struct Reached<'a> {
     steps: &'a [Request],
@@ -107,8 +108,8 @@ struct Reached<'a> {
     phase: Phase,
 }
 
-// The requests that lead through the phases. A first round is cancelled, so that it is over and nobody has moved. In the second
-// round a person leaves the college.
+// The requests that lead through the phases. The first round is cancelled, so a round is over in which nobody moved.
+// In the second round a person leaves the college.
 fn steps(alloc: Global) -> Result<Vec<Request>, OutOfMemory> {
     let mut steps = Vec::new(alloc);
     ask_many(alloc, &mut steps, ListKind::Rooms)?;
@@ -127,7 +128,8 @@ fn ask_many(alloc: Global, requests: &mut Vec<Request>, kind: ListKind) -> Resul
     ask_list(alloc, requests, kind, kind.as_str(), list.as_str())
 }
 
-// A list of `MANY` records. The first half of the people have a home, and each person lists the next room and the one after it.
+// A list of `MANY` records. The first half of the people have a home. Each person lists two rooms: the next one and
+// the one after it.
 fn list(alloc: Global, kind: ListKind) -> Result<String, OutOfMemory> {
     let mut list = String::from_str(
         alloc,
@@ -161,7 +163,7 @@ fn record(alloc: Global, kind: ListKind, number: u16) -> Result<String, AllocErr
     }
 }
 
-// A draw line with a word for each person but the leaver.
+// A draw line with one word for each person except the one who leaves the college.
 fn draw_line(alloc: Global) -> Result<String, OutOfMemory> {
     let mut line = String::from_str(alloc, "draw")?;
     for number in 1..MANY {
@@ -170,7 +172,7 @@ fn draw_line(alloc: Global) -> Result<String, OutOfMemory> {
     Ok(line)
 }
 
-// Imports of lists of rooms, people and grades that are not imported yet.
+// Requests to import a list of rooms, one of people and one of grades. The steps import none of these lists.
 fn registers(alloc: Global) -> Result<Vec<Request>, OutOfMemory> {
     let people = "person,name,key,home\nE300,Pat,key0000000000300,\n";
     let mut requests = Vec::new(alloc);
@@ -181,7 +183,7 @@ fn registers(alloc: Global) -> Result<Vec<Request>, OutOfMemory> {
     Ok(requests)
 }
 
-// An import of a list of choices that is not imported yet.
+// A request to import a list of choices that the steps do not import.
 fn choices(alloc: Global) -> Result<Vec<Request>, OutOfMemory> {
     let choices = "person,choices\nE95,H95\n";
     let mut requests = Vec::new(alloc);
@@ -189,7 +191,7 @@ fn choices(alloc: Global) -> Result<Vec<Request>, OutOfMemory> {
     Ok(requests)
 }
 
-// Whether the answer to each line fits the phase.
+// Whether each line of `ASKED` gets an answer that fits the phase.
 fn lines_fit(alloc: Global, reached: &Reached<'_>) -> bool {
     for (line, phases) in &ASKED {
         if !line_fits(alloc, reached, line, phases) {
@@ -206,7 +208,8 @@ fn line_fits(alloc: Global, reached: &Reached<'_>, line: &str, phases: &str) -> 
     }
 }
 
-// Whether the answer to each of the requests, at a desk of its own, fits the phases that allow it.
+// Handles each request at a new desk in the phase, and returns whether all answers fit. If `phases` names the phase,
+// a request must get a reply, and otherwise a refusal for the phase.
 fn all_fit(alloc: Global, reached: &Reached<'_>, requests: &[Request], phases: &str) -> bool {
     let phase = reached.phase;
     let belongs = phases.split(' ').any(|word| word == phase.as_str());
@@ -226,7 +229,8 @@ fn fits(answer: &Option<Answer>, phase: Phase, belongs: bool) -> bool {
     }
 }
 
-// The answer of a new desk after the steps, or `None` if there is no desk or a step gets no reply.
+// Takes the steps at a new desk and returns its answer to the request. Returns `None` if there is no desk or a step
+// gets no reply.
 fn answer_after(alloc: Global, reached: &Reached<'_>, request: &Request) -> Option<Answer> {
     let Ok(mut desk) = Desk::in_memory(alloc) else {
         return None;
@@ -236,7 +240,7 @@ fn answer_after(alloc: Global, reached: &Reached<'_>, request: &Request) -> Opti
     answer
 }
 
-// The answer after all steps, or `None` if a step gets no reply.
+// Takes the steps at this desk and returns its answer to the request. Returns `None` if a step gets no reply.
 fn answer_at(
     alloc: Global,
     desk: &mut Desk<MemStore>,

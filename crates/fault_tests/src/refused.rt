@@ -1,8 +1,8 @@
-//! Tests of calls of the desk and below it while one allocation fails. Whichever allocation it is, each call returns what it
-//! would with enough memory after the commands that were accepted before, or reports that it is out of memory, which at most
-//! one call does; and the tables hold the office after exactly the accepted commands. The failing allocator is put under these
-//! tests from outside (`bench/memory.sh`). Run alone they have enough memory, and then no call may report that it is out of
-//! memory.
+//! Tests of calls of the desk, and of the functions that the desk uses, while one allocation fails. Whichever
+//! allocation fails, at most one call reports that it is out of memory. Each other call returns what it would return
+//! with enough memory after the commands accepted before it. The tables hold the office after exactly the accepted
+//! commands. `bench/memory.sh` runs these tests with an allocator that fails. Without it no allocation fails, and
+//! then no call may report that it is out of memory.
 mod adopting;
 mod exporting;
 mod lists;
@@ -29,10 +29,10 @@ use std::env;
 use std::env::VarError;
 use std::test::Fail;
 
-// Requests that the office refuses after the register.
+// Lines after the register, each of which the office refuses.
 const REFUSED: &str = "room V\nhome N H9\nrun\n";
 
-// Each query, also queries that are refused, and the settlement.
+// A line for each query, queries that are refused, and the settlement.
 const QUERIES: &str = "\
 rooms\n\
 people\n\
@@ -51,8 +51,8 @@ moves 1\n\
 order\n\
 me key000000000000n\n";
 
-// A round that is run, and queries of what another list would give. N asks first, for a home: its tenant moves with the other
-// one.
+// A round up to its run, and queries about other lists. N is first in the order and asks for the home of T1, who
+// swaps with T2.
 const NEWCOMER_FIRST: &str = "\
 open\n\
 choose T1 H2\n\
@@ -64,7 +64,7 @@ run\n\
 whatif N V\n\
 whatif T1 V H2\n";
 
-// T1 moves out, and T1's home goes to the first of the others.
+// T1 moves out, and the first newcomer in the order gets T1's home.
 const VACATED: &str = "\
 room H1\n\
 room V\n\
@@ -81,7 +81,7 @@ draw 0000000000000002 0000000000000003 0000000000000001\n\
 run\n\
 whatif N2 V H1\n";
 
-// T2 moves into the vacant room, and T1 into T2's.
+// T2 moves into the vacant room, and T1 into T2's room.
 const CHAIN: &str = "\
 open\n\
 choose T1 H2\n\
@@ -92,7 +92,7 @@ draw 0000000000000001 0000000000000002\n\
 run\n\
 whatif T1\n";
 
-// A round in which T2 is to leave the college, and that is cancelled.
+// A round in which T2 plans to leave the college. The round is cancelled.
 const LEAVERS: &str = "\
 grade N 2\n\
 grade T9 1\n\
@@ -107,7 +107,7 @@ round\n\
 cancel\n\
 round\n";
 
-// Queries after the next round, in which T2 leaves, and its settlement.
+// Queries after the next round, in which T2 leaves the college, and the settlement of that round.
 const AFTER_LEAVING: &str = "\
 me key00000000000t2\n\
 order\n\
@@ -116,7 +116,7 @@ settle\n\
 moves 2\n\
 people\n";
 
-// The rest of the round.
+// Lines that close, draw, run, publish and settle an open round of three people.
 const ROUND_OF_THREE: &str = "\
 close\n\
 draw 0000000000000005 0000000000000006 0000000000000007\n\
@@ -124,13 +124,13 @@ run\n\
 publish\n\
 settle\n";
 
-// The third person is in the office already.
+// A list of people of whom the third is in the office already.
 const KNOWN_THIRD: &str = "person,name,key,home\n\
 E4,Di Day,key00000000000e4,\n\
 E5,Ed Eel,key00000000000e5,\n\
 E1,Ann Ash,key00000000000e1,H1\n";
 
-// The people with an additional empty line.
+// The list `PEOPLE` with an empty line at its end.
 const PEOPLE_AND_A_LINE: &str = "\u{feff}person,name,key,home\r\n\
 E1,Ann Ash,key00000000000e1,H1\r\n\
 E2,\"Bo, B.\",key00000000000e2,\r\n\
@@ -138,7 +138,7 @@ E3,Cy Coy,key00000000000e3,\r\n\n";
 
 const HEADER: &str = "person,name,key,home\n";
 
-// The second person is unknown.
+// A list of grades. Its second record names an unknown person.
 const UNKNOWN_SECOND: &str = "person,grade\nE1,1\nE9,1\n";
 
 #[test]
@@ -246,7 +246,8 @@ fn writes_rows(rt: HostRuntime) {
     assert!(rt; ended_well(&rt, rows_are_sent(rt.alloc())));
 }
 
-// Whether the scenario passed, or it was out of memory while allocations fail from outside.
+// Whether the scenario passed. A scenario that was out of memory passes only if `ROOMS_REFUSE` is set, as it is while
+// allocations fail.
 fn ended_well(rt: &HostRuntime, ended: Result<bool, OutOfMemory>) -> bool {
     match ended {
         Ok(is_right) => is_right,
@@ -258,7 +259,8 @@ fn allocations_fail(rt: &HostRuntime) -> bool {
     !matches!(env::var(rt, "ROOMS_REFUSE"), Err(VarError::NotPresent))
 }
 
-/// The verdict on a scenario that passed except for the given number of calls that were out of memory. At most one may be.
+/// Returns the verdict on a scenario in which `failures` calls were out of memory and all other calls were correct.
+/// Returns `true` if `failures` is 0, an error if it is 1, and `false` if it is more.
 pub fn verdict(failures: usize) -> Result<bool, OutOfMemory> {
     match failures {
         0 => Ok(true),
@@ -296,7 +298,7 @@ fn other_list_matches(alloc: Global, texts: &[&str]) -> Result<bool, OutOfMemory
     matches_replay(alloc, &requests, 0)
 }
 
-// Imports of lists, and a round. Then an import of a known list, unchanged and changed, and of others that are bad or empty.
+// Imports lists and holds a round. Then imports a known list, unchanged and changed, and lists that are bad or empty.
 fn imports_match(alloc: Global) -> Result<bool, OutOfMemory> {
     let mut requests = Vec::new(alloc);
     ask_list(alloc, &mut requests, ListKind::Rooms, "r-1", ROOMS)?;

@@ -1,4 +1,4 @@
-//! Equality of offices. It does not allocate.
+//! Compares offices without allocating.
 use office_state::{Assigned, Moved, Office, Person, RoundMoves, StoredImport};
 use room_types::{Choices, Grade, Word};
 
@@ -66,7 +66,7 @@ fn has_records(one: &Office, other: &Office) -> bool {
         && has_moves(other, one)
 }
 
-// Whether the other office has all moves of this one.
+// Whether `other` has all moves of `one`.
 fn has_moves(one: &Office, other: &Office) -> bool {
     one.moves
         .iter()

@@ -1,6 +1,7 @@
-//! Tests of offices in two files of which one stops working, at each of its calls in turn. Everything that may then be left of
-//! the two files is opened again. It holds the office before the command that was stopped or the one after it, and the latter
-//! if the command got a reply. Migrated tables of an earlier version are all as before, or all of this version.
+//! Tests of offices in two files, one of which stops working at each of its calls in turn. After each stop the test
+//! opens everything that may be left of the two files. It must find the office before the command that was stopped or
+//! the one after it. If the command got a reply, it must find the one after it. After a stopped migration, all tables
+//! must be as before, or all of this version.
 mod files;
 mod stories;
 mod visits;
@@ -20,20 +21,20 @@ use std::io;
 use std::process::Abort;
 use std::test::Fail;
 
-// No story makes more calls of a file.
+// No story makes this many calls of a file.
 const MOST_CALLS: u64 = 5_000;
 
-// How far a story came, and its files.
+// How far a run of a story came, and its files.
 #[derive(Drop)]
 struct Ran {
     observed: Observed,
     files: Files<StoppingFile>,
 }
 
-// How far a story came, as its caller saw it.
+// How far a run of a story came, as the caller saw it.
 #[derive(Clone, Copy, Drop)]
 struct Observed {
-    // The fault if there was no desk.
+    // The fault, or `None` if there was a desk.
     fault: Option<DeskFault>,
     // The number of requests that got a reply.
     answered: usize,
@@ -46,8 +47,9 @@ impl Observed {
     }
 }
 
-// The number of stops, of offices found after them, and of those among them that are the office after a command without an
-// answer or the one before it.
+// `stops` counts the runs in which a file stopped, and `found` counts the contents of files that were opened after
+// runs. `after` counts those contents that have the effect of the command or migration without an answer. `before`
+// counts those that do not have it.
 #[derive(Clone, Copy, Drop)]
 struct Count {
     stops: usize,
@@ -104,7 +106,7 @@ fn migrates_earlier_versions_whole(rt: HostRuntime) -> Result<(), Fail> {
     Ok(())
 }
 
-// A test of its own, because each test has its own time limit.
+// This is a test of its own, because each test has its own time limit.
 #[test]
 fn migrates_tables_of_the_earlier_program_whole(rt: HostRuntime) -> Result<(), Fail> {
     let count = count_from_tables(&rt, rt.alloc(), &EARLIER_FIRST);
@@ -127,7 +129,8 @@ fn stores_imports_whole(rt: HostRuntime) -> Result<(), Fail> {
     Ok(())
 }
 
-// Whether offices from before commands without an answer were found, and some from after them.
+// Whether the counts include offices with the effect of an unanswered command and offices without it. There must also
+// be stops, and more contents opened than stops.
 fn is_on_both_sides(count: Count) -> bool {
     count.stops > 0 && count.found > count.stops && count.after > 0 && count.before > 0
 }
@@ -140,14 +143,15 @@ fn print_count(rt: &HostRuntime, what: &str, count: Count) -> io::Result<()> {
     )
 }
 
-// Runs the story with its log stopping, and with its database file stopping.
+// Runs the story while its log stops, and then while its database file stops. Adds up the counts.
 fn both_stopped(alloc: Global, story: &Story) -> Result<Count, &'static str> {
     let count = each_stopped(alloc, story, true, NONE)?;
     each_stopped(alloc, story, false, count)
 }
 
-// Runs the story with a file that stops at its first call, at its second, and so on, until all requests get a reply and both
-// files still work.
+// Runs the story again and again: the file stops at its first call, then at its second, and so on. Ends after the run
+// in which all requests get a reply and both files still work. The log stops if `is_log`, and otherwise the database
+// file.
 fn each_stopped(
     alloc: Global,
     story: &Story,
@@ -155,7 +159,7 @@ fn each_stopped(
     mut count: Count,
 ) -> Result<Count, &'static str> {
     for passed in 0..MOST_CALLS {
-        let mut ran = run(alloc, story, calls_of(is_log, passed)).ok_or("memory is wanting")?;
+        let mut ran = run(alloc, story, calls_of(is_log, passed)).ok_or("out of memory")?;
         if !may_be_unavailable(ran.observed) {
             return Err("a file that stops is refused for another cause");
         }
@@ -169,7 +173,8 @@ fn each_stopped(
     Err("the file is called without end")
 }
 
-// Whether there was a desk, or it was unavailable: also if the tables can be read and cannot be migrated.
+// Whether the run got a desk, or got none because of the fault `Unavailable`. No other fault is allowed, not even if
+// the tables can be read but not migrated.
 fn may_be_unavailable(observed: Observed) -> bool {
     matches!(observed.fault, None | Some(DeskFault::Unavailable))
 }
@@ -188,7 +193,7 @@ fn calls_of(is_log: bool, passed: u64) -> Calls {
     }
 }
 
-// Whether nothing was stopped.
+// Whether the run got a desk and a reply to each request, and both files still work.
 fn is_whole(story: &Story, ran: &mut Ran) -> bool {
     ran.observed.is_open()
         && ran.observed.answered == story.requests.len()
@@ -212,7 +217,8 @@ fn run(alloc: Global, story: &Story, calls: Calls) -> Option<Ran> {
     Some(Ran { observed, files })
 }
 
-// Opens everything that may be left of the files.
+// Opens each content that may be left of the log with each one that may be left of the database file. Counts the
+// offices found, and fails at one that the story does not allow.
 fn looked_at(
     alloc: Global,
     story: &Story,
@@ -223,15 +229,16 @@ fn looked_at(
         observed,
         files: Files { log, db },
     } = ran;
-    let logs = contents_left(alloc, log).ok_or("memory is wanting")?;
-    let databases = contents_left(alloc, db).ok_or("memory is wanting")?;
+    let logs = contents_left(alloc, log).ok_or("out of memory")?;
+    let databases = contents_left(alloc, db).ok_or("out of memory")?;
     for log in &logs {
         count = looked_at_with(alloc, story, observed, log.as_slice(), &databases, count)?;
     }
     Ok(count)
 }
 
-// Opens this log with each of the database files.
+// Opens this log with each of the database files. Counts the offices found, and fails at one that the story does not
+// allow.
 fn looked_at_with(
     alloc: Global,
     story: &Story,
@@ -246,7 +253,7 @@ fn looked_at_with(
     Ok(count)
 }
 
-// Opens this log with this database file.
+// Opens this log with this database file. Counts the office found, or fails if the story does not allow it.
 fn found_judged(
     alloc: Global,
     story: &Story,
@@ -255,20 +262,21 @@ fn found_judged(
     database: &[u8],
     count: Count,
 ) -> Result<Count, &'static str> {
-    let found = office_in(alloc, log, database, Opening::Held).ok_or("memory is wanting")?;
+    let found = office_in(alloc, log, database, Opening::Held).ok_or("out of memory")?;
     if is_earlier(&found) && story.opening == Opening::Earlier && !observed.is_open() {
-        let found = office_in(alloc, log, database, Opening::Earlier).ok_or("memory is wanting")?;
+        let found = office_in(alloc, log, database, Opening::Earlier).ok_or("out of memory")?;
         return earlier_judged(story, &found, count);
     }
     judged(story, observed, &found, count)
 }
 
-// Whether the tables are of an earlier version.
+// Whether opening failed because the tables are of an earlier version.
 fn is_earlier(found: &Result<Office, DeskFault>) -> bool {
     matches!(found, Err(DeskFault::OtherVersion(1 | 2)))
 }
 
-// Counts tables of an earlier version, if they hold the office to be migrated.
+// Counts the migrated office as one from before the migration. Fails if it is not the office at the start of the
+// story.
 fn earlier_judged(
     story: &Story,
     found: &Result<Office, DeskFault>,
@@ -284,7 +292,8 @@ fn earlier_judged(
     }
 }
 
-// The office in these bytes, or why there is none. `None` if an allocation fails.
+// Opens files with these bytes. Returns the office, or the fault if there is no desk or no office can be loaded.
+// Returns `None` if the files cannot be allocated.
 fn office_in(
     alloc: Global,
     log: &[u8],
@@ -309,7 +318,7 @@ fn office_read(visited: Visited) -> Result<Office, DeskFault> {
     }
 }
 
-// Counts the office that was found, if the story allows it.
+// Counts the office found, or fails if the story does not allow it.
 fn judged(
     story: &Story,
     observed: Observed,
@@ -335,12 +344,12 @@ fn judged(
     Err("the office is neither the one before the command nor the one after it")
 }
 
-// Whether tables of an earlier version were to be migrated, and the caller got no desk.
+// Whether the story migrates tables of an earlier version, and the caller got no desk.
 fn is_unreported_migration(story: &Story, observed: Observed) -> bool {
     story.opening == Opening::Earlier && !observed.is_open()
 }
 
-// An office may be missing only if creating it did not succeed.
+// Allows that the files hold no office, if the story creates one and the caller got no desk. Fails otherwise.
 fn fault_judged(
     story: &Story,
     observed: Observed,
@@ -355,7 +364,7 @@ fn fault_judged(
     }
 }
 
-// Whether this is the office after the given number of requests.
+// Whether this is the office after the first `made` requests of the story.
 fn is_nth(story: &Story, made: usize, found: &Office) -> bool {
     match story.offices.get(made) {
         Some(office) => is_same_office(office, found),

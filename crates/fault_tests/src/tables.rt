@@ -1,12 +1,12 @@
-//! Offices in tables of an earlier version, or in the documented order, as statements create them.
+//! Statements that create the tables of an office. The tables are of an earlier version, or in the documented order.
 use crate::texts::{REGISTER, ROUND};
 
-/// Tables of an office, and lines that lead to the same office.
+/// Statements that create the tables of an office, and lines that lead to the same office.
 #[derive(Clone, Copy, Drop)]
 pub struct Tables {
-    /// The statements that create them.
+    /// The statements that create the tables.
     pub statements: &'static [&'static str],
-    /// Whether they are of an earlier version, so that they have to be migrated and cannot be adopted.
+    /// Whether the tables are of an earlier version, so that a desk has to migrate them and cannot adopt them.
     pub are_earlier: bool,
     pub lines: &'static [&'static str],
 }
@@ -41,7 +41,7 @@ const GRADE_TABLE: &str =
 const GOING_TABLE: &str =
     "CREATE TABLE going(person TEXT PRIMARY KEY NOT NULL REFERENCES person(id)) STRICT;";
 
-// The rows that the register and the round leave.
+// The rows that `REGISTER` and `ROUND` leave in the tables.
 const ROWS: &str = "INSERT INTO room VALUES ('H1', 0), ('H2', 0), ('V', 0);
 INSERT INTO person VALUES ('T1', 'Tim Tan', 'key00000000000t1', 'H1', 0);
 INSERT INTO person VALUES ('T2', 'Tom Tao', 'key00000000000t2', 'H2', 0);

@@ -11,7 +11,8 @@ person N key000000000000n Nia Noor\n\
 home T1 H1\n\
 home T2 H2\n";
 
-/// A round of these people in which everybody moves, until the results are published. The order is T1, T2, N.
+/// Lines of a round in which all three people of `REGISTER` move, up to the publication of the results. The order is
+/// T1, T2, N.
 pub const ROUND: &str = "\
 open\n\
 choose T1 H2\n\
@@ -22,8 +23,8 @@ draw 0000000000000003 0000000000000001 0000000000000002\n\
 run\n\
 publish\n";
 
-/// A round of these people in which T2 leaves the college, until the results are published. T1 gets T2's room. N, who has a
-/// later grade, gets T1's.
+/// Lines of a round in which T2 leaves the college, up to the publication of the results. T1 gets T2's room. N, who
+/// has a later grade, gets T1's room.
 pub const LEAVING: &str = "\
 grade N 2\n\
 grade T1 1\n\
@@ -41,14 +42,14 @@ publish\n";
 /// Two rooms.
 pub const ROOMS: &str = "room\nH1\nH2\n";
 
-/// Three people, of whom one has a home, with a byte order mark, records that end as on Windows, and quotes.
+/// Three people, one of whom has a home. The list has a byte order mark, records that end as on Windows, and quotes.
 pub const PEOPLE: &str = "\u{feff}person,name,key,home\r\n\
 E1,Ann Ash,key00000000000e1,H1\r\n\
 E2,\"Bo, B.\",key00000000000e2,\r\n\
 E3,Cy Coy,key00000000000e3,\r\n";
 
-/// Their grades. One person has two records.
+/// Grades of the people in `PEOPLE`. One person has two records.
 pub const GRADES: &str = "person,grade\nE2,3\nE1,0\nE3,9\nE2,1\n";
 
-/// The list of one of them.
+/// The choices of one person in `PEOPLE`.
 pub const CHOICES: &str = "person,choices\nE1,H2\n";

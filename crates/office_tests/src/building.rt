@@ -1,4 +1,4 @@
-//! Values and requests as tests write them. A text that is not a value ends the test.
+//! Values and requests from texts. A text that does not parse ends the test.
 use office_core::{Command, Office};
 use office_lines::{ParsedLine, parse_line};
 use office_store::{Answer, Desk, Request};
@@ -71,7 +71,7 @@ pub fn is_bare(office: &Office) -> bool {
     people && lists && others && draw && moves && rounds
 }
 
-/// The requests of these lines.
+/// Parses each of these lines and returns the requests. Ends the test at a line that is no request.
 pub fn parse_requests(rt: &impl Abort, alloc: Global, lines: &str) -> Vec<Request> {
     let mut requests = Vec::new(alloc);
     for line in lines.lines() {

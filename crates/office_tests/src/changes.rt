@@ -1,4 +1,4 @@
-//! A test that stores two batches of changes, of all kinds, in a database in memory, with enough memory.
+//! A test that stores changes of all kinds, in two batches, in a database in memory, with enough memory.
 use crate::asserting::assert_same;
 use crate::building::{choices, text};
 use office_core::{Change, Office, apply};
@@ -9,7 +9,7 @@ use sqlite::{Connection, MemStore};
 use std::alloc::Global;
 use std::process::Abort;
 
-// Queries, and their counts after the changes.
+// Queries that count rows, each with its count after the changes.
 const STORED: [(&str, i64); 13] = [
     (
         "SELECT count(*) FROM room WHERE code = 'H1' AND shut = 1",
@@ -75,13 +75,13 @@ fn store(
     store_changes(alloc, conn, office, changes).expect(rt, "changes are stored");
 }
 
-// The number that the query counts.
+// Returns the number that the query counts.
 fn count(rt: &impl Abort, conn: &mut Connection<MemStore>, query: &str) -> i64 {
     let row = conn.query_row(query, &[]).expect(rt, query);
     row.get(0).expect(rt, query)
 }
 
-// Adds a person without a home.
+// The change that adds a person without a home.
 fn newcomer(rt: &impl Abort, alloc: Global, id: &str, key: &str) -> Change {
     Change::PutPerson {
         person: text(rt, alloc, id),

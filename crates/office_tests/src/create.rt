@@ -1,4 +1,4 @@
-//! Tests of creating an office, and of each statement over its tables, with enough memory.
+//! Tests of creating an office, and of each statement that changes its tables, with enough memory.
 use crate::asserting::assert_same;
 use crate::building::text;
 use office_db::creation::{CreateFault, create};
@@ -38,7 +38,7 @@ fn leaves_other_tables_unchanged(rt: HostRuntime) {
     assert!(rt; count(&rt, &mut conn, others) == 0);
 }
 
-// Each name of a table of an office may be taken.
+// Creating an office fails if the name of one of its ten tables is taken. The case of letters does not matter.
 #[test]
 fn refuses_names_that_are_taken(rt: HostRuntime) {
     for name in [
@@ -48,7 +48,7 @@ fn refuses_names_that_are_taken(rt: HostRuntime) {
     }
 }
 
-// Whether a table of this name prevents that an office is created.
+// Whether creating an office fails because there is a table of this name.
 fn is_taken(rt: &impl Abort, alloc: Global, name: &str) -> bool {
     let mut conn = Connection::open_in_memory(alloc).expect(rt, "memory");
     let declared = format!(in alloc; "CREATE TABLE {name}(text TEXT)").expect(rt, "memory");
@@ -57,19 +57,19 @@ fn is_taken(rt: &impl Abort, alloc: Global, name: &str) -> bool {
     outside && create(&mut conn) == Err(CreateFault::AlreadyThere)
 }
 
-// Whether creating an office there fails as unavailable.
+// Whether creating an office in this database fails as unavailable.
 fn is_refused(conn: &mut Connection<MemStore>) -> bool {
     let outside = conn.is_autocommit();
     outside && create(conn) == Err(CreateFault::Unavailable)
 }
 
-// The number that the query counts.
+// Returns the number that the query counts.
 fn count(rt: &impl Abort, conn: &mut Connection<MemStore>, query: &str) -> i64 {
     let row = conn.query_row(query, &[]).expect(rt, query);
     row.get(0).expect(rt, query)
 }
 
-// Queries, and their counts once each table has one row.
+// Queries that count rows, each with its count once each table has one row.
 const ADDED: [(&str, i64); 9] = [
     (
         "SELECT count(*) FROM room WHERE code = 'H1' AND shut = 0",
@@ -106,7 +106,7 @@ const ADDED: [(&str, i64); 9] = [
     ("SELECT count(*) FROM going WHERE person = 'T1'", 1),
 ];
 
-// Queries, and their counts once the rows are cleared.
+// Queries that count rows, each with its count once the rows are cleared.
 const CLEARED: [(&str, i64); 7] = [
     ("SELECT count(*) FROM room WHERE shut = 1", 1),
     ("SELECT count(*) FROM person", 0),

@@ -1,4 +1,5 @@
-//! Tests of offices in files. One call closes each file, because each place where a file may be closed is proved by itself.
+//! Tests of offices in files. Each file is closed by one call, because each place that may close a file needs a proof
+//! of its own.
 use crate::asserting::assert_same;
 use crate::building::{add_room, is_bare};
 use office_core::Reply;
@@ -16,7 +17,7 @@ fn make_folder(rt: &HostRuntime, folder: &str) -> io::Result<()> {
     fs::create_dir(rt, folder)
 }
 
-// The fault if there is no desk. Closes the file.
+// Returns the fault, or `None` if there is a desk. Closes the file.
 fn fault(opened: Opened) -> Option<DeskFault> {
     let fault = match &opened {
         Ok(_) => None,
@@ -26,7 +27,8 @@ fn fault(opened: Opened) -> Option<DeskFault> {
     fault
 }
 
-// The number of rooms before and after the room H1 is added, if there is a desk. Closes the file.
+// Adds the room H1. Returns the numbers of rooms before and after that, or `None` if there is no desk. Closes the
+// file.
 fn room_added(rt: &impl Abort, alloc: Global, mut opened: Opened) -> Option<(usize, usize)> {
     let counts = match &mut opened {
         Ok(desk) => Some(counts(rt, alloc, desk)),
@@ -50,7 +52,7 @@ fn adds_room(rt: &impl Abort, alloc: Global, desk: &mut FileDesk<Wary>) -> bool 
     matches!(answers.as_slice(), [Answer::Reply(Reply::Done)])
 }
 
-// The number of rooms of the office in the file. It must have nothing else.
+// Returns the number of rooms of the office in the file. Asserts that the office has nothing but rooms.
 fn room_count(rt: &impl Abort, alloc: Global, desk: &mut FileDesk<Wary>) -> usize {
     let office = desk.load(alloc).expect(rt, "an office in the file");
     assert_same!(rt; is_bare(&office), true);

@@ -1,4 +1,4 @@
-//! The documented statements that create the tables of an office, and the orders in which such tables are created.
+//! The documented statements that create the tables of an office, and the orders in which the tables are created.
 use office_schema::tables::layouts::Layout;
 use sqlite::{Connection, MemStore};
 use std::alloc::Global;
@@ -41,15 +41,15 @@ const OWN: [&str; 10] = [
     ROOM, PERSON, ROUND, MOVE, LIST, GRADE, WORD, RESULT, CHOICE, GOING,
 ];
 
-// The documented order. The first nine tables are version 2, and the first eight are version 1.
+// The documented order of the tables. Version 2 has the first nine of them, and version 1 has the first eight.
 const DOCUMENTED: [&str; 10] = [
     ROOM, PERSON, ROUND, CHOICE, WORD, RESULT, MOVE, LIST, GRADE, GOING,
 ];
 
-// The other order of the tables of version 1.
+// The order in which this program created the tables of version 1.
 const EARLIER: [&str; 8] = [ROOM, PERSON, ROUND, MOVE, LIST, WORD, RESULT, CHOICE];
 
-/// A database in memory with the tables of this layout, without rows.
+/// Returns a database in memory with the tables of this layout, all without rows.
 pub fn tables_made(rt: &impl Abort, alloc: Global, layout: Layout) -> Connection<MemStore> {
     let tables = match layout {
         Layout::Own => OWN.as_slice(),

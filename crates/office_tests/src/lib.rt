@@ -1,4 +1,5 @@
-//! Tests of what no contract states about the office and its tables: that calls succeed with enough memory, at worked examples.
+//! Tests at worked examples of what no contract states about the office and its tables: calls succeed if there is
+//! enough memory.
 #![tactic(auto)]
 
 #[cfg(test)]

@@ -1,4 +1,5 @@
-//! Tests of loading rows that the documented statements wrote, in each order of tables, and of rows that are no office's.
+//! Tests of loading the rows of an office from tables that the documented statements create, in each order of the
+//! tables. Rows that are no office's must not load.
 use crate::layouts::tables_made;
 use office_core::Office;
 use office_db::loading::held;
@@ -8,8 +9,9 @@ use sqlite::{Connection, MemStore};
 use std::alloc::Global;
 use std::process::Abort;
 
-// An office after its second round is published: T1 moves from H1 to R1, and N1 has withdrawn. In the first round T1 got H1,
-// and a person who has since left took part in a swap. The rows of the people are not in the order of their identifiers.
+// An office after its second round is published: T1 moves from H1 to R1, and N1 has withdrawn. In the first round T1
+// got H1, and a person who has since left took part in a swap. The rows of the people are not in the order of their
+// identifiers.
 const ROWS: &str = "
 INSERT INTO room VALUES ('H1', 0), ('R1', 0), ('S1', 1);
 INSERT INTO person VALUES ('T1', 'Tim Tan', 'aaaaaaaaaaaaaaaa', 'H1', 0);
@@ -22,15 +24,16 @@ INSERT INTO result VALUES ('T1', 'R1');
 INSERT INTO move VALUES (1, 'T1', NULL, 'H1', 1);
 INSERT INTO move VALUES (1, 'N9', 'H1', 'S1', NULL);";
 
-// The same with two grades.
+// Statements that add two grades to the office in `ROWS`, in tables of version 2.
 const GRADES: &str = "UPDATE round SET version = 2; INSERT INTO grade VALUES ('T1', 9), ('N1', 1);";
 
-// The same, but L1 leaves the college, and a person left it after the first round.
+// Statements that make L1 a leaver of the office in `ROWS`, in tables of version 3. They also add the first round's
+// move of a person who then left the college.
 const LEAVERS: &str =
     "UPDATE round SET version = 3; INSERT INTO move VALUES (1, 'N8', 'R1', NULL, 0);
 UPDATE person SET withdrawn = 0 WHERE id = 'L1'; INSERT INTO going VALUES ('L1');";
 
-// Statements after which the rows are no office's, each with one that undoes it.
+// Statements that break the rows, so that these are no office's. Each has a statement that undoes the break.
 const BREAKS: [(&str, &str); 3] = [
     (
         "UPDATE result SET room = 'H1'",
@@ -46,7 +49,7 @@ const BREAKS: [(&str, &str); 3] = [
     ),
 ];
 
-// The same for tables with leavers.
+// More statements of this kind, for tables with leavers.
 const LEAVERS_BREAK: [(&str, &str); 3] = [
     (
         "UPDATE person SET withdrawn = 1 WHERE id = 'L1'",
@@ -62,7 +65,8 @@ const LEAVERS_BREAK: [(&str, &str); 3] = [
     ),
 ];
 
-// A database with the tables in this layout and the rows of the office above.
+// Returns a database with the tables in this layout and the rows of `ROWS`, `GRADES` and `LEAVERS` that fit the
+// layout.
 fn office_made(rt: &impl Abort, alloc: Global, layout: Layout) -> Connection<MemStore> {
     let mut conn = tables_made(rt, alloc, layout);
     conn.execute_batch(ROWS).expect(rt, ROWS);
@@ -75,7 +79,7 @@ fn office_made(rt: &impl Abort, alloc: Global, layout: Layout) -> Connection<Mem
     conn
 }
 
-// Whether the tables hold the office above.
+// Whether the tables hold the office that `office_made` puts there.
 fn is_office(
     rt: &impl Abort,
     alloc: Global,
@@ -105,7 +109,7 @@ fn is_published(office: &Office, layout: Layout) -> bool {
         && office.withdrawn.len() == 2 - leavers
 }
 
-// Asserts that the tables hold that office, but not while a break is in effect.
+// Asserts that the tables hold the office, except while a break is in effect.
 fn loads_unless_broken(
     rt: &impl Abort,
     alloc: Global,

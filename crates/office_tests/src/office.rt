@@ -1,5 +1,5 @@
-//! Tests through calls of `office_core`: what no line of input can request, a home from the start and the largest number of
-//! people; and a small round, with a copy of the office after it.
+//! Tests that call `office_core` directly. They cover a home from the start, which no line of input can request, the
+//! largest number of people, and a small round with a copy of the office after it.
 ghost use Rattle.std.specs.Prelude.{◌≡◌, IfOk};
 ghost use Rattle.office_state.specs.Change.{applied_all};
 ghost use Rattle.office_state.specs.Office.Invariants.{IsLawful};
@@ -10,7 +10,8 @@ use room_types::{ListKind, Listing, OutOfMemory, Phase, RoomCode, Wave, Word};
 use std::alloc::{AllocError, Global};
 use std::process::Abort;
 
-// Carries a command out on a copy, which then replaces the office.
+// Carries the command out on a copy of the office and replaces the office by the copy. Fails if the command is
+// refused.
 fn carry_out(alloc: Global, office: &mut Office, command: &Command) -> Result<(), Refusal>
     requires { IsLawful office.old }
     ensures { IsLawful office.new }
@@ -20,7 +21,7 @@ fn carry_out(alloc: Global, office: &mut Office, command: &Command) -> Result<()
     Ok(())
 }
 
-// A copy of the office with the changes applied in turn.
+// Returns a copy of the office with the changes applied in turn.
 fn changed(office: &Office, changes: &[Change]) -> Result<Office, OutOfMemory>
     ensures { IfOk result (λ next. next ≡ applied_all office.now changes.now) }
 {
@@ -41,7 +42,7 @@ fn carry_out_all(rt: &impl Abort, alloc: Global, office: &mut Office, commands: 
     }
 }
 
-// Adds a person with a home from the start.
+// The command to add a person with a home from the start.
 fn tenant(rt: &impl Abort, alloc: Global, id: &str, key: &str, home: &str) -> Command {
     Command::AddPerson {
         person: text(rt, alloc, id),
@@ -51,7 +52,7 @@ fn tenant(rt: &impl Abort, alloc: Global, id: &str, key: &str, home: &str) -> Co
     }
 }
 
-// Adds two rooms, and a tenant in the first.
+// Adds two rooms, and a tenant in the first room.
 fn furnish(rt: &impl Abort, alloc: Global, office: &mut Office)
     requires { IsLawful office.old }
     ensures { IsLawful office.new }
@@ -68,7 +69,7 @@ fn furnish(rt: &impl Abort, alloc: Global, office: &mut Office)
     carry_out_all(rt, alloc, office, &commands);
 }
 
-// The number of the command's refusal, or 0 for none.
+// Returns the number of the refusal of the command, or 0 if the office accepts it.
 fn refused(alloc: Global, office: &Office, command: &Command) -> u8
     requires { IsLawful office.now }
 {
@@ -78,7 +79,7 @@ fn refused(alloc: Global, office: &Office, command: &Command) -> u8
     }
 }
 
-// The same for adding a newcomer with this home.
+// Returns the number of the refusal to add a newcomer with this home, or 0 if the office accepts the newcomer.
 fn refused_home(rt: &impl Abort, alloc: Global, office: &Office, home: &str) -> u8
     requires { IsLawful office.now }
 {
@@ -86,7 +87,7 @@ fn refused_home(rt: &impl Abort, alloc: Global, office: &Office, home: &str) -> 
     refused(alloc, office, &newcomer)
 }
 
-// An unknown home, a shut one, and one where a person lives.
+// The office refuses an unknown home, a shut one, and one in which a person lives.
 #[test]
 fn refuses_an_unknown_shut_or_occupied_home(rt: HostRuntime) {
     let alloc = rt.alloc();
@@ -99,7 +100,7 @@ fn refuses_an_unknown_shut_or_occupied_home(rt: HostRuntime) {
     assert!(rt; refused_home(&rt, alloc, &office, "H") == 8);
 }
 
-// A round with the tenant alone, who lists the vacant room.
+// Holds a round in which the tenant alone takes part and lists the vacant room.
 fn hold_round(rt: &impl Abort, alloc: Global, office: &mut Office)
     requires { IsLawful office.old }
     ensures { IsLawful office.new }
@@ -187,7 +188,7 @@ fn has_tenant(rt: &impl Abort, alloc: Global, office: &Office) -> bool {
     }
 }
 
-// Whether the tenant is the only person who moved in the round, from H to V.
+// Whether the tenant is the only person who moved in the round, and moved from H to V.
 fn has_move(rt: &impl Abort, alloc: Global, office: &Office) -> bool {
     let id = text(rt, alloc, "T");
     let Some(moves) = office.moves.get(1) else {
@@ -218,7 +219,7 @@ fn has_list(rt: &impl Abort, alloc: Global, office: &Office) -> bool {
     }
 }
 
-// Whether the first round is over, and only its move is left of it.
+// Whether the first round is over and has left nothing but its move.
 fn is_over(office: &Office) -> bool {
     let lists = office.choices.len() == 0 && office.withdrawn.len() == 0;
     let others = office.grades.len() == 0 && office.going.len() == 0;
@@ -226,14 +227,14 @@ fn is_over(office: &Office) -> bool {
     lists && others && draw && office.number == 1 && office.phase == Phase::Idle
 }
 
-// Whether all of this holds, which covers each part of the office.
+// Whether each part of the office has the value that it has after the import and the round.
 fn is_settled(rt: &impl Abort, alloc: Global, office: &Office) -> bool {
     let register = has_rooms(rt, alloc, office) && has_tenant(rt, alloc, office);
     let records = has_move(rt, alloc, office) && has_list(rt, alloc, office);
     register && records && is_over(office)
 }
 
-// The copy equals the office: each part has the expected value in both.
+// The copy equals the office, because each part has the expected value in both.
 #[test]
 fn copies_each_part_of_an_office(rt: HostRuntime) {
     let alloc = rt.alloc();
@@ -266,7 +267,7 @@ fn put_person(
     Ok(())
 }
 
-// Adds a person without a home.
+// The command to add a person without a home.
 fn newcomer(rt: &impl Abort, alloc: Global, id: &str, key: &str) -> Command {
     Command::AddPerson {
         person: text(rt, alloc, id),
@@ -276,7 +277,8 @@ fn newcomer(rt: &impl Abort, alloc: Global, id: &str, key: &str) -> Command {
     }
 }
 
-// Adds a person, who must be accepted, and returns the number of the refusal of one more, or 0 for none.
+// Adds a person, whom the office must accept. Returns the number of the refusal of one more person, or 0 if the
+// office accepts that person too.
 fn refused_next(rt: &impl Abort, alloc: Global, office: &mut Office) -> u8
     requires { IsLawful office.old }
 {
@@ -286,7 +288,7 @@ fn refused_next(rt: &impl Abort, alloc: Global, office: &mut Office) -> u8
     refused(alloc, office, &next)
 }
 
-// The same, or 0 if the office is not lawful.
+// Returns the number of the refusal as `refused_next` does, or 0 if the office is not lawful.
 fn refused_person(rt: &impl Abort, alloc: Global, office: &mut Office) -> u8 {
     if sound(alloc, office).expect(rt, "memory") {
         refused_next(rt, alloc, office)
@@ -295,7 +297,8 @@ fn refused_person(rt: &impl Abort, alloc: Global, office: &mut Office) -> u8 {
     }
 }
 
-// All people but the last one allowed are added by changes, and that one by a command.
+// Changes add all people but the last one allowed, and a command adds the last. The office then refuses one more
+// person.
 #[test]
 fn refuses_a_person_over_the_limit(rt: HostRuntime) {
     let alloc = rt.alloc();

@@ -1,4 +1,4 @@
-//! Tests of each reader once, with enough memory, on rows that are not in order.
+//! Tests that call each function that reads rows once, with enough memory, on rows that are not in order.
 use crate::building::{optional, text};
 use office_schema::rows::{
     ChoiceRecord, OfficeRecords, PersonRecord, RoundRecord, read_choices, read_keys, read_moves,
@@ -9,7 +9,7 @@ use room_types::{Grade, Label, ListKind, Listing, Move, PersonId, Phase, RoomCod
 use std::alloc::Global;
 use std::process::Abort;
 
-// Two rooms, of which the later one is first.
+// Two rooms, the later one first.
 fn rooms(rt: &impl Abort, alloc: Global) -> Vec<(RoomCode, bool)> {
     vec![in alloc;
         (text(rt, alloc, "H2"), false),
@@ -116,7 +116,7 @@ fn refuses_a_second_move_of_a_round(rt: HostRuntime) {
     }
 }
 
-// A list imported under a label, which added the given number of records.
+// A list that was imported under a label and added the given number of records.
 fn lists(rt: &impl Abort, alloc: Global, count: u16) -> Vec<(Label, StoredImport)> {
     let stored = StoredImport {
         kind: ListKind::Rooms,
@@ -140,7 +140,7 @@ fn people_called(rt: &impl Abort, alloc: Global, ids: &[&str]) -> Vec<PersonId> 
     people
 }
 
-// The rows of all tables. They need not be those of a lawful office.
+// The rows of all tables. They may be rows of no lawful office.
 fn records(
     rt: &impl Abort,
     alloc: Global,
@@ -162,7 +162,7 @@ fn records(
     }
 }
 
-// Whether these rows are those of a lawful office in tables of this version, with this number of leavers.
+// Whether these rows, in tables of this version, are those of a lawful office with this number of leavers.
 fn is_read(
     rt: &impl Abort,
     alloc: Global,
@@ -179,7 +179,8 @@ fn is_read(
     }
 }
 
-// Only an open or closed round may have these rows: between rounds no office has preference lists, and a drawn round has words.
+// These rows are lawful only in an open or a closed round. Between rounds an office has no preference lists, and a
+// drawn round has words, which these rows lack.
 #[test]
 fn reads_only_lawful_offices(rt: HostRuntime) {
     let alloc = rt.alloc();
@@ -211,7 +212,7 @@ fn reads_only_rows_of_its_version(rt: HostRuntime) {
     }
 }
 
-// A leaver is a person who has not withdrawn, and has one row.
+// A leaver has to be a person of the office who has not withdrawn, and has to have exactly one row.
 #[test]
 fn accepts_only_valid_leavers(rt: HostRuntime) {
     let alloc = rt.alloc();

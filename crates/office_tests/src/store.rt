@@ -18,7 +18,7 @@ use sqlite::{Connection, MemStore};
 use std::alloc::Global;
 use std::process::Abort;
 
-// Adds a room twice, and queries the rooms.
+// Requests that add a room twice and query the rooms.
 fn about_one_room(rt: &impl Abort, alloc: Global) -> Vec<Request> {
     vec![in alloc;
         add_room(rt, alloc, "H1"),
@@ -37,7 +37,8 @@ fn handles_requests_in_turn(rt: HostRuntime) {
     assert!(rt; are_of_one_room(&answers));
 }
 
-// Whether the answers say that the room was added, then that it exists already, and then show it.
+// Whether the first answer accepts the room, the second refuses it as a duplicate, and the third shows it as the only
+// room.
 fn are_of_one_room(answers: &[Answer]) -> bool {
     match answers {
         [
@@ -49,7 +50,7 @@ fn are_of_one_room(answers: &[Answer]) -> bool {
     }
 }
 
-// Whether the answer shows H1 alone, which is free.
+// Whether the answer shows H1 as the only room, which is free.
 fn is_one_room(answer: &Answer) -> bool {
     match answer {
         Answer::Reply(Reply::Rooms(rows)) => matches!(rows.as_slice(), [row]
@@ -99,14 +100,14 @@ fn are_of_an_open_round(answers: &[Answer]) -> bool {
     )
 }
 
-// The number of the round in the tables.
+// The number of the round that the desk loads from its tables.
 fn round_number(rt: &impl Abort, alloc: Global, desk: &mut Desk<MemStore>) -> u16 {
     desk.load(alloc)
         .expect(rt, "an office in the tables")
         .number
 }
 
-// A desk creates its tables once: the connection that a second attempt returns still holds the office.
+// A second attempt to create the tables fails, and the connection that it returns still holds the office.
 #[test]
 fn returns_the_connection_if_tables_exist(rt: HostRuntime) {
     let alloc = rt.alloc();

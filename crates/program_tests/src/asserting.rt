@@ -1,23 +1,23 @@
-//! Assertions as calls of these functions, so that `assert_eq!` is proved once and not at each place of use.
+//! Assertions as functions, so that one proof covers `assert_eq!` for all its uses.
 use std::fmt::Debug;
 use std::process::Abort;
 
-/// Ends the test unless `found` equals `wanted`. The note says what is compared, or in which case.
+/// Ends the test unless `found` equals `wanted`. The note says what is compared, or names the case.
 pub fn same<T: PartialEq + Debug>(rt: &impl Abort, found: &T, wanted: &T, note: &str) {
     assert_eq!(rt; *found, *wanted, "{note}");
 }
 
-/// The same, with the number of the case for a note.
+/// Ends the test unless `found` equals `wanted`. The note is the number of the case.
 pub fn same_at<T: PartialEq + Debug>(rt: &impl Abort, found: &T, wanted: &T, case: usize) {
     assert_eq!(rt; *found, *wanted, "{case}");
 }
 
-/// The same, with the words that led to `found` for a note.
+/// Ends the test unless `found` equals `wanted`. The note consists of the words that led to `found`.
 pub fn same_of<T: PartialEq + Debug>(rt: &impl Abort, words: &[&str], found: &T, wanted: &T) {
     assert_eq!(rt; *found, *wanted, "{words:?}");
 }
 
-/// Like `assert_eq!`, but a call of `same`, with a text in place of a format.
+/// Like `assert_eq!`, but calls `same`, and takes a text in place of a format string.
 macro_rules! assert_same {
     ($rt:expr; $found:expr, $wanted:expr $(,)?) => {
         $crate::asserting::same(&$rt, &$found, &$wanted, stringify!($found))

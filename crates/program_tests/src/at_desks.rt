@@ -1,4 +1,5 @@
-//! Scripts as lists of requests: the answers of a desk, the office that it leaves, and the office that another desk adopts.
+//! Handles scripts as lists of requests. Checks the answers of the desk, the office that the desk leaves, and the
+//! office that another desk adopts.
 ghost use Rattle.std.specs.Prelude.{All, IfOk};
 ghost use Rattle.office_store.specs.Requests.{AnswerAscends};
 
@@ -14,8 +15,9 @@ use std::test::Fail;
 // Lines that show the rooms, the people, the round, the order, the results and the moves of the first round.
 const QUERIES: &str = "rooms\npeople\nround\norder\nresults\nmoves 1\n";
 
-/// Whether a desk that handles the requests of the lines in one call answers what a rehearsal of the lines prints, and shows the
-/// same office at the end as the rehearsal, and whether a desk that adopts its database shows that office too.
+/// Handles the requests of the lines at a desk in one call. Returns whether the answers are what a rehearsal of the
+/// lines prints, and the desk shows the same office as the rehearsal. A desk that adopts the database has to show
+/// that office too.
 pub fn agrees_in_batch(alloc: Global, lines: &str) -> Result<bool, Fail> {
     let (_, text) = rehearsed(alloc, lines.as_bytes());
     let requests = parse_requests(alloc, lines)?;
@@ -32,7 +34,7 @@ pub fn agrees_in_batch(alloc: Global, lines: &str) -> Result<bool, Fail> {
     }
 }
 
-// Parses the requests of the lines. Skips lines that have none.
+// Parses the lines and returns their requests. Skips lines that are no request.
 fn parse_requests(alloc: Global, lines: &str) -> Result<Vec<Request>, Fail> {
     let mut requests = Vec::new(alloc);
     for line in lines.lines() {
@@ -49,7 +51,7 @@ pub fn shown(alloc: Global, desk: &mut Desk<MemStore>) -> Vec<u8> {
     text
 }
 
-/// Whether this text is not empty and the output of a rehearsal of the lines and then of `QUERIES` ends with it.
+/// Whether a rehearsal of the lines and then of `QUERIES` ends its output with this text, and the text is not empty.
 pub fn is_shown_after(alloc: Global, lines: &str, stored: &[u8]) -> Result<bool, Fail> {
     let mut all = String::from_str(alloc, lines)?;
     all.push_str(QUERIES)?;
@@ -57,7 +59,7 @@ pub fn is_shown_after(alloc: Global, lines: &str, stored: &[u8]) -> Result<bool,
     Ok(!stored.is_empty() && text.as_slice().ends_with(stored))
 }
 
-// Handles the requests and returns the answers of the desk. In each reply the rows ascend.
+// Handles the requests and returns the answers of the desk. The rows of each reply ascend.
 fn answers_at(
     alloc: Global,
     desk: &mut Desk<MemStore>,
@@ -84,7 +86,7 @@ fn answers_text(alloc: Global, answers: &[Answer]) -> Result<String, OutOfMemory
     Ok(text)
 }
 
-// The text without its lines `not understood`.
+// The text except its lines `not understood`.
 fn without_misunderstood_lines(alloc: Global, text: &[u8]) -> Result<Vec<u8>, AllocError> {
     let mut rest = Vec::new(alloc);
     for line in text.split_inclusive(|byte| *byte == b'\n') {

@@ -7,7 +7,7 @@ const BAD: &str = "imports_bad/office.db";
 
 const BAD_CSV: &str = "imports_bad/list.csv";
 
-// A list with a bad record adds nothing, and its label stays free.
+// A list with a bad record adds nothing and leaves its label free.
 const BAD_LISTS: [Step<'_>; 37] = [
     Step::Line(&["new", "--db", BAD], 0, "ok\n"),
     Step::Line(&["do", "--db", BAD, "open"], 0, "round 1 open\n"),
@@ -134,8 +134,8 @@ const LONG: &str = "imports_long/office.db";
 
 const LONG_CSV: &str = "imports_long/list.csv";
 
-// A list has at most 262,144 bytes and 10,000 records, and a longer file counts as one of 262,145 bytes. The header has 5 bytes.
-// A record of one byte is an empty line and does not count.
+// A list has at most 262,144 bytes and 10,000 records. A longer file counts as one of 262,145 bytes. The header has 5
+// bytes. A record of one byte is an empty line, which is not counted.
 const LONG_LISTS: [Step<'_>; 16] = [
     Step::Line(&["new", "--db", LONG], 0, "ok\n"),
     Step::WriteMany(LONG_CSV, "room\n", "A1\n", 10_001),

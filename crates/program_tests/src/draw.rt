@@ -30,8 +30,8 @@ pub const DRAW: [(&str, &str); 14] = [
     ("round", "round 1 idle people 3 withdrawn 0\n"),
 ];
 
-/// The same people and words. E3 has grade 1 in the first round, and is removed and added again without a grade before the
-/// second. A grade that is set back to 0 has no effect.
+/// Draws for the same people with the same words. E3 has grade 1 in the first round. Before the second round E3 is
+/// removed and added again without a grade. A grade that is set back to 0 has no effect.
 pub const GRADES: [(&str, &str); 23] = [
     ("person E3 key00000000000e3 Cy Coy", "ok\n"),
     ("person E1 key00000000000e1 Ann Ash", "ok\n"),

@@ -11,13 +11,13 @@ use std::alloc::Global;
 use std::process::Abort;
 use std::test::Fail;
 
-// T1 and T2 swap their homes, and N gets the vacant room. X is shut.
+// A year in which T1 and T2 swap their homes, and N gets the vacant room. Room X is shut.
 const YEAR: &str = "room X\nroom H1\nroom H2\nroom V\nshut X\nperson T1 key00000000000t1 Tim Tan\n\
     person T2 key00000000000t2 Tom Tao\nperson N key000000000000n Nan, Now\nhome T1 H1\nhome T2 H2\nopen\n\
     choose T1 H2\nchoose T2 H1\nchoose N H1 V\nclose\n\
     draw 0000000000000003 0000000000000001 0000000000000002\nrun\n";
 
-// T2 leaves the college, and T1 moves to that room.
+// A year in which T2 leaves the college, and T1 moves to T2's room.
 const LEAVING: &str = "room H1\nroom H2\nperson T1 key00000000000t1 Tim Tan\n\
     person T2 key00000000000t2 Tom Tao\nperson N key000000000000n Nan\nhome T1 H1\nhome T2 H2\n\
     grade N 9\nopen\nchoose T1 H2\ngoing T2\nclose\ndraw 0000000000000001 0000000000000002\n\
@@ -30,7 +30,7 @@ const GRADED: &str = "person E3 key00000000000e3 Cy Coy\nperson E1 key0000000000
 
 const MOVES: &str = "round,wave,person,from,to\n1,1,N,,V\n1,swap,T1,H1,H2\n1,swap,T2,H2,H1\n";
 
-// Lines, with the exports after them. A round's moves are exported once it is settled.
+// Lines, with the exports that follow them. The moves of a round are exported only once the round is settled.
 const EXPORTS: [(&[&str], &[(ExportKind, &str)]); 4] = [
     (
         &[YEAR],
@@ -77,7 +77,7 @@ fn desk_after(alloc: Global, texts: &[&str]) -> Result<Desk<MemStore>, Fail> {
     Ok(desk)
 }
 
-// Asserts the output of an export, and the status 0.
+// Asserts that the export has this output and the status 0.
 fn assert_export(
     test: &impl Abort,
     alloc: Global,
@@ -107,8 +107,8 @@ fn exports_moves_rooms_people_and_grades(rt: HostRuntime) -> Result<(), Fail> {
     Ok(())
 }
 
-// Exports the rooms to a writer that takes `room` bytes and whose flush fails unless `flushes`. Asserts that the status is 3 and
-// that exactly this text is written.
+// Exports the rooms to a writer that takes `room` bytes and whose flush fails unless `flushes`. Asserts that the
+// status is 3 and that exactly this text is written.
 fn assert_cut_off(
     test: &impl Abort,
     alloc: Global,
@@ -132,7 +132,7 @@ fn assert_cut_off(
     );
 }
 
-// Nothing is written after an export that is cut off.
+// The program writes nothing more after an export that is cut off.
 #[test]
 fn fails_if_an_export_is_cut_off(rt: HostRuntime) -> Result<(), Fail> {
     let alloc = rt.alloc();

@@ -2,7 +2,7 @@
 use std::io;
 use std::io::{Error, ErrorKind, Read, Write};
 
-/// A reader that gives at most `chunk` bytes a read. After `reads` reads one read fails; later ones succeed.
+/// A reader that gives at most `chunk` bytes a read. After `reads` reads one read fails, and later reads succeed.
 #[derive(Drop)]
 pub struct FailingReader<'a> {
     pub unread: &'a [u8],
@@ -22,8 +22,8 @@ impl Read for FailingReader<'_> {
     }
 }
 
-/// A writer that keeps the bytes that it takes, at most `room` in all. After `writes` writes one write fails; later ones
-/// succeed. Its flushes fail unless `flushes`.
+/// A writer that keeps the bytes that it takes, at most `room` in all. After `writes` writes one write fails, and
+/// later writes succeed. Flushes succeed if and only if `flushes` is true.
 #[derive(Drop)]
 pub struct FailingWriter {
     pub written: Vec<u8>,

@@ -1,4 +1,4 @@
-//! Tests of the words of `rooms import`.
+//! Tests of the arguments of `rooms import`.
 use crate::asserting::same_of;
 use crate::stories::{Step, run_steps};
 use office_cli::{Program, WordFault, program};
@@ -8,7 +8,7 @@ use std::test::Fail;
 
 const OFFICE: &str = "imports_other/office.db";
 
-// All words are checked before a file is opened.
+// The program checks all words before it opens a file.
 const MALFORMED: [Step<'_>; 17] = [
     Step::Malformed(&["import"]),
     Step::Malformed(&["import", "rooms", "r-1", "list"]),
@@ -59,7 +59,8 @@ fn parses_import_lines(rt: HostRuntime) {
     same_of(&rt, &keys, &is_not_understood(rt.alloc(), &keys), &true);
 }
 
-// Whether the words import the people of `a list`, under the label `p-1`, into the office in `o`.
+// Whether the program takes these words as a request to import the people of `a list`, under the label `p-1`, into
+// the office in `o`.
 fn imports_people(alloc: Global, words: &[&str]) -> bool {
     match &program(alloc, words) {
         Ok(

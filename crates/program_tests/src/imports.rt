@@ -13,7 +13,7 @@ use std::test::Fail;
 /// Three rooms.
 pub const ROOMS: &[u8] = b"room\nH1\nH2\nV\n";
 
-// With a byte order mark, line ends of Windows, quotes, and a name that is not ASCII.
+// A list of people with a byte order mark, line ends of Windows, quotes, and a name that is not ASCII.
 const PEOPLE: &[u8] = b"\xEF\xBB\xBFperson,name,key,home\r\nT1,\"Tan, Tim\",key00000000000t1,H1\r\n\
     T2,\"Tao \"\"Tom\"\" T.\",key00000000000t2,H2\r\nN,N\xC3\xB6\xC3\xA9 Ng,key000000000000n,\r\n";
 
@@ -31,7 +31,7 @@ const CHOICES_CSV: &str = "imports_once/choices.csv";
 
 const GRADES_CSV: &str = "imports_once/grades.csv";
 
-// A list that is imported again under its label is answered as before.
+// A list that is imported again under its label gets the same answer as before.
 const IMPORTS: [Step<'_>; 24] = [
     Step::Write(ROOMS_CSV, ROOMS),
     Step::Write(PEOPLE_CSV, PEOPLE),
@@ -138,7 +138,7 @@ const EMPTY: &str = "imports_none/empty";
 
 const MISSING: &str = "imports_none/missing";
 
-// A fault of the office is found before one of the list.
+// The program reports a fault of the office before one of the list.
 const NO_LISTS: [Step<'_>; 12] = [
     Step::Write(EMPTY, b""),
     Step::Write("imports_none/rooms.csv", ROOMS),
@@ -208,8 +208,8 @@ fn reports_why_it_imports_no_list(rt: HostRuntime) -> Result<(), Fail> {
     run_steps(&rt, &rt, "imports_none", &NO_LISTS)
 }
 
-// Imports from a reader: the label, the most bytes a read, the number of reads before one fails, the bytes that the writer takes,
-// the status and the output.
+// Imports from a reader: the label, the most bytes a read, the number of reads before one fails, the number of bytes
+// that the writer takes, the status and the output.
 const READ: [(&str, usize, usize, usize, u8, &str); 7] = [
     ("r-1", 1, 0, 99, 3, "unavailable\n"),
     ("r-1", 1, 13, 99, 3, "unavailable\n"),
@@ -227,8 +227,8 @@ const READ: [(&str, usize, usize, usize, u8, &str); 7] = [
     ("r-2", usize::MAX, usize::MAX, 99, 0, "added 3\n"),
 ];
 
-// If a read fails, nothing is imported; if the output fails, the list is imported all the same. The list has 13 bytes, so reading
-// it a byte at a time takes 13 reads and one more that finds the end.
+// If a read fails, nothing is imported. If a write fails, the list is imported all the same. The list has 13 bytes,
+// so reading it a byte at a time takes 13 reads and one more, which finds the end.
 #[test]
 fn imports_lists_from_readers(rt: HostRuntime) -> Result<(), Fail> {
     let mut desk = Desk::in_memory(rt.alloc())?;

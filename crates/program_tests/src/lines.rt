@@ -39,7 +39,7 @@ fn parses_line_ends_and_words(rt: HostRuntime) {
     }
 }
 
-// Lines that are not understood, each an input of its own.
+// Lines that the program does not understand. Each is an input of its own.
 const NOT_UNDERSTOOD: [&str; 18] = [
     "person T1 key00000000000t1",
     "person T1 key Tim",
@@ -77,8 +77,8 @@ fn comment(alloc: Global, before: &str, len: usize, after: &str) -> Result<Strin
     Ok(lines)
 }
 
-// Comments: the text before it, its length, the text after it, and the status, the ending and the output. Nothing after a line
-// over the limit is handled.
+// Inputs with one comment: the text before the comment, the length of the comment, and the text after it. Then the
+// status, the ending and the output of the rehearsal, which handles nothing after a line over the limit.
 const COMMENTS: [(&str, usize, &str, u8, Ending, &str); 4] = [
     ("", 65_536, "", 0, Ending::Ended, ""),
     (
@@ -110,7 +110,7 @@ fn handles_lines_up_to_the_limit(rt: HostRuntime) -> Result<(), Fail> {
     Ok(())
 }
 
-// The rehearsal ends with `ReadFault`, but the stream has not failed.
+// The rehearsal ends with `ReadFault`, although no read has failed.
 #[test]
 fn stops_at_a_line_over_the_limit(rt: HostRuntime) -> Result<(), Fail> {
     let lines = comment(rt.alloc(), "room A\n", 65_537, "\nroom B\n")?;
@@ -119,7 +119,8 @@ fn stops_at_a_line_over_the_limit(rt: HostRuntime) -> Result<(), Fail> {
     Ok(())
 }
 
-// The read that finds the end counts too. At the limit the rehearsal ends with `ReadFault`, but the stream has not failed.
+// The limit counts the reads, including the read that finds the end. At the limit the rehearsal ends with
+// `ReadFault`, although no read has failed.
 #[test]
 fn reads_an_input_up_to_the_limit(rt: HostRuntime) -> Result<(), Fail> {
     let mut lines = "#\n".repeat(rt.alloc(), 524_287)?;

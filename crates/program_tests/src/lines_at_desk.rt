@@ -1,4 +1,4 @@
-//! Tests of single lines at a desk in memory, which the program gets as its arguments.
+//! Tests of single lines, which the program gets as its arguments, at a desk in memory.
 use crate::asserting::same_of;
 use crate::failing::FailingWriter;
 use office_cli::desk_faults::refuse_desk;
@@ -12,7 +12,7 @@ use std::test::Fail;
 
 const H1_ALONE: &str = "room      state     tenant\nH1        free      none\n";
 
-// Words of lines in turn, each with the status and the output.
+// Words of lines, each with the status and the output. One desk handles the lines in turn.
 const LINES: [(&[&str], u8, &str); 16] = [
     (&["room", "H1"], 0, "ok\n"),
     (&["room H1"], 1, "refused 4 DuplicateRoom\n"),
@@ -40,7 +40,7 @@ const LINES: [(&[&str], u8, &str); 16] = [
     ),
 ];
 
-// Carries out the line of these words. Asserts the status and the output.
+// Carries out the line that these words form. Asserts the status and the output.
 fn assert_words(
     test: &impl Abort,
     alloc: Global,
@@ -68,7 +68,8 @@ fn handles_words_as_one_line(rt: HostRuntime) -> Result<(), Fail> {
     Ok(())
 }
 
-// A comment of 65,536 bytes is skipped, and a line with one byte more is refused. With a line feed it is not understood.
+// A line of 65,536 bytes, here a comment, is skipped, and one with one more byte is refused. With a line feed in it,
+// the line is not understood.
 #[test]
 fn rejects_a_line_over_the_limit(rt: HostRuntime) -> Result<(), Fail> {
     let mut desk = Desk::in_memory(rt.alloc())?;
@@ -87,8 +88,8 @@ fn rejects_a_line_over_the_limit(rt: HostRuntime) -> Result<(), Fail> {
     Ok(())
 }
 
-// Carries out the line with a writer that takes a number of bytes and whose flush may fail. Asserts that the status is 3, that
-// the writer failed, and that exactly this text is written.
+// Carries out the line with a writer that takes `room` bytes and whose flush fails unless `flushes`. Asserts that the
+// status is 3, that the writer failed, and that exactly this text is written.
 fn assert_cut_off(
     test: &impl Abort,
     alloc: Global,

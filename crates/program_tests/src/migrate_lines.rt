@@ -1,4 +1,4 @@
-//! Tests of migrating a file with an office of the first version, by a run of the program and by a call of `migrate_file`.
+//! Tests of migrating a file with an office of version 1, by a run of the program and by a call of `migrate_file`.
 use crate::asserting::same;
 use crate::stories::{Step, execute, make_folder, run_steps};
 use office_cli::desk_faults::refuse_desk;
@@ -14,8 +14,8 @@ use std::test::Fail;
 
 const MIGRATED: &str = "lines_migrate/office.db";
 
-// The tables of the first version in the documented order, with a drawn round. T1 and T2 list each other's home; N is last in the
-// order and lists H1 and V.
+// The tables of version 1 in the documented order, with a drawn round. T1 and T2 list each other's home. N is last in
+// the order and lists H1 and V.
 const FIRST_VERSION: &str = "CREATE TABLE room(code TEXT PRIMARY KEY NOT NULL,
   shut INTEGER NOT NULL CHECK(shut IN (0, 1))) STRICT;
 CREATE TABLE person(id TEXT PRIMARY KEY NOT NULL, name TEXT NOT NULL,
@@ -43,7 +43,7 @@ INSERT INTO choice VALUES ('T1', 0, 'H2'), ('T2', 0, 'H1'), ('N', 0, 'H1'), ('N'
 INSERT INTO word VALUES ('T1', '0000000000000001'), ('T2', '0000000000000002');
 INSERT INTO word VALUES ('N', '0000000000000003');";
 
-// A line is refused until the file is migrated, and a second migration is refused.
+// The program refuses a line until the file is migrated, and refuses a second migration.
 const MIGRATION: [Step<'_>; 11] = [
     Step::Write("lines_migrate/empty", b""),
     Step::Execute(MIGRATED, FIRST_VERSION),
@@ -87,7 +87,8 @@ fn migrates_a_file_by_a_run_of_the_program(rt: HostRuntime) -> Result<(), Fail> 
     run_steps(&rt, &rt, "lines_migrate", &MIGRATION)
 }
 
-// The output of these lines at the desk of the file, or of the fault for each of them if there is no desk. Closes the file.
+// Carries out these lines at the desk of the file and returns their output. If there is no desk, returns the output
+// of the fault once for each line. Closes the file.
 fn printed_at(
     rt: &impl Abort,
     alloc: Global,
@@ -108,7 +109,7 @@ fn printed_at(
     text
 }
 
-// Asserts the output of these lines at the desk of the file.
+// Asserts the output that `printed_at` returns for these lines.
 fn assert_printed(
     rt: &impl Abort,
     alloc: Global,

@@ -1,5 +1,5 @@
-//! Tests of how often the program opens, reads and closes an office file, a list and a port. The file is a database in memory;
-//! the list and the port are stand-ins that count calls.
+//! Tests of how often the program opens, reads and closes an office file, a list and a port. The file is a database
+//! in memory. The list and the port are stand-ins that count calls.
 ghost use Rattle.std.specs.Prelude.{◌≡◌, false, IfOk, ⊤};
 
 use crate::asserting::assert_same;
@@ -17,7 +17,8 @@ use std::test::Fail;
 
 const OFFICE: &str = "office.db";
 
-// One file, which the first call of `open` creates: its connection while it is closed, and how often it was opened and closed.
+// One file, which the first call of `open` creates. `connection` is `None` while the file is open. The file counts
+// how often it was opened and closed.
 #[derive(Drop)]
 struct OneFile {
     is_made: bool,
@@ -70,7 +71,7 @@ impl Closes<Connection<MemStore>> for OneFile {
     }
 }
 
-// A list of two rooms, at one path: the calls of `open` and `close`, and the reads of the lists that were closed.
+// A list of two rooms, at one path. Counts the calls of `open` and of `close`, and the reads of the closed lists.
 #[derive(Drop)]
 struct OneList {
     asked: u32,
@@ -98,8 +99,8 @@ impl Lists for OneList {
     }
 }
 
-// A port at which no connection can be accepted: the successful calls of `listen`, the calls of `accept` at sockets that were
-// stopped, and the calls of `stop`.
+// A port at which no connection can be accepted. Counts the successful calls of `listen` and the calls of `stop`, and
+// adds up the calls of `accept` at sockets that were stopped.
 #[derive(Drop)]
 struct OnePort {
     listened: u32,
@@ -107,7 +108,7 @@ struct OnePort {
     stopped: u32,
 }
 
-// A socket of the port, and the calls of `accept`.
+// A socket of the port, which counts the calls of `accept`.
 #[derive(Drop)]
 struct OneSocket {
     asked: u32,
@@ -154,7 +155,7 @@ impl Ports for OnePort {
     }
 }
 
-// Runs of the program in turn, each with its status, its output, and how often it opens the file and closes it.
+// Runs of the program in turn. Each has its status, its output, and how often the program opens and closes the file.
 const LINES: [(&[&str], u8, &str, u32); 17] = [
     (&["do", "--db", OFFICE, "rooms"], 3, "unavailable\n", 0),
     (&["new", "--db", "other.db"], 3, "unavailable\n", 0),

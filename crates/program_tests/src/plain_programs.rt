@@ -1,5 +1,5 @@
-//! Tests of rounds of 200 people with random lists, grades and leavers. The results and the moves are compared with those of
-//! plain programs that follow the definitions.
+//! Tests of rounds of 200 people with random lists, grades and leavers. Plain programs that follow the definitions
+//! compute the same rounds, and the results and the moves must agree.
 use crate::scripts::rehearsed;
 use office_cli::Ending;
 use std::alloc::{AllocError, Global};
@@ -16,7 +16,7 @@ const TENANTS: usize = 140;
 
 const ENTRIES: usize = 12;
 
-// A linear congruential generator, so that lists and words are the same in each run.
+// A linear congruential generator, which gives the same lists and words in each run.
 #[derive(Drop)]
 struct Dice {
     state: u64,
@@ -72,7 +72,7 @@ fn home_of(person: usize) -> Option<usize> {
     if person < TENANTS { Some(person) } else { None }
 }
 
-// The entries of the list before the person's home, which are the ones that count.
+// The entries of the list before the person's home. Only these entries count.
 fn before_home(alloc: Global, person: usize, list: &[usize]) -> Result<Vec<usize>, AllocError> {
     let mut before = Vec::new(alloc);
     for room in list {
@@ -121,7 +121,8 @@ fn push_person(text: &mut String, person: usize, drawn: &Resident) -> Result<(),
     Ok(())
 }
 
-// Appends the person's list. The list of a leaver is recorded, but has no effect.
+// Appends the line with the person's list, and for a leaver a line that says so. A leaver's list is recorded but has
+// no effect.
 fn push_choice(text: &mut String, person: usize, drawn: &Resident) -> Result<(), AllocError> {
     write!(text, "choose P{person:03}")?;
     for room in &drawn.list {
@@ -134,7 +135,7 @@ fn push_choice(text: &mut String, person: usize, drawn: &Resident) -> Result<(),
     Ok(())
 }
 
-// The participants by grade, then by word, then by identifier.
+// The participants, ordered by grade, then by word, then by identifier.
 fn drawn_order(alloc: Global, people: &[Resident]) -> Result<Vec<usize>, AllocError> {
     let mut tickets = Vec::new(alloc);
     for (person, drawn) in people.iter().enumerate() {
@@ -150,7 +151,8 @@ fn drawn_order(alloc: Global, people: &[Resident]) -> Result<Vec<usize>, AllocEr
     Ok(order)
 }
 
-// The room of each person after the round, `None` for leavers, as the plain program computes it. `None` in all if it fails.
+// Computes the round by the plain program. Returns the room of each person, which is `None` for a leaver and for a
+// person without a room. Returns `None` in place of all rooms if the plain program fails.
 fn rooms_after(
     alloc: Global,
     people: &[Resident],
@@ -181,7 +183,7 @@ fn rooms_after(
     Ok(Some(rooms))
 }
 
-// The output from the results to the moves.
+// The part of the output from the results to the moves.
 fn printed(
     alloc: Global,
     people: &[Resident],
@@ -214,7 +216,7 @@ fn room_or_none(alloc: Global, room: Option<usize>) -> Result<String, AllocError
     }
 }
 
-// The move of a person from a room to a room, where `None` is no room. The wave is `None` in a swap.
+// A person's move between two rooms. `from` and `to` are `None` for no room, and `wave` is `None` in a swap.
 #[derive(Drop)]
 struct Relocation {
     person: usize,
@@ -239,8 +241,9 @@ fn moves(alloc: Global, rooms: &[Option<usize>]) -> Result<Vec<Relocation>, Allo
     Ok(moves)
 }
 
-// The wave of a person who moves: 0 without a new room, 1 if nobody leaves the new room, and else one more than the wave of the
-// person who leaves it. `None` if this leads back to the person.
+// The wave of a person who moves. The wave is 0 if the person gets no room, and 1 if nobody leaves the new room.
+// Otherwise it is one more than the wave of the person who leaves the new room. `None` if following these people
+// leads back to the person.
 fn wave_of(rooms: &[Option<usize>], person: usize) -> Option<usize> {
     let mut last = person;
     for steps in 0..PEOPLE {
@@ -286,7 +289,7 @@ fn agrees_with_the_plain_programs_on_rounds_of_200_people(rt: HostRuntime) -> Re
     Ok(())
 }
 
-// Draws the people and returns whether their round ends as the plain programs compute it.
+// Draws the people, and returns whether the rehearsal of their round prints what the plain programs compute.
 fn agrees_from(alloc: Global, mut dice: Dice) -> Result<bool, Fail> {
     let mut people = Vec::new(alloc);
     for person in 0..PEOPLE {

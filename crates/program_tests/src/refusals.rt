@@ -1,10 +1,11 @@
-//! Scripts of all commands and queries with each refusal that a line can cause, and a test of the number of rounds.
+//! Scripts that use every command and query and get each refusal that a line can cause, and a test of the number of
+//! rounds.
 use crate::asserting::assert_same;
 use crate::scripts::rehearsed;
 use office_cli::Ending;
 use std::test::Fail;
 
-/// Commands and queries without grades and leavers.
+/// Commands and queries, except those about grades and leavers.
 pub const REFUSALS: [(&str, &str); 72] = [
     // Rooms, one of them shut, a tenant and a newcomer.
     ("room H1", "ok\n"),
@@ -99,7 +100,7 @@ pub const REFUSALS: [(&str, &str); 72] = [
     ("settle", "settled 0\n"),
 ];
 
-/// Grades and leavers, with two tenants and a newcomer.
+/// Commands and queries about grades and leavers, with two tenants and a newcomer.
 pub const GRADES_AND_LEAVERS: [(&str, &str); 60] = [
     ("room H1", "ok\n"),
     ("room H2", "ok\n"),
@@ -141,7 +142,7 @@ pub const GRADES_AND_LEAVERS: [(&str, &str); 60] = [
     ("round", "round 1 open people 3 withdrawn 1 going 1\n"),
     ("going U", "going\n"),
     ("round", "round 1 open people 3 withdrawn 1 going 2\n"),
-    // A cancelled round leaves its leavers in the register.
+    // The leavers of a cancelled round stay in the register.
     ("cancel", "cancelled\n"),
     ("round", "round 1 idle people 3 withdrawn 0\n"),
     (

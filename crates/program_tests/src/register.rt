@@ -1,10 +1,10 @@
-//! Scripts of the register and of a round until it is closed, and a test of the length of a list.
+//! Scripts of the register and of a round up to its close, and a test of the length of a list.
 use crate::scripts::assert_rehearsal;
 use office_cli::Ending;
 use std::alloc::Global;
 use std::test::Fail;
 
-/// Rooms, people and homes, two rounds that are opened, and refusals in between.
+/// Rooms, people and homes, two rounds that are opened, and refused lines among them.
 pub const REGISTER: [(&str, &str); 28] = [
     ("room H1", "ok\n"),
     ("room H2", "ok\n"),
@@ -42,7 +42,7 @@ pub const REGISTER: [(&str, &str); 28] = [
     ("close", "closed 2\n"),
 ];
 
-/// A round until it is closed, with lists, a repeated withdrawal, and a tenant's room that is shut.
+/// A round up to its close, with lists, a repeated withdrawal, and a tenant's room that is shut.
 pub const ROUND: [(&str, &str); 18] = [
     ("room H1", "ok\n"),
     ("room H2", "ok\n"),

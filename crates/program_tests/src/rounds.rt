@@ -6,7 +6,7 @@ use office_cli::Ending;
 use std::alloc::Global;
 use std::test::Fail;
 
-// Rounds: the name, the lines, and the output of the last line, which prints the results.
+// Rounds: the name, the lines, and the output of the last line, which is the results.
 const ROUNDS: [(&str, &str, &str); 10] = [
     (
         "a chain into a vacant room",
@@ -216,8 +216,8 @@ const ROUNDS: [(&str, &str, &str); 10] = [
     ),
 ];
 
-// Whether a rehearsal of the round has status 0 and prints these results at the end, and a desk that handles the requests in one
-// call agrees with it.
+// Whether a rehearsal of the round has status 0 and prints these results at the end. A desk that handles all requests
+// in one call also has to agree with the rehearsal.
 fn ends_as_worked(alloc: Global, lines: &str, results: &str) -> Result<bool, Fail> {
     let (rehearsal, text) = rehearsed(alloc, lines.as_bytes());
     let ended = rehearsal.ending == Ending::Ended && rehearsal.status == 0;

@@ -8,7 +8,7 @@ use std::alloc::{AllocError, Global};
 use std::process::Abort;
 use std::test::Fail;
 
-/// Rooms that are added and printed.
+/// A script that adds rooms and prints them.
 pub const ROOMS: [(&str, &str); 5] = [
     ("rooms", "room      state     tenant\n"),
     ("room H1", "ok\n"),
@@ -43,7 +43,7 @@ pub fn script_answers(
     Ok(text)
 }
 
-/// Rehearses the input at this desk. Returns how it ended, and its output.
+/// Rehearses the input at this desk. Returns how the rehearsal ended, and its output.
 pub fn rehearsed_at(
     alloc: Global,
     desk: &mut Desk<MemStore>,
@@ -55,7 +55,8 @@ pub fn rehearsed_at(
     (rehearsal, output.into_inner())
 }
 
-/// The same at a new desk in memory. If no desk can be made, returns `NoMemory` and no output.
+/// Rehearses the input at a new desk in memory. Returns how the rehearsal ended, and its output. If no desk can be
+/// made, returns `NoMemory` and no output.
 pub fn rehearsed(alloc: Global, input: &[u8]) -> (Rehearsed, Vec<u8>) {
     match Desk::in_memory(alloc) {
         Ok(mut desk) => rehearsed_at(alloc, &mut desk, input),
@@ -63,7 +64,8 @@ pub fn rehearsed(alloc: Global, input: &[u8]) -> (Rehearsed, Vec<u8>) {
     }
 }
 
-/// Rehearses the input at a new desk in memory. Asserts the status, the ending and the output. The note names the case.
+/// Rehearses the input at a new desk in memory. Asserts the status, the ending and the output. The note of the
+/// assertion names the case.
 pub fn assert_rehearsal(
     test: &impl Abort,
     alloc: Global,
@@ -85,7 +87,7 @@ fn ended(status: u8, ending: Ending) -> Rehearsed {
     Rehearsed { status, ending }
 }
 
-// Lines that add this number of different rooms, and one more.
+// Lines that add `count` different rooms and then one more.
 fn too_many_rooms(alloc: Global, count: u32) -> Result<String, AllocError> {
     let mut lines = String::new(alloc);
     for n in 0..count {

@@ -1,4 +1,4 @@
-//! Tests of the words of `rooms serve`, and of runs that serve nobody.
+//! Tests of the arguments of `rooms serve`, and of runs that end before a connection is served.
 use crate::asserting::same_of;
 use crate::stories::{Step, assert_line, make_folder, run_steps};
 use office_cli::{Program, program};
@@ -10,7 +10,7 @@ use std::test::Fail;
 
 const OFFICE: &str = "serve_other/office.db";
 
-// All words are checked before a file is opened.
+// The program checks all words before it opens a file.
 const MALFORMED: [Step<'_>; 16] = [
     // Wrong ports and counts.
     Step::Malformed(&["serve", "--db", OFFICE, "--port", "0", "--count", "1"]),
@@ -40,7 +40,8 @@ fn rejects_malformed_serve_lines(rt: HostRuntime) -> Result<(), Fail> {
     run_steps(&rt, &rt, "serve_other", &MALFORMED)
 }
 
-// The least and the greatest numbers, with the options in different orders.
+// Arguments with the least and the greatest numbers and with the options in different orders, each with its port and
+// count.
 const LINES: [(&[&str], u16, u32); 2] = [
     (&["serve", "--db", "o", "--port", "1", "--count", "1"], 1, 1),
     (
@@ -57,7 +58,8 @@ fn parses_serve_lines(rt: HostRuntime) {
     }
 }
 
-// Whether the words serve the office in `o` at this port for this number of connections.
+// Whether the program takes these words as a request to serve the office in `o` at this port for this number of
+// connections.
 fn serves(alloc: Global, words: &[&str], wanted_port: u16, wanted_count: u32) -> bool {
     match &program(alloc, words) {
         Ok(
@@ -71,7 +73,8 @@ fn serves(alloc: Global, words: &[&str], wanted_port: u16, wanted_count: u32) ->
     }
 }
 
-// Runs the program to serve one connection over the file at this path, at this port. Asserts the status and the output.
+// Runs the program to serve one connection, for the file at this path, at this port. Asserts the status and the
+// output.
 fn assert_serves_nobody(
     rt: &HostRuntime,
     test: &impl Abort,
@@ -90,7 +93,8 @@ const MISSING: &str = "serve_none/missing";
 
 const EMPTY: &str = "serve_none/empty";
 
-// Without an office the program serves nobody and creates no file. It serves nobody if the port is in use either.
+// Without an office the program serves nobody and creates no file. With an office it serves nobody if the port is in
+// use.
 #[test]
 fn reports_why_it_serves_nobody(rt: HostRuntime) -> Result<(), Fail> {
     make_folder(&rt, "serve_none")?;

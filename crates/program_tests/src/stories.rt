@@ -1,4 +1,4 @@
-//! Stories: tests in the form of tables of steps. Most steps run the program with some words and compare its status and its
+//! Stories: tests as tables of steps. Most steps run the program with some words and compare its status and its
 //! output.
 use crate::asserting::same_of;
 use office_cli::carry_out;
@@ -17,13 +17,15 @@ const INPUT: &str = "room LEFT\n";
 /// A step of a story.
 #[derive(Clone, Copy)]
 pub enum Step<'a> {
-    /// Runs the program with these words. Asserts this status and this standard output, and that standard error is empty.
+    /// Runs the program with these words. Asserts this status and this standard output, and that standard error is
+    /// empty.
     Line(&'a [&'a str], u8, &'a str),
-    /// Runs the program with words that it does not understand. Asserts that it reports so on standard error and prints nothing.
+    /// Runs the program with words that it does not understand. Asserts that it reports this on standard error, and
+    /// that standard output is empty.
     Malformed(&'a [&'a str]),
     /// Writes these bytes to the file at this path.
     Write(&'a str, &'a [u8]),
-    /// Writes to the file at this path the first text, and then the second one this number of times.
+    /// Writes a file at this path: first the first text, and then the second text this number of times.
     WriteMany(&'a str, &'a str, &'a str, usize),
     /// Executes these statements on the database in the file at this path.
     Execute(&'a str, &'a str),
@@ -33,14 +35,14 @@ pub enum Step<'a> {
     Absent(&'a str),
 }
 
-/// Creates an empty folder. Removes one of this name first.
+/// Creates an empty folder. First removes any folder of this name.
 pub fn make_folder(rt: &HostRuntime, folder: &str) -> io::Result<()> {
     let _ = fs::remove_dir_all(rt, folder);
     fs::create_dir(rt, folder)
 }
 
-/// Creates the folder, runs the steps, and removes the folder. Ends the test at the first step whose assertion fails, with its
-/// words for a note. Both runtimes are that of the test.
+/// Creates the folder, runs the steps, and removes the folder. Ends the test at the first step whose assertion fails,
+/// with the step's words as the note. `test` and `rt` are both the runtime of the test.
 pub fn run_steps(
     test: &impl Abort,
     rt: &HostRuntime,
@@ -90,7 +92,8 @@ pub fn execute(rt: &HostRuntime, path: &str, statements: &str) -> Result<(), Fai
     Ok(())
 }
 
-/// Runs the program with these words and this standard input. Asserts the status, the output and the text on standard error.
+/// Runs the program with these words and this standard input. Asserts the status, the output and the text on standard
+/// error.
 pub fn assert_line(
     test: &impl Abort,
     rt: &HostRuntime,

@@ -1,4 +1,5 @@
-//! Tests of devices that fail during a rehearsal of the register. Lines that were handled before keep their effect.
+//! Tests of readers and writers that fail during a rehearsal of the register. Lines that were handled before the
+//! failure keep their effect.
 use crate::asserting::same_at;
 use crate::at_desks::{is_shown_after, shown};
 use crate::failing::{FailingReader, FailingWriter};
@@ -10,7 +11,7 @@ use room_types::Watched;
 use std::alloc::Global;
 use std::test::Fail;
 
-// The most bytes that the reader gives a read.
+// The number of bytes that the reader gives at most in one read.
 const CHUNK_SIZE: usize = 7;
 
 // A writer that never fails.
@@ -31,8 +32,8 @@ fn good_reader<'a>(unread: &'a [u8]) -> FailingReader<'a> {
     }
 }
 
-// Rehearses the input at a new desk in memory. Returns how it ended, whether the reader and whether the writer failed, what was
-// written, and what the desk then shows of its office.
+// Rehearses the input at a new desk in memory. Returns how the rehearsal ended, whether the reader failed and whether
+// the writer did, the bytes written, and what the desk then shows of its office.
 fn rehearsed<'a>(
     alloc: Global,
     reader: FailingReader<'a>,
@@ -47,8 +48,9 @@ fn rehearsed<'a>(
     Ok((rehearsal, failed, output.into_inner().written, stored))
 }
 
-// Whether a rehearsal of the register with this writer, where only the writer fails, ends with `WriteFault`, has written exactly
-// the first `sent` bytes of the answers, and leaves the office of the first `handled` lines.
+// Rehearses the register with this writer and a reader that does not fail. Returns whether the rehearsal ends with
+// `WriteFault`, has written exactly the first `sent` bytes of the answers, and leaves the office of the first
+// `handled` lines.
 fn stops_at(
     alloc: Global,
     writer: FailingWriter,
@@ -68,14 +70,14 @@ fn stops_at(
     Ok(stopped && answered && is_office_after(alloc, handled, &stored)?)
 }
 
-// Whether a desk shows this of its office after the first `handled` lines of the register.
+// Whether `stored` is what a desk shows of its office after the first `handled` lines of the register.
 fn is_office_after(alloc: Global, handled: usize, stored: &[u8]) -> Result<bool, Fail> {
     let lines = script_lines(alloc, &REGISTER[..handled.min(REGISTER.len())])?;
     is_shown_after(alloc, lines.as_str(), stored)
 }
 
-// The number of lines that are handled if the writer takes only `taken` bytes: those whose answers fit, and the next one, if
-// there is one.
+// The number of lines that are handled if the writer takes only `taken` bytes: the lines whose answers fit, and the
+// next line if there is one.
 fn handled_for(taken: usize) -> usize {
     let mut rest = taken;
     for (handled, (_, answer)) in REGISTER.iter().enumerate() {
@@ -87,7 +89,7 @@ fn handled_for(taken: usize) -> usize {
     REGISTER.len()
 }
 
-// Each line that was read completely before a read fails is answered and takes effect.
+// Each line that was read completely before the failed read is answered and takes effect.
 #[test]
 fn stops_where_a_read_fails(rt: HostRuntime) -> Result<(), Fail> {
     let lines = script_lines(rt.alloc(), &REGISTER)?;
@@ -100,8 +102,9 @@ fn stops_where_a_read_fails(rt: HostRuntime) -> Result<(), Fail> {
     Ok(())
 }
 
-// Whether a rehearsal of the register, where only the reader fails, after `passed` reads, answers the lines that were read
-// completely and leaves the office of these lines.
+// Rehearses the register with a reader that fails after `passed` reads and a writer that does not fail. Returns
+// whether the rehearsal ends with `ReadFault`, answers exactly the lines that were read completely, and leaves the
+// office of these lines.
 fn stops_at_read(alloc: Global, lines: &[u8], passed: usize) -> Result<bool, Fail> {
     let mut reader = good_reader(lines);
     reader.reads = passed;
@@ -124,7 +127,7 @@ pub struct Stopped {
     pub reads: u64,
 }
 
-/// Rehearses these bytes, which the reader gives one at a time, at a new desk in memory.
+/// Rehearses these bytes at a new desk in memory. The reader gives one byte a read.
 pub fn rehearsed_by_bytes(alloc: Global, input: &[u8]) -> Result<Stopped, Fail> {
     let mut desk = Desk::in_memory(alloc)?;
     let mut input = Watched::new(FailingReader {

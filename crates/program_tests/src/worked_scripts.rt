@@ -1,4 +1,4 @@
-//! A test of the worked scripts, in which each line has its answer.
+//! A test of the worked scripts. A worked script has the answer to each of its lines.
 use crate::asserting::same;
 use crate::at_desks::agrees_in_batch;
 use crate::draw::{DRAW, DRAW_OF_NOBODY, GRADES};
@@ -35,8 +35,8 @@ const SCRIPTS: [(&str, &[(&str, &str)], u8); 18] = [
     ("a leaver", &LEAVER, 1),
 ];
 
-// Whether a rehearsal of the lines has this status and prints exactly their answers, and a desk that handles the requests in one
-// call agrees with it.
+// Whether a rehearsal of the lines has this status and prints exactly their answers. A desk that handles all requests
+// in one call also has to agree with the rehearsal.
 fn answers(alloc: Global, script: &[(&str, &str)], status: u8) -> Result<bool, Fail> {
     let lines = script_lines(alloc, script)?;
     let answers = script_answers(alloc, script, script.len())?;

@@ -1,4 +1,5 @@
-//! Scripts of rounds: without participants, with withdrawn and displaced tenants, with moves, and with queries about other lists.
+//! Scripts of rounds: a round without participants, and rounds with withdrawn and displaced tenants, with moves, and
+//! with queries about other lists.
 
 /// A round without participants.
 pub const NOBODY: [(&str, &str); 10] = [
@@ -14,7 +15,7 @@ pub const NOBODY: [(&str, &str); 10] = [
     ("round", "round 1 idle people 0 withdrawn 0\n"),
 ];
 
-/// A tenant withdraws, twice.
+/// A tenant withdraws twice.
 pub const WITHDRAWN_TENANT: [(&str, &str); 20] = [
     ("room H1", "ok\n"),
     ("room H2", "ok\n"),
@@ -38,7 +39,7 @@ pub const WITHDRAWN_TENANT: [(&str, &str); 20] = [
     ("round", "round 1 idle people 2 withdrawn 0\n"),
 ];
 
-/// A tenant's room is shut after the tenant's list is recorded.
+/// The room of a tenant is shut after the tenant's list is recorded.
 pub const DISPLACED_TENANT: [(&str, &str); 14] = [
     ("room H1", "ok\n"),
     ("room V", "ok\n"),
@@ -59,7 +60,8 @@ pub const DISPLACED_TENANT: [(&str, &str); 14] = [
     ),
 ];
 
-/// T1 and T2 swap, and a newcomer, who lists H1 and V, gets V. T1 asks for the result before and after it is published.
+/// T1 and T2 swap, and a newcomer, who lists H1 and V, gets V. T1 asks for the result before it is published, and
+/// again afterwards.
 pub const SWAP: [(&str, &str); 30] = [
     ("room H1", "ok\n"),
     ("room H2", "ok\n"),
@@ -132,7 +134,8 @@ pub const CHAIN: [(&str, &str); 17] = [
     ),
 ];
 
-/// The vacated room goes to the first of two newcomers. The second gets none, and would get none with another list.
+/// The vacated room goes to the first of two newcomers. The second newcomer gets no room, and would get none with
+/// another list either.
 pub const NO_ROOM: [(&str, &str); 15] = [
     ("room H1", "ok\n"),
     ("room V", "ok\n"),
@@ -157,7 +160,8 @@ pub const NO_ROOM: [(&str, &str); 15] = [
     ("whatif N2 V H1", "would get none\n"),
 ];
 
-/// Three rounds of one office. The first is cancelled after it ran, N is removed and added again, and the other two are settled.
+/// Three rounds of one office. The first is cancelled after its run, and then N is removed and added again. The other
+/// two rounds are settled.
 pub const ROUND_AFTER_ROUND: [(&str, &str); 38] = [
     ("room H1", "ok\n"),
     ("room V", "ok\n"),
@@ -217,7 +221,7 @@ pub const ROUND_AFTER_ROUND: [(&str, &str); 38] = [
     ("round", "round 3 idle people 2 withdrawn 0\n"),
 ];
 
-/// T2 leaves the college, and T1 moves to that room.
+/// T2 leaves the college, and T1 moves to T2's room.
 pub const LEAVER: [(&str, &str); 29] = [
     ("room H1", "ok\n"),
     ("room H2", "ok\n"),

@@ -52,7 +52,8 @@ const WELL: Served = Served::Answered {
     status: StatusCode::OK,
 };
 
-// How serving a connection ended, whether its stream failed, the number of its reads and flushes, and the bytes written.
+// How serving a connection ended, whether the stream failed, how often it was read and flushed, and the bytes written
+// to it.
 #[derive(Drop)]
 struct Exchange {
     how: Served,
@@ -69,7 +70,7 @@ fn open_round(rt: &impl Abort, alloc: Global) -> Desk<MemStore> {
     desk
 }
 
-/// Drops the desk. All tests drop theirs here, so that dropping one is proved in one place.
+/// Drops the desk. All tests drop their desks here, so that one proof covers every drop.
 pub fn drop_desk(desk: Desk<MemStore>) {
     drop(desk);
 }
@@ -88,7 +89,7 @@ fn handle_parsed(alloc: Global, desk: &mut Desk<MemStore>, parsed: ParsedLine) {
     }
 }
 
-// Serves a connection with this reader.
+// Serves a connection with this reader and a writer that takes everything.
 fn served<R: Read + Drop>(alloc: Global, desk: &mut Desk<MemStore>, reader: R) -> Exchange {
     served_on(alloc, desk, reader, NarrowWriter::wide(alloc))
 }
@@ -111,7 +112,7 @@ fn served_on<R: Read + Drop>(
     }
 }
 
-// Asserts that exactly these bytes are the response to this request.
+// Serves a connection with this request. Asserts that exactly these bytes are the response.
 fn is_answered(
     rt: &impl Abort,
     alloc: Global,

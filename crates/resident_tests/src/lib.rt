@@ -1,5 +1,5 @@
-//! Tests of residents' requests and of the exact bytes of the responses, over a desk in memory, and over several connections in
-//! turn.
+//! Tests of residents' requests and of the exact bytes of the responses. A desk in memory serves one connection, or
+//! several in turn.
 #![tactic(auto)]
 
 #[cfg(test)]

@@ -14,8 +14,8 @@ use std::io::Write;
 use std::net::{Ipv4Addr, Shutdown, SocketAddr, TcpListener, TcpStream};
 use std::process::Abort;
 
-// A script of connections: for each, the bytes to read from it, or `None` if accepting it fails. Keeps what was written to the
-// connections that were closed.
+// A script of connections. Each has the bytes to read from it, or is `None` if accepting it fails. The script keeps
+// what was written to the closed connections.
 #[derive(Drop)]
 struct Script<'a> {
     coming: &'a [Option<&'a [u8]>],
@@ -106,7 +106,7 @@ fn is_printed(
     assert_same!(rt; printed.as_slice(), wanted, line);
 }
 
-// A desk with an open round and Tim Tan.
+// A desk with an open round, in whose register Tim Tan is the only person.
 fn open_desk(rt: &impl Abort, alloc: Global) -> Desk<MemStore> {
     let mut desk = Desk::in_memory(alloc).expect(rt, "a desk in memory");
     for line in [
@@ -121,7 +121,7 @@ fn open_desk(rt: &impl Abort, alloc: Global) -> Desk<MemStore> {
     desk
 }
 
-// How a server ended: its exit status, the number of its flushes, and its output.
+// How a server ended: its exit status, the number of times that it flushed its output, and the output.
 #[derive(Drop)]
 struct Ended {
     status: u8,
@@ -167,8 +167,8 @@ fn served_four(rt: &impl Abort, ended: &Ended) {
     );
 }
 
-// Asserts that three connections were closed, that the first got the response that H2 is recorded, and that nothing was written
-// to the second.
+// Asserts that three connections were closed. The first has to have got the response that H2 is recorded, and the
+// second nothing.
 fn are_written(rt: &impl Abort, written: &[Vec<u8>]) {
     assert_same!(rt; written.len(), 3);
     assert_same!(rt;
@@ -178,7 +178,7 @@ fn are_written(rt: &impl Abort, written: &[Vec<u8>]) {
     assert_same!(rt; written.get(1).map(|bytes| bytes.len()), Some(0));
 }
 
-// If the server cannot print that it listens, it serves nobody.
+// If the server cannot print that it listens, it accepts no connection.
 #[test]
 fn serves_nobody_if_output_fails(rt: HostRuntime) {
     let alloc = rt.alloc();
@@ -199,7 +199,7 @@ fn serves_nobody_if_output_fails(rt: HostRuntime) {
     drop_desk(desk);
 }
 
-// The exit status of a server whose output takes no bytes, and whether the output failed.
+// Serves with an output that takes no bytes. Returns the exit status, and whether the output failed.
 fn served_without_output<L: Listener>(
     alloc: Global,
     desk: &mut Desk<MemStore>,
@@ -211,7 +211,7 @@ fn served_without_output<L: Listener>(
     (status, output.failed())
 }
 
-// The server accepts a connection that waits in the queue of the system.
+// The server accepts a connection that already waits in the system's queue.
 #[test]
 fn serves_over_a_socket(rt: HostRuntime) {
     let place = SocketAddr::from((Ipv4Addr::LOCALHOST, 0));
@@ -226,7 +226,7 @@ fn serves_over_a_socket(rt: HostRuntime) {
     drop_desk(desk);
 }
 
-// The resident sends a list and then shuts the sending side.
+// The resident sends a list and then shuts down the sending side.
 fn hands_in(rt: &impl Abort, resident: &mut TcpStream) {
     resident.write_all(HANDS_IN_H2).expect(rt, "a request");
     resident.shutdown(Shutdown::Write).expect(rt, "an end");

@@ -23,7 +23,8 @@ fn main(rt: HostRuntime) -> ExitCode {
     ExitCode::from(status)
 }
 
-// The arguments from the system, the program's name first. Arguments that are not UTF-8 are not understood.
+// Returns the arguments from the system, the program's name first. Fails with `NotUnderstood` if an argument is not
+// UTF-8, and with `OutOfMemory` at any other failure.
 fn words_of_main(rt: &HostRuntime) -> Result<Vec<String>, WordFault> {
     match env::args(rt) {
         Ok(words) => {
@@ -37,7 +38,7 @@ fn words_of_main(rt: &HostRuntime) -> Result<Vec<String>, WordFault> {
     }
 }
 
-// The arguments after the program's name, as texts. Allocates only if there are any.
+// Returns the arguments after the program's name as texts. Allocates only if there are any.
 fn texts_after_name<'a>(alloc: Global, words: &'a [String]) -> Result<Vec<&'a str>, AllocError>
     ensures texts { IfOk result
         (λ texts. map (λ text. text.now) texts.items ≡ drop 1 (map string_bytes words.now)) }

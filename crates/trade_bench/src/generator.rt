@@ -1,7 +1,7 @@
 //! Pseudorandom numbers from a fixed seed.
 ghost use Rattle.std.specs.Prelude.{◌<◌};
 
-/// SplitMix64 (Steele, Lea and Flood 2014).
+/// The generator SplitMix64 (Steele, Lea and Flood 2014).
 #[derive(Drop)]
 pub struct Generator(u64);
 

@@ -1,4 +1,4 @@
-//! The markets of the benchmark. `bench/line` draws them by the same steps.
+//! The markets of the benchmark. The plain program in `bench/line` draws the same markets by the same steps.
 ghost use Rattle.std.specs.Prelude.{◌<◌, length};
 
 use crate::generator::Generator;
@@ -11,7 +11,7 @@ const SEED: u64 = 1;
 
 const SIZES: [usize; 6] = [100, 500, 1000, 2000, 4000, 8000];
 
-// How many rooms each person lists.
+// How many rooms each person lists, in each of the drawn markets.
 const LISTED: [usize; 3] = [5, 20, 40];
 
 const KINDS: [(Kind, &'static [usize]); 5] = [
@@ -22,7 +22,7 @@ const KINDS: [(Kind, &'static [usize]); 5] = [
     (Kind::Chain, &[1]),
 ];
 
-/// Who has a home, and what people list.
+/// The kinds of market. A kind says who has a home and what people list.
 #[derive(Clone, Copy)]
 pub enum Kind {
     /// Everybody has a home and a list of their own.
@@ -49,7 +49,7 @@ impl fmt::Display for Kind {
     }
 }
 
-/// The number of people, the length of their lists, and the kind of market.
+/// A market of the benchmark: the number of people, the length of their lists, and the kind.
 #[derive(Clone, Copy)]
 pub struct Shape {
     pub people: usize,
@@ -57,7 +57,7 @@ pub struct Shape {
     pub kind: Kind,
 }
 
-/// Returns all shapes of the benchmark, the smallest first.
+/// Returns the shapes of all markets of the benchmark, ordered by the number of people.
 pub fn shapes(alloc: Global) -> Result<Vec<Shape>, AllocError> {
     let mut shapes = Vec::new(alloc);
     for people in SIZES {
@@ -149,7 +149,7 @@ fn shuffled(
     Ok(rooms)
 }
 
-// Gives each person, with probability `tenths` in ten, the room at the person's own index as home.
+// Gives each person a home with probability `tenths` in ten. The home is the room in `rooms` at the person's index.
 fn drawn_homes(
     alloc: Global,
     rooms: &[usize],
@@ -168,7 +168,7 @@ fn drawn_homes(
     Ok(homes)
 }
 
-// Swaps a random room at or after this place into this place.
+// Swaps the room at this place with a random room at or after this place.
 fn shuffle_step(rooms: &mut [usize], place: usize, generator: &mut Generator)
     requires { place < length rooms.old }
 {
@@ -176,7 +176,8 @@ fn shuffle_step(rooms: &mut [usize], place: usize, generator: &mut Generator)
     rooms.swap(place, other);
 }
 
-// Draws `listed` different rooms other than the home, or all of them if there are fewer. Reorders `rooms`.
+// Returns `listed` different random rooms other than the home, or all such rooms if there are fewer. Reorders
+// `rooms`.
 fn list_without(
     alloc: Global,
     home: Option<usize>,

@@ -1,4 +1,4 @@
-//! Runs and measurements of one market.
+//! Runs the mechanism on one market and measures its time.
 use std::alloc::Global;
 use std::time::Instant;
 use trade_line::bench::Bench;
@@ -9,10 +9,11 @@ use trade_line::outcome::Outcome;
 use trade_line::problem::Problem;
 use trade_line::trade::run;
 
-// The number of people times the number of runs of one measurement.
+// The number of people times the number of runs in one measurement. The number of runs is this divided by the number
+// of people, but at least one.
 const PERSON_RUNS: usize = 50_000;
 
-/// Runs the mechanism once. This includes allocating its line and its bench.
+/// Runs the mechanism once. This includes allocating the line and the bench that it uses.
 pub fn once(alloc: Global, problem: &Problem) -> Result<Outcome, OutOfMemory> {
     let line = LinkedLine::whole(alloc, problem.people())?;
     let bench = Bench::new(alloc, problem)?;
@@ -32,7 +33,7 @@ pub fn check(problem: &Problem, outcome: &Outcome) -> u64 {
     sum
 }
 
-/// Measures the average nanoseconds of a run.
+/// Measures the average time of a run in nanoseconds.
 pub fn time(rt: &HostRuntime, problem: &Problem) -> anyhow::Result<u128> {
     let repeats = (PERSON_RUNS / problem.people().max(1)).max(1);
     let start = Instant::now(rt)?;

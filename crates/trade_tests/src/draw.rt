@@ -11,7 +11,7 @@ use std::marker::Model;
 use std::process::Abort;
 use std::test::Fail;
 
-// A generator of 1, 2, 3 and so on, as words of 32 bits.
+// A random number generator that returns 1, 2, 3 and so on, as words of 32 bits.
 #[derive(Drop)]
 struct Counting {
     last: u32,
@@ -85,7 +85,7 @@ fn orders_equal_words_by_identifier(rt: HostRuntime) -> Result<(), Fail> {
     Ok(())
 }
 
-// The same draw, but the person with the least word has grade 1.
+// The person with the least word has grade 1, and so comes after two people of grade 0.
 #[test]
 fn orders_by_grade_before_word(rt: HostRuntime) -> Result<(), Fail> {
     let alloc = rt.alloc();

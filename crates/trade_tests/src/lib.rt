@@ -1,4 +1,4 @@
-//! Tests of what no contract states about values, lists, the draw and the trade: that calls succeed, and that the definitions
+//! Tests of what no contract states about values, lists, the draw and the trade: calls succeed, and the definitions
 //! give the expected values at worked examples.
 #![tactic(auto)]
 

@@ -142,7 +142,7 @@ fn computes_the_waves_of_a_chain(rt: HostRuntime) -> Result<(), Fail> {
     Ok(())
 }
 
-// T2 leaves the college, and T1 moves into the room.
+// T2 leaves the college, and T1 moves into T2's room.
 #[test]
 fn lets_a_departing_tenant_move_out_first(rt: HostRuntime) -> Result<(), Fail> {
     let alloc = rt.alloc();

@@ -1,4 +1,5 @@
-//! Tests of what no contract states: that calls succeed, and that the definitions give the expected values at worked examples.
+//! Tests of what no contract states about the trade: calls succeed, and the definitions give the expected values at
+//! worked examples.
 mod compared;
 mod faults;
 mod groups;

@@ -1,4 +1,4 @@
-//! Tests of `room_types` with enough memory, and of worked values.
+//! Tests of `room_types` with enough memory, and tests of worked values.
 use crate::asserting::assert_same;
 use room_types::grammars::RoomCodes;
 use room_types::rows::copy_optional;
@@ -22,7 +22,7 @@ fn compares_texts_and_words(rt: HostRuntime) -> Result<(), TypeFault> {
     Ok(())
 }
 
-// The codes R1, R2 and so on, `count` of them.
+// The `count` codes R1, R2 and so on.
 fn codes(alloc: Global, count: usize) -> Result<Vec<RoomCode>, TypeFault> {
     let mut codes = Vec::new(alloc);
     for number in 1..=count {
@@ -66,7 +66,7 @@ fn inserts_copies_and_removes_table_entries(rt: HostRuntime) -> Result<(), TypeF
     Ok(())
 }
 
-// A table of the codes R1 to R12, all with the value false, in which the given code then gets true.
+// A table of the codes R1 to R12. The given code has the value true, and all others have false.
 fn twelve_codes(alloc: Global, code: &RoomCode) -> Result<Table<RoomCodes, bool>, TypeFault> {
     let mut table = Table::new(alloc);
     for other in codes(alloc, 12)? {
@@ -76,7 +76,7 @@ fn twelve_codes(alloc: Global, code: &RoomCode) -> Result<Table<RoomCodes, bool>
     Ok(table)
 }
 
-// The keys, joined in the order of the table.
+// The keys of the table in its order, joined.
 fn ascending(alloc: Global, table: &Table<RoomCodes, bool>) -> Result<String, AllocError> {
     let mut keys = String::new(alloc);
     for (room, _) in table.iter() {
@@ -95,7 +95,7 @@ fn counts_the_items_of_listings(rt: HostRuntime) -> Result<(), TypeFault> {
     Ok(())
 }
 
-// A device that counts its calls and the bytes of their buffers, and fails only at its second call.
+// A device that counts its calls and the bytes of the buffers given to them, and fails only at its second call.
 #[derive(Drop)]
 struct Faulty {
     calls: u32,
@@ -144,7 +144,7 @@ fn kind<T: Drop>(answer: io::Result<T>) -> Option<ErrorKind> {
     answer.err().map(|error| error.kind())
 }
 
-// The error that a call of the faulty device has to return, if any. The first call is 1.
+// The error that the faulty device has to return at this call, or `None` for a success. The first call has number 1.
 fn wanted_at(call: u32) -> Option<ErrorKind> {
     if call == 2 {
         return Some(ErrorKind::Other);
@@ -152,8 +152,8 @@ fn wanted_at(call: u32) -> Option<ErrorKind> {
     None
 }
 
-// Each of ten calls of a `Watched`, also those after a failure, makes one call of the device with the whole buffer, and returns
-// what the device returned. That the device was called again after its failure shows as wasted.
+// Each of ten calls of a `Watched` makes one call of the device with the whole buffer, and returns what the device
+// returned. This holds also for the calls after a failure, and `wasted` reports that there were such calls.
 #[test]
 fn forwards_each_call_to_the_device(rt: HostRuntime) {
     let mut input = watched_faulty();

@@ -1,4 +1,4 @@
-//! Desks over the database of another desk, or over one that statements created, while an allocation fails.
+//! Desks that adopt or migrate a database while an allocation fails. Another desk or statements made the database.
 ghost use Rattle.std.specs.Prelude.{◌≡◌, false, IfErr, IfOk};
 
 use crate::asking::{drop_desk, furnish, office_after, parse_requests};
@@ -11,8 +11,9 @@ use room_types::OutOfMemory;
 use sqlite::{Connection, MemStore};
 use std::alloc::Global;
 
-/// Whether a desk that adopts the database of another desk shows the office after the lines of these texts. If it does not
-/// adopt it, it was out of memory, and the connection is returned unchanged: the next desk adopts it.
+/// Handles the lines of these texts at a desk, and returns whether another desk that adopts its database shows the
+/// same office. An adoption may fail only because it is out of memory. Then the next desk has to adopt the returned
+/// connection.
 pub fn office_is_adopted(alloc: Global, texts: &[&str]) -> Result<bool, OutOfMemory> {
     let requests = parse_requests(alloc, texts)?;
     let office = office_after(alloc, &requests)?;
@@ -20,7 +21,8 @@ pub fn office_is_adopted(alloc: Global, texts: &[&str]) -> Result<bool, OutOfMem
     taken_judged(alloc, connection, false, &office)
 }
 
-/// The same for a database in which these tables are created.
+/// Creates these tables in a database, and returns whether a desk that adopts or migrates it shows the office of the
+/// tables. A failure to do so is judged as in `office_is_adopted`.
 pub fn office_is_opened(alloc: Global, tables: &Tables) -> Result<bool, OutOfMemory> {
     let requests = parse_requests(alloc, tables.lines)?;
     let office = office_after(alloc, &requests)?;
@@ -61,7 +63,7 @@ fn taken_judged(
     }
 }
 
-// The desk that adopts the database, or migrates it if its tables are of an earlier version.
+// Returns a desk that migrates the database if its tables are of an earlier version, and otherwise adopts it.
 fn taken(
     alloc: Global,
     connection: Connection<MemStore>,
@@ -77,7 +79,7 @@ fn taken(
     }
 }
 
-// The database of a desk after these requests.
+// Handles these requests at a new desk and returns the connection to its database.
 fn connection_after(
     alloc: Global,
     requests: &[Request],
@@ -113,7 +115,7 @@ fn back_judged(
     }
 }
 
-// Whether the desk shows the office. `failures` calls before were out of memory.
+// Whether the desk shows the office. `failures` earlier calls were out of memory.
 fn shown_judged(
     alloc: Global,
     mut desk: Desk<MemStore>,

@@ -9,7 +9,7 @@ use room_types::{OutOfMemory, Watched};
 use sqlite::MemStore;
 use std::alloc::Global;
 
-// The exports after the year in which T2 leaves.
+// The exports after the round in which T2 leaves the college.
 const EXPORTS: [(ExportKind, &str); 4] = [
     (
         ExportKind::Rooms,
@@ -26,8 +26,8 @@ const EXPORTS: [(ExportKind, &str); 4] = [
     (ExportKind::Grades, "person,grade\nN,2\nT1,0\nT2,0\n"),
 ];
 
-/// Whether each export after the lines of these texts is written completely, or a prefix of it whose length is reported, and
-/// the office is unchanged.
+/// Handles the lines of these texts and writes each export. Returns whether the exports are complete and the office
+/// is unchanged. An export that is out of memory must write a prefix and report the prefix's length.
 pub fn exports_match(alloc: Global, texts: &[&str]) -> Result<bool, OutOfMemory> {
     let requests = parse_requests(alloc, texts)?;
     let office = office_after(alloc, &requests)?;
@@ -61,7 +61,7 @@ fn observed_at(
     office_judged(alloc, desk, office, failures)
 }
 
-// Whether the desk still holds the office. `failures` exports before were out of memory.
+// Whether the desk still holds the office. `failures` earlier exports were out of memory.
 fn office_judged(
     alloc: Global,
     desk: &mut Desk<MemStore>,
@@ -80,7 +80,8 @@ fn office_judged(
     }
 }
 
-// Whether the whole export is written. Out of memory if a prefix of it is, whose length is reported.
+// Whether the desk writes the whole export. Fails if the desk is out of memory, has written a prefix, and reports the
+// prefix's length.
 fn is_exported(
     alloc: Global,
     desk: &mut Desk<MemStore>,

@@ -1,4 +1,4 @@
-//! Reading lists, good and bad ones, while an allocation fails.
+//! Reads good and bad lists while an allocation fails.
 use crate::refused::verdict;
 use office_lists::{
     ChoicesEntry, ListFault, PersonEntry, or_none, read_choices, read_grades, read_people,
@@ -7,7 +7,7 @@ use office_lists::{
 use room_types::{GradeRow, ListKind, OutOfMemory, RoomCode};
 use std::alloc::{AllocError, Global};
 
-// Lists, and the result of reading them, as a text.
+// Lists, each with the result of reading it, as a text.
 const LISTS: [(ListKind, &str, &str); 8] = [
     (ListKind::Rooms, "room\nH1\nH2\n", "H1;H2;"),
     (
@@ -43,7 +43,7 @@ const LISTS: [(ListKind, &str, &str); 8] = [
     ),
 ];
 
-/// Whether each list is read, or refused for its first bad record.
+/// Whether each good list is read, and each bad one is refused for its first bad record.
 pub fn lists_are_read(alloc: Global) -> Result<bool, OutOfMemory> {
     let mut failures = 0usize;
     for (kind, list, wanted) in &LISTS {
@@ -59,7 +59,7 @@ pub fn lists_are_read(alloc: Global) -> Result<bool, OutOfMemory> {
     verdict(failures)
 }
 
-// The result of reading the list, as a text.
+// Reads the list. Returns the result as a text.
 fn read_as(alloc: Global, kind: ListKind, list: &[u8]) -> Result<String, OutOfMemory> {
     match kind {
         ListKind::Rooms => rooms_text(alloc, list),
@@ -76,7 +76,7 @@ fn rooms_text(alloc: Global, list: &[u8]) -> Result<String, OutOfMemory> {
     }
 }
 
-// Each room, with this end after it.
+// The rooms as a text, with `end` after each.
 fn rooms_joined(alloc: Global, rooms: &[RoomCode], end: &str) -> Result<String, OutOfMemory> {
     let mut text = String::new(alloc);
     for room in rooms {

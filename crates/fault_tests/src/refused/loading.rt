@@ -1,4 +1,4 @@
-//! An office loaded twice from its tables, and checked, while an allocation fails.
+//! Loads an office twice from its tables and checks it, while an allocation fails.
 use crate::asking::{drop_desk, furnish, office_after, parse_requests};
 use crate::refused::verdict;
 use crate::same::is_same_office;
@@ -8,21 +8,22 @@ use room_types::OutOfMemory;
 use sqlite::MemStore;
 use std::alloc::Global;
 
-// The office as loaded at two times, if that succeeded.
+// The office from two loads. Each is `None` if that load failed.
 #[derive(Drop)]
 struct Read {
     first: Option<Office>,
     second: Option<Office>,
 }
 
-/// Whether the office after the lines of these texts is loaded correctly each time, and is lawful.
+/// Handles the lines of these texts at a desk. Returns whether the desk loads the right office both times, and the
+/// office is lawful.
 pub fn office_is_read(alloc: Global, texts: &[&str]) -> Result<bool, OutOfMemory> {
     let requests = parse_requests(alloc, texts)?;
     let read = read_twice(alloc, &requests)?;
     read_judged(alloc, &read, &requests)
 }
 
-// Whether the offices loaded are the one after these requests.
+// Whether each loaded office is the one after these requests.
 fn read_judged(alloc: Global, read: &Read, requests: &[Request]) -> Result<bool, OutOfMemory> {
     let office = office_after(alloc, requests)?;
     counts_judged(judged(alloc, read, &office))
@@ -36,7 +37,8 @@ fn counts_judged((is_right, failures): (bool, usize)) -> Result<bool, OutOfMemor
     }
 }
 
-// Whether nothing wrong was loaded, and the number of calls that were out of memory.
+// Returns whether each load gave this office or failed, and the office is lawful. Also returns the number of calls
+// that were out of memory.
 fn judged(alloc: Global, read: &Read, office: &Office) -> (bool, usize) {
     let (is_right, failures) = counted(&read.first, office, 0);
     let (is_right_again, failures) = counted(&read.second, office, failures);

@@ -14,16 +14,16 @@ struct Observed {
     text: Vec<u8>,
 }
 
-/// Whether two rehearsals of these lines, all of them accepted, print the same. One of them may be out of memory instead: then
-/// it ends after exactly as many bytes as it reports, which are a prefix of the other's output, or one of its lines is printed
-/// as unavailable.
+/// Rehearses these lines twice and returns whether both rehearsals print the same. All lines have to be acceptable.
+/// One rehearsal may be out of memory. Then it prints a prefix of the other's output and reports the prefix's length,
+/// or it prints that a line is unavailable.
 pub fn is_rehearsed(alloc: Global, lines: &str) -> Result<bool, OutOfMemory> {
     let observed = rehearsal_of(alloc, lines)?;
     let again = rehearsal_of(alloc, lines)?;
     Ok(agrees(&observed, &again)? && agrees(&again, &observed)?)
 }
 
-// The verdict on one rehearsal, compared with the other. At most one of the two was out of memory.
+// Returns the verdict on one rehearsal, compared with the other. At most one of the two is out of memory.
 fn agrees(observed: &Observed, other: &Observed) -> Result<bool, OutOfMemory> {
     match observed.how.ending {
         Ending::NoMemory { sent } => {
@@ -41,7 +41,7 @@ fn agrees(observed: &Observed, other: &Observed) -> Result<bool, OutOfMemory> {
     }
 }
 
-// Whether both printed the same, and not nothing.
+// Whether both rehearsals printed the same text, which is not empty.
 fn is_same_text(observed: &Observed, other: &Observed) -> bool {
     !observed.text.is_empty() && observed.text.as_slice() == other.text.as_slice()
 }

@@ -1,4 +1,4 @@
-//! Requests at a desk, replayed at another desk without those that were out of memory.
+//! Handles requests at a desk, and then at another desk all those that were not out of memory.
 use crate::asking::drop_desk;
 use crate::refused::verdict;
 use crate::same::is_same_office;
@@ -8,16 +8,16 @@ use room_types::OutOfMemory;
 use sqlite::MemStore;
 use std::alloc::Global;
 
-// The answers to requests, and the office loaded afterwards, if that succeeded.
+// The answers to requests, and the office loaded afterwards, or `None` if it could not be loaded.
 #[derive(Drop)]
 struct Observed {
     answers: Vec<Answer>,
     office: Option<Office>,
 }
 
-/// Whether a desk answers these requests as another desk does that gets only those which the first did not answer as
-/// unavailable, and both hold the same office afterwards; and whether the office refuses the given number of requests, unless
-/// one was unavailable.
+/// Handles these requests at a desk, and then at another desk those that the first did not answer as unavailable.
+/// Returns whether both desks give the same answers and hold the same office afterwards. If no answer was
+/// unavailable, the office also has to refuse exactly `refusals` requests.
 pub fn matches_replay(
     alloc: Global,
     requests: &[Request],
@@ -35,7 +35,7 @@ pub fn matches_replay(
     }
 }
 
-// If the desk was out of memory for all requests at once, it handled none of them.
+// Judges a desk that was out of memory for all requests at once: it must still hold the empty office.
 fn nothing_judged(alloc: Global, observed: &Observed) -> Result<bool, OutOfMemory> {
     match &observed.office {
         Some(found) if is_same_office(&Office::empty(alloc), found) => verdict(1),
@@ -43,7 +43,7 @@ fn nothing_judged(alloc: Global, observed: &Observed) -> Result<bool, OutOfMemor
     }
 }
 
-// The verdict if both desks gave the same answers.
+// Returns the verdict if both desks gave the same answers.
 fn answers_judged(
     observed: &Observed,
     again: &Observed,
@@ -56,7 +56,7 @@ fn answers_judged(
     office_judged(observed, again, failures)
 }
 
-// Whether both loaded the same office. `failures` answers before were out of memory.
+// Whether both desks hold the same office. `failures` earlier answers were unavailable.
 fn office_judged(
     observed: &Observed,
     again: &Observed,
@@ -116,8 +116,8 @@ fn text(alloc: Global, answer: &Answer) -> Result<String, OutOfMemory> {
     Ok(text?)
 }
 
-// The answers and the office of a new desk. If the answers of another desk are given, the requests that it answered as
-// unavailable are left out.
+// Returns the answers and the office of a new desk. If `known` has the answers of another desk, leaves out the
+// requests that the other desk answered as unavailable.
 fn at_new_desk(
     alloc: Global,
     requests: &[Request],
@@ -143,7 +143,8 @@ fn observed_at(alloc: Global, desk: &mut Desk<MemStore>, requests: &[Request]) -
     Observed { answers, office }
 }
 
-// If an allocation fails here, the comparison is out of memory.
+// Handles the requests that the other desk did not answer as unavailable. Fails if this desk answers one of them as
+// unavailable.
 fn observed_without(
     alloc: Global,
     desk: &mut Desk<MemStore>,

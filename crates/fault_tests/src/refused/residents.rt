@@ -23,7 +23,7 @@ home T2 H2\n\
 open\n\
 choose T2 H1\n";
 
-// What the office records for a list that T1 hands in.
+// The office's record of the list that T1 hands in.
 const CHOOSES: &str = "choose T1 H2\n";
 
 const UNAVAILABLE: &str = "HTTP/1.1 503 Service Unavailable\r\n\
@@ -33,8 +33,8 @@ const UNAVAILABLE: &str = "HTTP/1.1 503 Service Unavailable\r\n\
     \r\n\
     {\"error\":\"Unavailable\"}";
 
-/// Lines of the office, then the request of a resident with this number of spaces after it, the response, and what the office
-/// records.
+/// A step: the office handles `lines`, and then a resident sends `request` with `spaces` spaces after it. The
+/// remaining fields say what the response is, and which lines the office then records.
 #[derive(Clone, Copy)]
 pub struct Step {
     lines: &'static str,
@@ -42,13 +42,13 @@ pub struct Step {
     spaces: usize,
     status: StatusCode,
     reason: &'static str,
-    // a header field of its own, with its line end, or empty
+    // a header field with its line end, or empty for none
     allow: &'static str,
     body: &'static str,
     records: &'static str,
 }
 
-// A list is handed in and recorded.
+// A resident hands in a list, and the office records it.
 const RECORDED: Step = Step {
     lines: "",
     request: "PUT /me/choices HTTP/1.1\r\nHost: a\r\nRoom-Key: key00000000000t1\r\nContent-Length: 6\r\n\r\n[\"H2\"]",
@@ -75,7 +75,7 @@ const REFUSED: Step = Step {
 /// T1 hands in a list.
 pub const LIST: [Step; 1] = [RECORDED];
 
-/// T1 hands in the list that is recorded already.
+/// T1 hands in a list that the office has recorded already.
 pub const LIST_AGAIN: [Step; 1] = [Step {
     lines: CHOOSES,
     ..RECORDED
@@ -88,7 +88,7 @@ pub const LONGEST_LIST: [Step; 1] = [Step {
     ..RECORDED
 }];
 
-/// Requests that are cut off, too long, or refused.
+/// Requests that are incomplete, too long, or refused.
 pub const FAULTS: [Step; 5] = [
     Step {
         request: "PUT /me/choices HTTP/1.1\r\nHost: a\r\nRoom-Key: key00000000000t1\r\nContent-Length: 6\r\n\r\n[\"H2\"",
@@ -134,7 +134,7 @@ const SHOWN: Step = Step {
     ..RECORDED
 };
 
-/// T1 asks before the results are published, and after that.
+/// T1 asks for T1's own standing before the results are published, and again afterwards.
 pub const RESULTS: [Step; 2] = [
     SHOWN,
     Step {
@@ -144,8 +144,8 @@ pub const RESULTS: [Step; 2] = [
     },
 ];
 
-// The requests that the office carried out, the number of responses that the desk is unavailable, and the office afterwards, if
-// it could be loaded.
+// The requests that the office has to have carried out, the number of residents who got the response that the desk is
+// unavailable, and the office afterwards. The office is `None` if it could not be loaded.
 #[derive(Drop)]
 struct Observed {
     requests: Vec<Request>,
@@ -153,7 +153,7 @@ struct Observed {
     office: Option<Office>,
 }
 
-// The response to a resident.
+// Which response a resident got.
 #[derive(Clone, Copy, PartialEq, Eq)]
 enum Answered {
     AsWorked,
@@ -161,8 +161,9 @@ enum Answered {
     Otherwise,
 }
 
-/// Whether each resident gets the response and the office has the record of it, or neither: then the response is that the desk
-/// is unavailable.
+/// Takes the steps at a new desk. Returns whether each resident gets the step's response and the office has the
+/// step's record. A resident may instead get the response that the desk is unavailable. Then the office must not have
+/// the record.
 pub fn are_served(alloc: Global, steps: &[Step]) -> Result<bool, OutOfMemory> {
     let Ok(mut desk) = Desk::in_memory(alloc) else {
         return Err(OutOfMemory {});
@@ -175,7 +176,7 @@ pub fn are_served(alloc: Global, steps: &[Step]) -> Result<bool, OutOfMemory> {
     }
 }
 
-// `None` if a response is neither of the two.
+// Takes the steps at the desk. Returns `None` if a response is neither the step's nor that the desk is unavailable.
 fn observed_in_turn(
     alloc: Global,
     desk: &mut Desk<MemStore>,
@@ -200,7 +201,7 @@ fn observed_in_turn(
     }))
 }
 
-// Handles these lines of the office, and notes their requests.
+// Handles these lines of the office, and appends their requests to `noted`.
 fn does(
     alloc: Global,
     desk: &mut Desk<MemStore>,
@@ -255,7 +256,7 @@ fn answer_text(alloc: Global, step: &Step) -> Result<String, AllocError> {
     )
 }
 
-// Whether the office loaded afterwards is the one after all of these requests.
+// Whether the office loaded afterwards is the one after all of the observed requests.
 fn office_judged(alloc: Global, observed: &Observed) -> Result<bool, OutOfMemory> {
     let office = office_after(alloc, &observed.requests)?;
     match &observed.office {

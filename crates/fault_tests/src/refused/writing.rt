@@ -1,4 +1,4 @@
-//! Writing rows as exports, one of each kind, while an allocation fails.
+//! Writes a row of each kind as an export while an allocation fails.
 use crate::refused::verdict;
 use office_lists::{WriteEnd, write_grades, write_moves, write_people, write_rooms};
 use room_types::{
@@ -15,7 +15,8 @@ const MOVE: &[u8] = b"round,wave,person,from,to\n1,swap,T1,H1,H2\n";
 
 const GRADE: &[u8] = b"person,grade\nT1,0\n";
 
-/// Whether each export is written completely, or a prefix of it whose length is reported.
+/// Whether each export is written completely. An export that is out of memory must write a prefix and report the
+/// prefix's length.
 pub fn rows_are_sent(alloc: Global) -> Result<bool, OutOfMemory> {
     let mut all = 0usize;
     for failures in [
@@ -32,8 +33,8 @@ pub fn rows_are_sent(alloc: Global) -> Result<bool, OutOfMemory> {
     verdict(all)
 }
 
-// The number of calls that were out of memory, or `None` if something else was written than the export, or than the prefix of
-// it whose length is reported.
+// Returns 0 if the whole export was written, and 1 if the export was out of memory, wrote a prefix and reported the
+// prefix's length. Returns `None` in any other case.
 fn failures_in(ended: &Result<(), WriteEnd>, written: &[u8], wanted: &[u8]) -> Option<usize> {
     match ended {
         Ok(()) if written == wanted => Some(0),

@@ -1,4 +1,4 @@
-//! Two files in memory, of which one may stop working.
+//! Two files in memory, one of which may stop working.
 use sqlite::Files;
 use sqlite_disk::{Crash, Disk, Fuse, Memory};
 use std::alloc::Global;
@@ -6,7 +6,7 @@ use std::alloc::Global;
 /// A file that stops working after a given number of calls.
 pub type StoppingFile = Fuse<Memory>;
 
-// The number of bytes of a write that a device finishes together.
+// The number of bytes that a device writes as a unit.
 const SECTOR: usize = 512;
 
 /// The bytes of a log and of its database file.
@@ -31,7 +31,7 @@ impl Calls {
     };
 }
 
-/// Files that hold these bytes, and stop after these numbers of calls.
+/// Returns two files that hold these bytes and stop after these numbers of calls.
 pub fn files_of(
     alloc: Global,
     log: &[u8],
@@ -55,8 +55,8 @@ pub fn is_working(file: &mut StoppingFile) -> bool {
     file.may_be_used() && file.len().is_ok()
 }
 
-/// The contents that may be left of a file: all bytes written; and if not all were synced, only the synced ones, or these with
-/// every second sector as written since.
+/// Returns the contents that a file may have after a crash. One content has all bytes as written. If some of these
+/// are not synced, a second has only the synced bytes, and a third mixes both as in `torn`.
 pub fn contents_left(alloc: Global, mut file: StoppingFile) -> Option<Vec<Vec<u8>>> {
     let written = Vec::from_slice(alloc, file.inner().bytes()).ok()?;
     file.crash();
@@ -72,7 +72,8 @@ fn one_content(alloc: Global, content: Vec<u8>) -> Option<Vec<Vec<u8>>> {
     vec![in alloc; content].ok()
 }
 
-// The written bytes in every second sector, and elsewhere the synced ones, or zero past their end.
+// Returns the written bytes in every second sector. In the other sectors returns the synced bytes, or zeros past the
+// end of these.
 fn torn(alloc: Global, written: &[u8], synced: &[u8]) -> Option<Vec<u8>> {
     let mut torn = Vec::new(alloc);
     for (at, byte) in written.iter().enumerate() {

@@ -1,4 +1,4 @@
-//! Stories: requests to an office of which a file stops.
+//! Stories: requests to an office one of whose files stops.
 use crate::asking::{ask_lines, ask_list, office_after, parse_requests};
 use crate::stops::files::{Calls, Held, StoppingFile, files_of};
 use crate::stops::visits::{Opening, Visit, visit_files, write_files};
@@ -10,7 +10,7 @@ use room_types::{ListKind, OutOfMemory};
 use sqlite::Files;
 use std::alloc::Global;
 
-/// Requests to an office, and the office before all of them and after each.
+/// Requests to an office. `offices` has the office before the first request and the one after each request.
 #[derive(Drop)]
 pub struct Story {
     /// The bytes of the files at the start.
@@ -21,7 +21,7 @@ pub struct Story {
     pub offices: Vec<Office>,
 }
 
-/// Creates an office in empty files.
+/// A story in which a desk creates an office in empty files.
 pub fn creation(alloc: Global) -> Option<Story> {
     let requests = Vec::new(alloc);
     let offices = offices_of(alloc, &requests).ok()?;
@@ -33,19 +33,20 @@ pub fn creation(alloc: Global) -> Option<Story> {
     })
 }
 
-/// A small year, one command at a time. A room is shut for a while.
+/// A small year, in which a room is shut for a while.
 pub fn small_year(alloc: Global) -> Option<Story> {
     let texts = [REGISTER, "shut V\nreopen V\n", ROUND, "settle\n"];
     story_of(alloc, parse_requests(alloc, &texts).ok()?)
 }
 
-/// A year with grades in which a person leaves the college, and a cancelled round from which another person would have left.
+/// A year with grades, in which a person leaves the college. After it, a round is cancelled in which another person
+/// planned to leave.
 pub fn year_of_leavers(alloc: Global) -> Option<Story> {
     let texts = [REGISTER, LEAVING, "settle\nopen\ngoing T1\ncancel\n"];
     story_of(alloc, parse_requests(alloc, &texts).ok()?)
 }
 
-/// Opens the office in these tables, and settles the round.
+/// A story in which a desk opens the office in these tables and settles its round.
 pub fn story_from_tables(alloc: Global, tables: &Tables) -> Option<Story> {
     let files = files_of(alloc, b"", b"", Calls::ALL)?;
     let held = held_in(alloc, write_files(alloc, files, tables.statements)?)?;
@@ -72,7 +73,7 @@ fn settled_office(alloc: Global, tables: &Tables) -> Option<Office> {
     office_after(alloc, &requests).ok()
 }
 
-/// Imports of lists, two of them twice.
+/// A story of imports of lists, two of which are imported twice.
 pub fn imports(alloc: Global) -> Option<Story> {
     story_of(alloc, import_requests(alloc).ok()?)
 }
@@ -89,7 +90,7 @@ fn import_requests(alloc: Global) -> Result<Vec<Request>, OutOfMemory> {
     Ok(requests)
 }
 
-// A story of these requests to the empty office.
+// Returns a story in which a desk adopts an empty office and handles these requests.
 fn story_of(alloc: Global, requests: Vec<Request>) -> Option<Story> {
     let offices = offices_of(alloc, &requests).ok()?;
     let held = empty_office_held(alloc)?;
@@ -101,7 +102,7 @@ fn story_of(alloc: Global, requests: Vec<Request>) -> Option<Story> {
     })
 }
 
-// The office before all requests, and after each, as desks in memory compute it.
+// Returns the office before the first request and after each request, as desks in memory compute it.
 fn offices_of(alloc: Global, requests: &[Request]) -> Result<Vec<Office>, OutOfMemory> {
     let mut offices = Vec::new(alloc);
     for made in 0..requests.len() {
@@ -118,7 +119,7 @@ fn nothing_held(alloc: Global) -> Held {
     }
 }
 
-// The bytes of the files of an empty office.
+// Creates an empty office in two files and returns the bytes of the files.
 fn empty_office_held(alloc: Global) -> Option<Held> {
     let files = files_of(alloc, b"", b"", Calls::ALL)?;
     let creation = Visit {

@@ -1,4 +1,5 @@
-//! Desks over two files. The work is done at a desk of any store, so that only one function depends on the files.
+//! Desks over two files. The functions that work at a desk are generic over the store, so that only `visit_files` and
+//! `write_files` depend on the files.
 ghost use Rattle.std.specs.Prelude.{◌≡◌, false};
 
 use crate::asking::is_replied;
@@ -8,7 +9,7 @@ use office_store::{Back, Desk, DeskFault, Request};
 use sqlite::{Alter, Connection, Files, Options};
 use std::alloc::Global;
 
-// The log is copied into the database file after a few commands, so that this is stopped too.
+// The connection copies the log into the database file after a few commands, so that files also stop during a copy.
 const OPTIONS: Options = Options {
     cache_pages: 100,
     spill_pages: 100,
@@ -19,11 +20,11 @@ const OPTIONS: Options = Options {
 /// How a desk opens the office in its files.
 #[derive(Clone, Copy, PartialEq, Eq, Drop)]
 pub enum Opening {
-    /// It creates the office.
+    /// The desk creates the office.
     Made,
-    /// It adopts the office that they hold.
+    /// The desk adopts the office that the files hold.
     Held,
-    /// It migrates the office that they hold in tables of an earlier version.
+    /// The desk migrates the office that the files hold in tables of an earlier version.
     Earlier,
 }
 
@@ -32,20 +33,20 @@ pub enum Opening {
 pub struct Visit<'a> {
     /// How the desk opens its office.
     pub opening: Opening,
-    /// The requests, which are handled up to the first that gets no reply.
+    /// The requests. The desk handles them up to the first that gets no reply.
     pub requests: &'a [Request],
-    /// Whether the office is loaded at the end.
+    /// Whether the desk loads the office at the end.
     pub is_read: bool,
 }
 
 /// The outcome of a visit.
 #[derive(Drop)]
 pub struct Visited {
-    /// The fault if there was no desk.
+    /// The fault, or `None` if there was a desk.
     pub fault: Option<DeskFault>,
     /// The number of requests that got a reply.
     pub answered: usize,
-    /// The office, if it was to be loaded and could be.
+    /// The office, or `None` if it was not to be loaded or could not be.
     pub office: Option<Office>,
 }
 
@@ -57,7 +58,8 @@ fn no_desk(fault: DeskFault) -> Visited {
     }
 }
 
-/// Does this work at a desk over these files, and returns them. What is not committed is lost.
+/// Does this work at a desk over these files. Returns the outcome and the files. Changes that are not committed are
+/// lost.
 pub fn visit_files(
     alloc: Global,
     files: Files<StoppingFile>,
@@ -105,7 +107,8 @@ fn desk_over<S: Alter + Drop>(
     }
 }
 
-/// Runs these statements over the files, and returns them.
+/// Runs these statements over the files and returns the files. Returns `None` if the files cannot be opened or a
+/// statement fails.
 pub fn write_files(
     alloc: Global,
     files: Files<StoppingFile>,
@@ -143,7 +146,7 @@ fn visit_desk<S: Alter + Drop>(alloc: Global, desk: &mut Desk<S>, visit: Visit<'
     }
 }
 
-// The number of these requests that get a reply before the first that does not.
+// Handles the requests up to the first that gets no reply. Returns how many got a reply.
 fn answered_at<S: Alter + Drop>(alloc: Global, desk: &mut Desk<S>, requests: &[Request]) -> usize {
     let mut answered = 0usize;
     for request in requests {

@@ -8,7 +8,8 @@ use sqlite::{Connection, MemStore};
 use std::alloc::Global;
 use std::process::Abort;
 
-// Statements after which the tables hold no office, run after the round below, each with one that undoes it.
+// Statements that break the tables that `desk_after_run` leaves, so that these hold no office. Each has a statement
+// that undoes the break.
 const BREAKS: [(&str, &str); 12] = [
     (
         "UPDATE result SET room = NULL WHERE person = 'N'",
@@ -57,7 +58,8 @@ const BREAKS: [(&str, &str); 12] = [
     ),
 ];
 
-// Statements to run in turn over the tables of a desk, each with the fault of the database that it leaves, if any.
+// Statements to run in turn over the tables of a desk. Each has the fault with which adopting the database then
+// fails, or `None` if it succeeds.
 const DECLARED: [(&str, Option<DeskFault>); 9] = [
     (
         "UPDATE round SET version = 9",
@@ -123,7 +125,7 @@ fn adopts_only_rows_of_an_office(rt: HostRuntime) {
     }
 }
 
-// The desk that adopts the database of another desk.
+// Returns a desk that adopts the database of this desk.
 pub(super) fn adopted(rt: &impl Abort, alloc: Global, desk: Desk<MemStore>) -> Desk<MemStore> {
     match Desk::adopt(alloc, desk.release()) {
         Ok(desk) => desk,
@@ -131,7 +133,8 @@ pub(super) fn adopted(rt: &impl Abort, alloc: Global, desk: Desk<MemStore>) -> D
     }
 }
 
-// Runs the statements, and asserts that adopting the database then ends with this fault, or with none. Returns the connection.
+// Runs the statements and tries to adopt the database. Asserts that this fails with the fault `wanted`, or succeeds
+// if that is `None`. Returns the connection.
 pub(super) fn tried_after(
     rt: &impl Abort,
     alloc: Global,
@@ -177,7 +180,8 @@ fn is_row(row: &ResultRow, person: &str, room: &str) -> bool {
     }
 }
 
-// T1 and T2 live in H1 and H2 and list each other's room. N is last and lists H1 and V.
+// A desk after a run. T1 and T2 live in H1 and H2 and list each other's room. N is last in the order and lists H1 and
+// V.
 fn desk_after_run(rt: &impl Abort, alloc: Global) -> Desk<MemStore> {
     let mut desk = new_desk(rt, alloc);
     for requests in [entered(rt, alloc), held(rt, alloc)] {

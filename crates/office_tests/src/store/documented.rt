@@ -13,7 +13,7 @@ const LEAVER: &str =
     "UPDATE round SET version = 3; DELETE FROM word; UPDATE round SET phase = 'open';
 INSERT INTO going VALUES ('T2'); INSERT INTO grade VALUES ('N', 1)";
 
-// N has the first word but a later grade than T1, who gets the leaver's room.
+// Lines of a round. N has the first word but a later grade than T1, who gets the leaver's room.
 const LEAVERS_ROUND: &str =
     "round\nclose\ndraw 0000000000000001 0000000000000002\norder\nrun\nresults\npublish\nsettle\nmoves 1\n";
 
@@ -23,7 +23,7 @@ const LEAVERS_ROUND_PRINTED: &str = "round 1 open people 3 withdrawn 0 going 1\n
     wave  person        from      to\n0     T2            H2        none\n\
     1     T1            H1        H2\n2     N             none      H1\n";
 
-// Tables of this version are adopted in both orders.
+// A desk adopts tables of this version in both orders.
 #[test]
 fn adopts_tables_in_the_documented_order(rt: HostRuntime) {
     let alloc = rt.alloc();
@@ -41,7 +41,7 @@ fn adopts_tables_in_the_documented_order(rt: HostRuntime) {
     }
 }
 
-// The desk that adopts the database.
+// Returns a desk that adopts the database.
 fn taken(rt: &impl Abort, alloc: Global, conn: Connection<MemStore>) -> Desk<MemStore> {
     let outside = conn.is_autocommit();
     assert!(rt; outside);

@@ -33,7 +33,8 @@ impl Write for Narrow {
     }
 }
 
-// H1, in which E1 lives, and H2. E2 and E3 have no home, and E2 has a name that needs quotes.
+// Requests that add H1 and H2 and three people. E1 lives in H1. E2 and E3 have no home, and E2 has a name that needs
+// quotes.
 fn requests(rt: &impl Abort, alloc: Global) -> Vec<Request> {
     vec![in alloc;
         add_room(rt, alloc, "H2"),
@@ -92,7 +93,7 @@ fn exports_rooms_and_people(rt: HostRuntime) {
     }
 }
 
-// The exports of the moves and grades of an empty office are only the header.
+// The exports of the moves and the grades of an empty office consist only of the header.
 #[test]
 fn exports_an_empty_office(rt: HostRuntime) {
     let alloc = rt.alloc();
@@ -103,7 +104,7 @@ fn exports_an_empty_office(rt: HostRuntime) {
     exports(&rt, alloc, &mut desk, ExportKind::Grades, header);
 }
 
-// Exports the rooms to a writer that takes 20 bytes.
+// Exports the rooms to a writer that takes 20 bytes. Asserts that the export fails and reports 20 bytes.
 fn fills_a_writer(rt: &impl Abort, alloc: Global, desk: &mut Desk<MemStore>) {
     let mut output = Watched::new(Narrow {
         written: Vec::new(alloc),
@@ -117,7 +118,7 @@ fn fills_a_writer(rt: &impl Abort, alloc: Global, desk: &mut Desk<MemStore>) {
     );
 }
 
-// The writer fails after 20 bytes. The desk works on after that.
+// The writer fails after 20 bytes, and the desk still works afterwards.
 #[test]
 fn reports_how_much_was_sent(rt: HostRuntime) {
     let alloc = rt.alloc();

@@ -1,4 +1,4 @@
-//! Tests of imports at desks in memory, by the printed answers.
+//! Tests of imports at desks in memory. The tests compare the printed answers.
 use super::adopting::adopted;
 use super::exporting::exports;
 use crate::asserting::assert_same;
@@ -14,20 +14,21 @@ use std::process::Abort;
 
 const ROOMS: &[u8] = b"room\nH1\nH2\n";
 
-// With a byte order mark, records that end as on Windows, quotes, and people without a home.
+// A list of people with a byte order mark, records that end as on Windows, and quotes. Some of the people have no
+// home.
 pub(super) const PEOPLE: &[u8] = b"\xEF\xBB\xBFperson,name,key,home\r\n\
     E1,Ann Ash,key00000000000e1,H1\r\n\
     E2,\"Bo, B.\",key00000000000e2,\r\n\
     E3,Cy Coy,key00000000000e3,\r\n";
 
-// E3 has two records.
+// A list of grades in which E3 has two records.
 const GRADES: &[u8] = b"person,grade\nE3,1\nE1,4\nE3,2\n";
 
 pub(super) const HEADER: &[u8] = b"person,name,key,home\n";
 
 pub(super) const NO_BYTES: &[u8] = b"";
 
-// The third person is in the office already.
+// A list of people whose third person is in the office already.
 pub(super) const KNOWN_THIRD: &[u8] = b"person,name,key,home\n\
     E4,Di Day,key00000000000e4,\n\
     E5,Ed Eel,key00000000000e5,H1\n\
@@ -97,7 +98,7 @@ pub(super) fn responds_to_lists(
     assert_same!(rt; text.as_str(), expected);
 }
 
-// A desk with two rooms, and with three people of whom one has a home.
+// A desk with two rooms and three people, one of whom has a home.
 pub(super) fn furnished(rt: &impl Abort, alloc: Global) -> Desk<MemStore> {
     let mut desk = new_desk(rt, alloc);
     responds_to_lists(
@@ -119,7 +120,7 @@ pub(super) fn furnished(rt: &impl Abort, alloc: Global) -> Desk<MemStore> {
     desk
 }
 
-// A round in which E1 lists H2.
+// The requests of a round in which E1 lists H2.
 fn round(rt: &impl Abort, alloc: Global) -> Vec<Request> {
     let words = vec![in alloc; Word::new(5), Word::new(6), Word::new(7)].expect(rt, "memory");
     vec![in alloc;
@@ -160,7 +161,7 @@ fn adds_the_rooms_and_people_of_lists(rt: HostRuntime) {
     }
 }
 
-// A desk after that round.
+// The desk of `furnished` after the requests of `round`.
 fn settled(rt: &impl Abort, alloc: Global) -> Desk<MemStore> {
     let mut desk = furnished(rt, alloc);
     let requests = round(rt, alloc);
@@ -169,7 +170,8 @@ fn settled(rt: &impl Abort, alloc: Global) -> Desk<MemStore> {
     desk
 }
 
-// Asserts that imports under known labels still have their answers.
+// Asserts that the known list of people gets its first answer again, a longer list under its label is refused because
+// it differs, and a new list is refused because of a known person.
 fn knows_its_lists(rt: &impl Abort, alloc: Global, desk: &mut Desk<MemStore>) {
     let longer = [PEOPLE, b"\n".as_slice()]
         .concat(alloc)
@@ -183,8 +185,8 @@ fn knows_its_lists(rt: &impl Abort, alloc: Global, desk: &mut Desk<MemStore>) {
     responds_to_lists(rt, alloc, desk, ListKind::People, &again, expected);
 }
 
-// After a round, importing a known list again still has its first answer and moves nobody back, also at the next desk over the
-// same database. A list that is refused is not stored and adds nobody.
+// After a round, a known list that is imported again gets its first answer and moves nobody back. The next desk over
+// the same database does the same. A list that is refused is not stored and adds nobody.
 #[test]
 fn remembers_imports_under_their_labels(rt: HostRuntime) {
     let alloc = rt.alloc();
@@ -206,7 +208,8 @@ fn remembers_imports_under_their_labels(rt: HostRuntime) {
     );
 }
 
-// Without a round, a list of choices is too early. In an open round, each of these lists is refused for its own fault.
+// Without a round, the desk refuses these lists of choices as too early. In an open round it refuses each list for a
+// fault of the list.
 #[test]
 fn refuses_early_and_bad_lists_of_choices(rt: HostRuntime) {
     let alloc = rt.alloc();
@@ -229,7 +232,7 @@ fn refuses_early_and_bad_lists_of_choices(rt: HostRuntime) {
     responds_to_lists(&rt, alloc, &mut desk, ListKind::Choices, &lists, expected);
 }
 
-// Lists of grades. The second is the first again, and those after it are refused.
+// Lists of grades. The second repeats the first, and the desk refuses all later ones.
 const LISTS_OF_GRADES: [(&str, &[u8]); 5] = [
     ("g-1", GRADES),
     ("g-1", GRADES),
@@ -238,7 +241,7 @@ const LISTS_OF_GRADES: [(&str, &[u8]); 5] = [
     ("p-1", GRADES),
 ];
 
-// The last record of a person counts. A person who is removed and added again has grade 0.
+// If a person has several records, the last one counts. A person who is removed and added again has grade 0.
 #[test]
 fn imports_grades_and_refuses_bad_ones(rt: HostRuntime) {
     let alloc = rt.alloc();
@@ -280,11 +283,11 @@ fn imports_grades_until_the_round_closes(rt: HostRuntime) {
     }
 }
 
-// The printed rooms, and the answer to a list that is known.
+// The printed rooms, and the answer to a list that is imported already.
 const ROOMS_PRINTED: &str = "room      state     tenant\nH1        occupied  E1\n\
     H2        free      none\nadded 1\n";
 
-// A list of rooms that is one too long for an office with two rooms.
+// A list of rooms with one room more than an office with two rooms can add.
 fn too_many_rooms(alloc: Global) -> Result<Vec<u8>, AllocError> {
     let mut many = Vec::from_slice(alloc, b"room\n")?;
     for number in 3..2_002u16 {
@@ -293,7 +296,7 @@ fn too_many_rooms(alloc: Global) -> Result<Vec<u8>, AllocError> {
     Ok(many)
 }
 
-// Requests of which the commands are accepted, and each import is refused for one of its records.
+// Requests among which the desk refuses each import for one of the import's records, and accepts all other commands.
 fn refused(rt: &impl Abort, alloc: Global, many: &[u8]) -> Vec<Request> {
     let in_shut_room = b"person,name,key,home\nE4,Di Day,key00000000000e4,H2\n";
     let in_taken_room = b"person,name,key,home\nE4,Di Day,key00000000000e4,H1\n";
@@ -326,7 +329,7 @@ fn refused(rt: &impl Abort, alloc: Global, many: &[u8]) -> Vec<Request> {
     .expect(rt, "memory")
 }
 
-// If the command of a record would be refused, the import is refused with that refusal's number.
+// If the office would refuse the command of a record, it refuses the import with the number of that refusal.
 #[test]
 fn refuses_records_as_their_commands_are_refused(rt: HostRuntime) {
     let alloc = rt.alloc();
@@ -349,8 +352,8 @@ fn many_people(alloc: Global, count: u16) -> Result<Vec<u8>, AllocError> {
     Ok(many)
 }
 
-// With three people in the office, a list of one too many is refused at its last record. It adds nobody and is not stored: its
-// first record is imported under the same label.
+// With three people in the office, a list with one person too many is refused at its last record. The list adds
+// nobody and is not stored, so a list of its first record can be imported under the same label.
 #[test]
 fn refuses_people_over_the_limit(rt: HostRuntime) {
     let alloc = rt.alloc();

@@ -1,4 +1,4 @@
-//! Tests of the labels of imported lists, at desks in memory, by the printed answers.
+//! Tests of the labels of imported lists at desks in memory. The tests compare the printed answers.
 use super::importing::{
     HEADER, KNOWN_THIRD, NO_BYTES, PEOPLE, furnished, responds, responds_to_lists,
 };
@@ -10,8 +10,9 @@ use sqlite::MemStore;
 use std::alloc::Global;
 use std::process::Abort;
 
-// Runs the command and asserts that its answer is `done`. Then a known label still has its first answer, another list under it
-// differs, and a new list has the answer `late`.
+// Runs the command and asserts that its answer is `done`. Then imports three lists and asserts their answers. The
+// known list gets its first answer again, another list under its label is refused because it differs, and a new list
+// has the answer `late`.
 fn checks_labels(
     rt: &impl Abort,
     alloc: Global,
@@ -43,7 +44,8 @@ fn checks_labels(
     );
 }
 
-// In each phase a known label has its first answer, another list under it differs, and a new list is refused.
+// In each phase, a known list gets its first answer again, another list under its label is refused because it
+// differs, and a new list is refused.
 #[test]
 fn checks_labels_before_the_phase(rt: HostRuntime) {
     let alloc = rt.alloc();
@@ -79,7 +81,8 @@ fn checks_labels_before_the_phase(rt: HostRuntime) {
     }
 }
 
-// An office takes 200 labels. Once they are used up, known labels still have their answers.
+// An office takes 200 labels. Once they are used up, it refuses new ones, and lists under known labels still get
+// their answers.
 #[test]
 fn accepts_two_hundred_labels_and_no_more(rt: HostRuntime) {
     let alloc = rt.alloc();

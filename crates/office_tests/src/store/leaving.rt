@@ -1,4 +1,4 @@
-//! Tests of lists of choices with a record of a person who leaves the college.
+//! Tests of lists of choices in which a record is of a person who leaves the college.
 use super::importing::{responds, responds_to_lists};
 use crate::building::{new_desk, parse_requests};
 use room_types::ListKind;
@@ -8,8 +8,8 @@ const LEAVING: &str = "room H1\nroom H2\nperson E1 key00000000000e1 Ann Ash\n\
 
 const LEAVING_PRINTED: &str = "ok\nok\nok\nok\nok\nround 1 open\ngoing\n";
 
-// A list with a record of the leaver is refused and adds nobody's choices. Without that record it is imported under the same
-// label.
+// A list with a record of the leaver is refused and adds nobody's choices. The list without that record is then
+// imported under the same label.
 #[test]
 fn refuses_choices_of_leavers(rt: HostRuntime) {
     let alloc = rt.alloc();

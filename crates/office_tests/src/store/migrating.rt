@@ -11,7 +11,8 @@ use sqlite::{Connection, MemStore};
 use std::alloc::Global;
 use std::process::Abort;
 
-// T1 and T2 live in H1 and H2 and list each other's room. N is last and lists H1 and V.
+// The rows of an office. T1 and T2 live in H1 and H2 and list each other's room. N is last in the order and lists H1
+// and V.
 pub(super) const ROWS: &str = "INSERT INTO room VALUES ('H1', 0), ('H2', 0), ('V', 0);
 INSERT INTO person VALUES ('T2', 'Tom Tao', 'key00000000000t2', 'H2', 0);
 INSERT INTO person VALUES ('T1', 'Tim Tan', 'key00000000000t1', 'H1', 0);
@@ -22,13 +23,13 @@ INSERT INTO word VALUES ('T1', '0000000000000001'), ('T2', '0000000000000002');
 INSERT INTO word VALUES ('N', '0000000000000003');
 INSERT INTO list VALUES ('r-1', 'rooms', x'726f6f6d0a56', 1);";
 
-// The same with a grade, and with an imported list of grades that set nobody's grade.
+// Statements that add a grade to the office in `ROWS`, and an imported list of grades that set nobody's grade.
 const GRADES: &str = "UPDATE round SET version = 2; INSERT INTO grade VALUES ('N', 4);
 INSERT INTO list VALUES ('g-1', 'grades', x'706572736f6e2c67726164650a', 0);";
 
 const HEADER: &[u8] = b"person,grade\n";
 
-// Statements that bring the round into a phase, lines to handle there, and the printed answers.
+// Statements that bring the round into a phase, lines that a desk then handles, and the printed answers.
 const PHASES: [(&str, &str, &str); 7] = [
     (
         "DELETE FROM word; DELETE FROM choice; UPDATE round SET number = 0, phase = 'idle'",
@@ -83,8 +84,8 @@ const PHASES: [(&str, &str, &str); 7] = [
     ),
 ];
 
-// Statements, each with one that undoes it, and the fault in between. The first array is for tables of both versions, the
-// others for those of one.
+// Statements that break the tables. Each has a statement that undoes the break, and the fault of a migration in
+// between. `FAULTS` is for tables of both versions, and the next two arrays are for tables of one version each.
 const FAULTS: [(&str, &str, DeskFault); 7] = [
     (
         "UPDATE round SET phase = 'open'",
@@ -180,7 +181,8 @@ const EARLIER: [Layout; 3] = [
     Layout::DocumentedSecond,
 ];
 
-// A database with the tables in this layout of an earlier version and the rows above, after these statements.
+// Returns a database with the tables in this layout of an earlier version and with the rows of the office, after
+// these statements. The rows include a grade if the version has grades.
 fn earlier_made(
     rt: &impl Abort,
     alloc: Global,
@@ -208,7 +210,7 @@ fn tried(alloc: Global, conn: Connection<MemStore>) -> (Option<DeskFault>, Conne
     }
 }
 
-// Runs the statements, and asserts that migrating the database then fails with this fault. Returns the connection.
+// Runs the statements and asserts that migrating the database then fails with this fault. Returns the connection.
 fn refused_after(
     rt: &impl Abort,
     alloc: Global,
@@ -222,7 +224,7 @@ fn refused_after(
     conn
 }
 
-// The desk that migrates the database.
+// Returns a desk that migrates the database.
 fn migrated(rt: &impl Abort, alloc: Global, conn: Connection<MemStore>) -> Desk<MemStore> {
     let outside = conn.is_autocommit();
     assert!(rt; outside);
@@ -244,8 +246,8 @@ pub(super) fn responds_to_lines(
     responds(rt, alloc, desk, &requests, expected);
 }
 
-// At first no desk adopts the tables. A desk migrates them and handles the lines. Then another desk adopts them, and none
-// migrates them again.
+// Asserts that no desk adopts the tables at first, and that a desk migrates them and handles the lines. Then another
+// desk has to adopt the tables, and no desk may migrate them again.
 fn is_migrated(
     rt: &impl Abort,
     alloc: Global,
@@ -282,7 +284,7 @@ fn migrates_each_phase(rt: HostRuntime) {
     }
 }
 
-// A failed migration leaves the tables as they were: afterwards they are migrated.
+// A failed migration leaves the tables unchanged, so that a desk can migrate them once the fault is undone.
 #[test]
 fn migrates_only_rows_of_an_office(rt: HostRuntime) {
     let alloc = rt.alloc();
@@ -320,7 +322,7 @@ fn migrates_no_other_database(rt: HostRuntime) {
     let _conn = refused_after(&rt, alloc, conn, view, DeskFault::Unavailable);
 }
 
-// Grades and lists of grades exist from version 2 on.
+// Grades and lists of grades exist from version 2 on. A migration keeps them.
 #[test]
 fn migrates_grades_of_the_second_version(rt: HostRuntime) {
     let alloc = rt.alloc();
@@ -334,8 +336,9 @@ fn migrates_grades_of_the_second_version(rt: HostRuntime) {
     responds_to_lists(&rt, alloc, &mut desk, ListKind::Grades, &known, "added 0\n");
 }
 
-// Rows of version 1 in the tables of version 2. A migration from version 1 fails, because the name of the table that it adds is
-// taken. With 2 in the row of the round they are the rows of an office of version 2.
+// Tables of version 2 with the rows of an office of version 1. A migration from version 1 fails, because the name of
+// the table that the migration adds is taken. Once the row of the round says version 2, the rows are those of an
+// office of version 2.
 #[test]
 fn refuses_first_version_rows_in_second_version_tables(rt: HostRuntime) {
     let alloc = rt.alloc();

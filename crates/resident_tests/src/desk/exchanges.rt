@@ -1,4 +1,4 @@
-//! Tests of worked requests of residents and of the office's lines between them.
+//! Tests of worked requests of residents. Between the requests, the office handles lines of its own.
 use super::whole_office::{LISTS_H2, is_as_expected};
 use super::{
     ANSWER, Exchange, REQUEST, WELL, drop_desk, handle_lines, is_answered, open_round, served,
@@ -12,7 +12,7 @@ use sqlite::MemStore;
 use std::alloc::Global;
 use std::process::Abort;
 
-// Lines of the office, or the request of a resident with the status and the body of the response.
+// Lines that the office handles, or a resident's request with the status and the body of the response.
 enum Step {
     Office(&'static str),
     Exchange(&'static str, u16, &'static str),
@@ -180,7 +180,7 @@ const STORY: [Step; 38] = [
     ),
 ];
 
-// In the first round T2 withdraws twice, and then hands in a list, which is too late.
+// In the first round T2 withdraws twice, and then hands in a list, which is refused as too late.
 const WITHDRAWALS: [Step; 3] = [
     Step::Exchange(
         "POST /me/withdraw HTTP/1.1\r\nHost: a\r\nRoom-Key: key00000000000t2\r\n\r\n",
@@ -199,8 +199,8 @@ const WITHDRAWALS: [Step; 3] = [
     ),
 ];
 
-// T2, who has a home, leaves the college before the results. After that T2 can hand in no list and cannot withdraw, and still
-// sees the recorded list, but no result.
+// T2, who has a home, leaves the college before the results are published. After that T2 can neither hand in a list
+// nor withdraw. T2 still sees the recorded list, but no result.
 const LEAVING: [Step; 9] = [
     Step::Office("going T2\n"),
     Step::Exchange(
@@ -237,7 +237,7 @@ const LEAVING: [Step; 9] = [
     ),
 ];
 
-// The response to a wrong method.
+// The response to a request with a wrong method.
 const WRONG_METHOD: &str = "HTTP/1.1 405 Method Not Allowed\r\n\
     Content-Type: application/json\r\n\
     Content-Length: 28\r\n\
@@ -246,7 +246,7 @@ const WRONG_METHOD: &str = "HTTP/1.1 405 Method Not Allowed\r\n\
     \r\n\
     {\"error\":\"MethodNotAllowed\"}";
 
-// The status of the response, or `None` if serving the connection ended otherwise.
+// The status of the response, or `None` if serving the connection ended without one.
 fn answered_status(how: &Served) -> Option<u16> {
     match how {
         Served::Answered { status } => Some(status.as_u16()),
@@ -254,7 +254,7 @@ fn answered_status(how: &Served) -> Option<u16> {
     }
 }
 
-// Each story begins with a new desk.
+// Each story begins at a new desk.
 #[test]
 fn answers_residents_through_rounds(rt: HostRuntime) {
     for story in [STORY.as_slice(), WITHDRAWALS.as_slice(), LEAVING.as_slice()] {
@@ -281,7 +281,7 @@ fn take_step(rt: &impl Abort, alloc: Global, desk: &mut Desk<MemStore>, step: &S
     }
 }
 
-// Whether the response ends in an empty line and this body.
+// Whether the response ends with an empty line and then this body.
 fn has_body(written: &[u8], body: &str) -> bool {
     match written.strip_suffix(body.as_bytes()) {
         Some(head) => head.ends_with(b"\r\n\r\n"),
@@ -289,7 +289,7 @@ fn has_body(written: &[u8], body: &str) -> bool {
     }
 }
 
-// Asserts that the response to this request has this status, and begins with it.
+// Asserts that serving ended with this status and that the response begins with the status. The request is the note.
 fn has_status(rt: &impl Abort, alloc: Global, exchange: &Exchange, status: u16, request: &str) {
     let prefix = format!(in alloc; "HTTP/1.1 {status} ").expect(rt, "memory");
     assert_same!(rt; answered_status(&exchange.how), Some(status), request);
@@ -297,8 +297,8 @@ fn has_status(rt: &impl Abort, alloc: Global, exchange: &Exchange, status: u16, 
     holds(rt, begins && !exchange.failed, request);
 }
 
-// The exact bytes of the response to a list and of the one to a wrong method. The call for desks in memory gives the first one
-// too.
+// Compares the exact bytes of the response to a list and of the response to a wrong method. `serve_one_in_memory`,
+// which serves desks in memory, also has to give the response to the list.
 #[test]
 fn answers_to_the_byte(rt: HostRuntime) {
     let alloc = rt.alloc();
@@ -310,7 +310,7 @@ fn answers_to_the_byte(rt: HostRuntime) {
     is_answered_in_memory(&rt, alloc);
 }
 
-// Asserts that the call for desks in memory gives the response to the request, and records the list.
+// Asserts that `serve_one_in_memory` gives the response to the request, and records the list.
 fn is_answered_in_memory(rt: &impl Abort, alloc: Global) {
     let mut desk = open_round(rt, alloc);
     let mut stream = Watched::new(Pair {
@@ -325,7 +325,7 @@ fn is_answered_in_memory(rt: &impl Abort, alloc: Global) {
     drop_desk(desk);
 }
 
-// A body of 1,024 bytes is read completely. A head may have 64 fields, and not 65.
+// A body of 1,024 bytes is read completely. A head may have 64 fields, but not 65.
 #[test]
 fn accepts_requests_up_to_the_limits(rt: HostRuntime) {
     let alloc = rt.alloc();
@@ -337,12 +337,12 @@ fn accepts_requests_up_to_the_limits(rt: HostRuntime) {
     drop_desk(desk);
 }
 
-// The request up to the length of its body.
+// The part of `REQUEST` before the length of the body.
 fn request_prefix() -> &'static str {
     REQUEST.strip_suffix("6\r\n\r\n[\"H2\"]").unwrap_or("")
 }
 
-// Asserts that the request with a body of 1,024 bytes gets the same response.
+// Asserts that the same request with a body of 1,024 bytes gets the same response.
 fn is_answered_at_length(rt: &impl Abort, alloc: Global, desk: &mut Desk<MemStore>) {
     let prefix = request_prefix();
     let spaces = " ".repeat(alloc, 1_018).expect(rt, "memory");

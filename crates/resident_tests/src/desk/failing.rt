@@ -3,8 +3,8 @@ use std::alloc::Global;
 use std::io;
 use std::io::{Error, ErrorKind, Read, Write};
 
-/// A reader that passes at most `chunk` bytes at the first read and at most `later` at each other one. After `reads` reads one
-/// read fails.
+/// A reader that passes at most `chunk` bytes at the first read, and at most `later` bytes at each later one. After
+/// `reads` reads one read fails, and later reads succeed.
 #[derive(Drop)]
 pub struct ChunkedReader<'a> {
     pub unread: &'a [u8],
@@ -26,8 +26,9 @@ impl Read for ChunkedReader<'_> {
     }
 }
 
-/// A writer that keeps the bytes that it takes, at most `chunk` a write. After `room` bytes it refuses one write: the write
-/// fails, or takes no byte. After that it takes `later` more bytes. Its flushes may fail.
+/// A writer that keeps the bytes that it takes, at most `chunk` bytes a write. After `room` bytes it refuses one
+/// write, which fails if `fails` and otherwise takes no byte. Then it takes `later` more bytes. Flushes succeed if
+/// and only if `flushes` is true.
 #[derive(Drop)]
 pub struct NarrowWriter {
     pub written: Vec<u8>,

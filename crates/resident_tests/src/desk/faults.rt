@@ -23,7 +23,7 @@ const BAD_REQUEST: &str = "HTTP/1.1 400 Bad Request\r\n\
     \r\n\
     {\"error\":\"BadRequest\"}";
 
-// How a device refuses a write, by failing or by taking no byte, and how many bytes it takes afterwards.
+// Whether a device refuses a write by failing (`true`) or by taking no byte, and how many bytes it takes afterwards.
 const REFUSALS: [(bool, usize); 4] = [
     (true, 0),
     (true, usize::MAX),
@@ -31,7 +31,8 @@ const REFUSALS: [(bool, usize); 4] = [
     (false, usize::MAX),
 ];
 
-// Asserts how serving a connection ended and what was written, and that the stream failed if and only if that is a fault.
+// Asserts how serving a connection ended and what was written. Asserts that the stream failed if serving ended with a
+// read or write fault, and not otherwise.
 fn is_exchange(rt: &impl Abort, exchange: &Exchange, how: Served, written: &[u8], case: usize) {
     same_at(rt, &exchange.how, &how, case);
     same_at(rt, &exchange.failed, &is_fault(how), case);
@@ -42,7 +43,7 @@ fn is_fault(how: Served) -> bool {
     matches!(how, Served::ReadFault | Served::WriteFault { .. })
 }
 
-// The response is the same however the request is cut into two chunks, and if each read gives one byte.
+// The response is the same wherever the request is cut into two chunks, and also if each read gives one byte.
 #[test]
 fn answers_the_same_however_a_request_is_cut(rt: HostRuntime) -> io::Result<()> {
     for cut in 0..REQUEST.len() {
@@ -62,7 +63,7 @@ fn same_answer_at_cut(rt: &impl Abort, alloc: Global, cut: usize) {
     drop_desk(desk);
 }
 
-// A reader of the request in two chunks. If the first would be empty, each read gives one byte.
+// A reader that gives the request in two chunks, cut after `cut` bytes. If `cut` is 0, each read gives one byte.
 fn reader_cut_at(cut: usize) -> ChunkedReader<'static> {
     ChunkedReader {
         unread: REQUEST.as_bytes(),
@@ -72,7 +73,7 @@ fn reader_cut_at(cut: usize) -> ChunkedReader<'static> {
     }
 }
 
-// A request that ends too early is refused, and nothing changes. If no byte arrives, nothing is written.
+// A request that ends too early is refused and changes nothing. If no byte arrives, nothing is written.
 #[test]
 fn refuses_each_incomplete_request(rt: HostRuntime) -> io::Result<()> {
     let mut desk = open_round(&rt, rt.alloc());
@@ -119,8 +120,8 @@ fn stops_at_read(rt: &impl Abort, alloc: Global, desk: &mut Desk<MemStore>, pass
     is_as_expected(rt, alloc, desk, NO_LIST, passed);
 }
 
-// If a write fails or takes no byte, or the flush fails, a prefix of the response has been written, and the list stays
-// recorded, even if the device works again afterwards.
+// A write fails or takes no byte, or the flush fails. Then a prefix of the response has been written, and the list
+// stays recorded. This holds even if the device works again afterwards.
 #[test]
 fn stops_where_a_write_fails(rt: HostRuntime) -> io::Result<()> {
     for sent in 0..ANSWER.len() + 1 {
@@ -133,7 +134,8 @@ fn stops_where_a_write_fails(rt: HostRuntime) -> io::Result<()> {
     )
 }
 
-// Asserts that exactly this prefix is written if the writer has room for no more, however it refuses a write.
+// Asserts that exactly this prefix is written if the writer has room for no more. The writer refuses a write in each
+// of the ways in `REFUSALS`.
 fn stops_after(rt: &impl Abort, alloc: Global, prefix: &[u8]) {
     for (fails, later) in REFUSALS {
         let writer = NarrowWriter {
@@ -148,7 +150,7 @@ fn stops_after(rt: &impl Abort, alloc: Global, prefix: &[u8]) {
     }
 }
 
-// Asserts that this writer takes exactly this prefix of the response.
+// Asserts that this writer takes exactly this prefix of the response, and that the list is recorded.
 fn stops_on(rt: &impl Abort, alloc: Global, writer: NarrowWriter, prefix: &[u8]) {
     let sent = prefix.len();
     let mut desk = open_round(rt, alloc);
@@ -158,8 +160,8 @@ fn stops_on(rt: &impl Abort, alloc: Global, writer: NarrowWriter, prefix: &[u8])
     drop_desk(desk);
 }
 
-// A head of 8,192 bytes without an end is refused by the read that brings its last byte. The longest request, read one byte at
-// a time, takes as many reads as it has bytes.
+// A head of 8,192 bytes without an end is refused by the read that brings its last byte. The longest request, read
+// one byte at a time, takes as many reads as it has bytes.
 #[test]
 fn reads_up_to_the_limits_of_head_and_body(rt: HostRuntime) {
     let mut desk = open_round(&rt, rt.alloc());

@@ -16,8 +16,8 @@ room A40\n";
 
 const TOO_MANY: Option<(&str, &str)> = Some(("422 Unprocessable Entity", "TooManyChoices"));
 
-// Lines of the office, the number of rooms that T1 lists then, and the status and the name of the error, or `None` if the list
-// is recorded.
+// Lines that the office handles, and the number of rooms that T1 then lists. Then the status and the name of the
+// error, or `None` if the list is recorded.
 const LISTS: [(&str, usize, Option<(&str, &str)>); 6] = [
     ("", 40, Some(("422 Unprocessable Entity", "UnknownRoom"))),
     ("", 41, TOO_MANY),
@@ -27,7 +27,7 @@ const LISTS: [(&str, usize, Option<(&str, &str)>); 6] = [
     ("", 41, TOO_MANY),
 ];
 
-// A list may have forty rooms. A longer one is refused for its length before the phase and the rooms are checked.
+// A list may have forty rooms. A longer list is refused for its length, before the phase and the rooms are checked.
 #[test]
 fn accepts_lists_up_to_the_limit(rt: HostRuntime) {
     let alloc = rt.alloc();
@@ -39,7 +39,7 @@ fn accepts_lists_up_to_the_limit(rt: HostRuntime) {
     drop_desk(desk);
 }
 
-// Asserts that a list of this number of rooms gets this error, or is recorded.
+// Asserts that a list of this number of rooms gets this error, or that it is recorded if there is no error.
 fn list_is_answered(
     rt: &impl Abort,
     alloc: Global,

@@ -20,7 +20,7 @@ fn answers_over_a_socket(rt: HostRuntime) {
     drop_desk(desk);
 }
 
-// Asserts that the resident, whose connection waits at the listener, gets the response.
+// Serves the resident whose connection waits at the listener. Asserts that the resident gets the response.
 fn is_answered(
     rt: &impl Abort,
     alloc: Global,
@@ -37,7 +37,7 @@ fn is_answered(
     assert_same!(rt; answer.as_slice(), ANSWER.as_bytes());
 }
 
-// Serves a connection on this stream, drops the stream, and returns how it ended.
+// Serves a connection on this stream and drops the stream. Returns how serving ended.
 fn served_on<T: Stream + Drop>(alloc: Global, desk: &mut Desk<MemStore>, stream: T) -> Served {
     let mut stream = Watched::new(stream);
     let how = serve_one(alloc, desk, &mut stream);

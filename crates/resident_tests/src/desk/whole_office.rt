@@ -7,7 +7,7 @@ use sqlite::MemStore;
 use std::alloc::Global;
 use std::process::Abort;
 
-/// T1's line if no list of T1 is recorded.
+/// T1's line if the office has no list of T1.
 pub const NO_LIST: &str = "choices\n";
 
 /// T1's line if T1 lists H2.
@@ -16,7 +16,7 @@ pub const LISTS_H2: &str = "choices H2\n";
 // Lines that query the whole office: its rooms, people and round, and what each person sees.
 const ASKS: &str = "rooms\npeople\nround\nme key00000000000t1\nme key00000000000t2\n";
 
-// The printed answers up to T1's list.
+// The printed answers before the line with T1's list.
 const BEFORE_LIST: &str = "\
 room      state     tenant\n\
 H1        occupied  T1\n\
@@ -31,7 +31,7 @@ name Tim Tan\n\
 home H1\n\
 round 1 open\n";
 
-// The printed answers after T1's list.
+// The printed answers after the line with T1's list.
 const AFTER_LIST: &str = "\
 withdrawn no\n\
 going no\n\
@@ -45,7 +45,7 @@ withdrawn no\n\
 going no\n\
 result hidden\n";
 
-/// Asserts that the office, in its open round, prints exactly this, with the given line for T1's list.
+/// Asserts that the office prints what it has to in its open round. `list` is the expected line with T1's list.
 pub fn is_as_expected(
     rt: &impl Abort,
     alloc: Global,
@@ -58,7 +58,7 @@ pub fn is_as_expected(
     same_at(rt, &printed.as_slice(), &wanted.as_bytes(), case);
 }
 
-// The printed answers to those lines.
+// The printed answers to the lines of `ASKS`.
 fn printed(alloc: Global, desk: &mut Desk<MemStore>) -> Vec<u8> {
     let mut input = Watched::new(ASKS.as_bytes());
     let mut output = Watched::new(Vec::new(alloc));

@@ -19,7 +19,7 @@ use room_types::{
 use std::alloc::Global;
 use std::process::Abort;
 
-// The reason and each name of the statuses that have several error names.
+// The statuses that have several error names. Each entry has a status, its line, and one of the names.
 const NAMED_FAULTS: [(StatusCode, &str, &str); 7] = [
     (StatusCode::CONFLICT, "409 Conflict", "BadPhase"),
     (StatusCode::CONFLICT, "409 Conflict", "Withdrawn"),
@@ -46,7 +46,7 @@ const NAMED_FAULTS: [(StatusCode, &str, &str); 7] = [
     ),
 ];
 
-// The reason and the name of each status with a single error name, except 405, which has a test of its own.
+// The statuses that have a single error name, each with its line and that name. Status 405 has a test of its own.
 const FAULTS: [(StatusCode, &str, &str); 7] = [
     (StatusCode::BAD_REQUEST, "400 Bad Request", "BadRequest"),
     (StatusCode::FORBIDDEN, "403 Forbidden", "Forbidden"),
@@ -156,7 +156,7 @@ fn writes_that_the_desk_is_unavailable(rt: HostRuntime) {
     assert_same!(rt; body.as_slice(), b"{\"error\":\"Unavailable\"}".as_slice());
 }
 
-// Asserts that the error response has this status line, and this name in its body.
+// Asserts that the error response of this status has this status line, and has this name in its body.
 fn is_fault(rt: &impl Abort, alloc: Global, status: StatusCode, line: &str, name: &str)
     requires { names_fault status name.now ≡ true }
 {
@@ -186,7 +186,7 @@ const RAN: &[u8] = b"{\"choices\":[\"H2\"],\"going\":false,\"home\":\"H1\",\"nam
     \"person\":\"T1\",\"phase\":\"ran\",\"result\":null,\"round\":1,\"shown\":false,\
     \"withdrawn\":false}";
 
-// The same once the results are published.
+// The body with Tim Tan's standing after the results are published.
 const PUBLISHED: &[u8] =
     b"{\"choices\":[\"H2\"],\"going\":false,\"home\":\"H1\",\"name\":\"Tim Tan\",\
     \"person\":\"T1\",\"phase\":\"published\",\"result\":\"H2\",\"round\":1,\"shown\":true,\
@@ -195,7 +195,7 @@ const PUBLISHED: &[u8] =
 const ROOMS: &[u8] = b"[{\"room\":\"H1\",\"state\":\"occupied\"},\
     {\"room\":\"H2\",\"state\":\"occupied\"},{\"room\":\"V\",\"state\":\"free\"}]";
 
-// Asserts that there is a body, and that it is this one.
+// Asserts that there is a body and that it has these bytes.
 fn is_body(rt: &impl Abort, body: Result<Listing<u8>, OutOfMemory>, wanted: &[u8]) {
     let body = body.expect(rt, "memory");
     assert_same!(rt; body.as_slice(), wanted);
@@ -241,7 +241,7 @@ fn writes_rooms_to_the_byte(rt: HostRuntime) {
     is_body(&rt, rooms_body(alloc, &rows), ROOMS);
 }
 
-// Bodies that are no array of room codes.
+// Bodies that are not an array of room codes.
 const BAD_BODIES: [&[u8]; 12] = [
     b"",
     b"[",
@@ -277,7 +277,7 @@ fn is_list(rt: &impl Abort, alloc: Global, body: &[u8], codes: &[&str]) {
     assert_same!(rt; found.as_slice(), wanted.as_slice());
 }
 
-// The number of rooms that are read from a list of forty.
+// The number of rooms read from a list of forty.
 fn longest_list(rt: &impl Abort, alloc: Global) -> usize {
     let body = listed(rt, alloc, 40, "]");
     let found = choices_of_body(alloc, body.as_bytes()).expect(rt, "a list of rooms");
@@ -312,13 +312,13 @@ fn is_refused(rt: &impl Abort, alloc: Global, body: &[u8], wanted: &TypeFault) {
     }
 }
 
-// Asserts that a body of 41 rooms with this end is refused with this fault.
+// Asserts that a body of 41 rooms followed by this end is refused with this fault.
 fn is_refused_with_rooms(rt: &impl Abort, alloc: Global, end: &str, wanted: &TypeFault) {
     let body = listed(rt, alloc, 41, end);
     is_refused(rt, alloc, body.as_bytes(), wanted);
 }
 
-/// A body of the given number of distinct rooms, and then the end.
+/// A body that begins with the given number of distinct rooms and then has this end.
 pub fn listed(rt: &impl Abort, alloc: Global, count: usize, end: &str) -> String {
     let mut body = String::from_str(alloc, "[\"A0\"").expect(rt, "memory");
     for i in 1..count {

@@ -1,4 +1,4 @@
-//! Tests of parsing bytes: complete requests, and the first fault of others.
+//! Tests of parsing bytes into complete requests, and of the first fault in other bytes.
 use crate::asserting::{assert_same, same_at};
 use resident_http::{AskState, read_ask};
 use resident_requests::ask::HEAD_LIMIT;
@@ -14,7 +14,7 @@ const REQUEST: &[u8] = b"PUT /me/choices HTTP/1.1\r\n\
     \r\n\
     [\"H2\"]";
 
-// Heads without a body, each with the status of its refusal.
+// Heads without a body, each with the status with which it is refused.
 const FAULTS: [(&[u8], u16); 25] = [
     (b"GET /me HTTP/1.1\r\nExpect: 100-continue\r\n\r\n", 400),
     (b"GET /me HTTP/1.1\r\nHost: a\r\nHost: a\r\n\r\n", 400),
@@ -82,7 +82,7 @@ const FAULTS: [(&[u8], u16); 25] = [
     (b"GET /\xff HTTP/1.1\r\nHost: a\r\n\r\n", 400),
 ];
 
-// Heads without a body, each with the path and the key of its request.
+// Heads without a body, each with the request's path and key.
 const READ: [(&[u8], &str, Option<&str>); 9] = [
     (b"GET /me HTTP/1.0\r\n\r\n", "/me", None),
     (b"\r\nGET /me HTTP/1.1\r\nHost:\r\n\r\n", "/me", None),
@@ -111,7 +111,7 @@ const READ: [(&[u8], &str, Option<&str>); 9] = [
     ),
 ];
 
-// The result of parsing bytes, in short.
+// The result of parsing bytes. For a complete request it has only the length of the body.
 #[derive(Clone, Copy, PartialEq, Eq, Debug)]
 enum Asked {
     // More bytes are needed.
@@ -130,7 +130,7 @@ fn in_short(bytes: &[u8]) -> Asked {
     }
 }
 
-// The body of a complete request.
+// The body of the request, or `None` if the bytes are no complete request.
 fn body_of(bytes: &[u8]) -> Option<&[u8]> {
     match read_ask(bytes) {
         AskState::Ask { body, .. } => Some(body),
@@ -138,7 +138,7 @@ fn body_of(bytes: &[u8]) -> Option<&[u8]> {
     }
 }
 
-// The path and the key of a complete request.
+// The path and the key of the request, or `None` if the bytes are no complete request.
 fn path_and_key(bytes: &[u8]) -> Option<(&str, Option<&str>)> {
     match read_ask(bytes) {
         AskState::Ask { path, key, .. } => Some((path, key)),
@@ -187,7 +187,8 @@ fn parses_paths_and_keys(rt: HostRuntime) {
     }
 }
 
-// Requests and their bodies. Bytes after the body are ignored, and the length may begin with zeros.
+// Requests, each with its body. Bytes after the body are ignored, and the number in `Content-Length` may begin with
+// zeros.
 const BODIES: [(&[u8], &[u8]); 3] = [
     (
         b"PUT / HTTP/1.1\r\nHost: a\r\nContent-Length: 0006\r\n\r\n[\"H2\"]",
@@ -207,7 +208,7 @@ fn parses_bodies_by_their_length(rt: HostRuntime) {
     }
 }
 
-// The prefix, and after it the byte the given number of times.
+// The prefix, followed by the byte `times` times.
 fn padded(rt: &impl Abort, alloc: Global, prefix: &[u8], byte: u8, times: usize) -> Vec<u8> {
     let mut bytes = Vec::from_slice(alloc, prefix).expect(rt, "memory");
     for _ in 0..times {
@@ -216,7 +217,7 @@ fn padded(rt: &impl Abort, alloc: Global, prefix: &[u8], byte: u8, times: usize)
     bytes
 }
 
-// A request whose body is a list and this number of spaces. Its length is given as 1,024 bytes.
+// A request whose body is a list and this number of spaces. Its `Content-Length` is 1,024.
 fn spaced_list(rt: &impl Abort, alloc: Global, spaces: usize) -> Vec<u8> {
     let prefix = b"PUT /me/choices HTTP/1.1\r\nHost: a\r\nContent-Length: 1024\r\n\r\n[\"H2\"]";
     padded(rt, alloc, prefix, b' ', spaces)
@@ -239,7 +240,8 @@ fn rooms_listed(rt: &impl Abort, alloc: Global, bytes: &[u8]) -> usize {
     choices.as_slice().len()
 }
 
-// Heads up to the limit and beyond it: the number of bytes before the end, the end, and the result of parsing.
+// Heads up to the limit and beyond it. Each has the number of bytes before the end of the head, that end, and the
+// result of parsing.
 const HEADS: [(usize, &[u8], Asked); 6] = [
     (HEAD_LIMIT - 4, b"", Asked::More),
     (HEAD_LIMIT - 4, b"\r\n\r\n", Asked::Whole(0)),
@@ -261,7 +263,7 @@ fn parses_heads_up_to_the_limit(rt: HostRuntime) {
     }
 }
 
-// The result of parsing a head with this number of bytes before this end.
+// The result of parsing a head of `length` bytes with `end` after them.
 fn asked_by_head(rt: &impl Abort, alloc: Global, length: usize, end: &[u8]) -> Asked {
     let prefix = b"GET / HTTP/1.1\r\nHost: ".as_slice();
     let letters = length.saturating_sub(prefix.len());
@@ -288,8 +290,8 @@ fn parses_fields_up_to_the_limit(rt: HostRuntime) {
     assert_same!(rt; in_short(&more), Asked::Refused(400));
 }
 
-// Whether no prefix of the bytes is a complete request, the bytes themselves are refused with 400, and once a prefix is
-// refused, so are all longer ones.
+// Whether the bytes are refused with 400, and no prefix of them is a complete request. Once a prefix is refused, all
+// longer prefixes have to be refused too.
 fn is_refused_from_some_prefix(bytes: &[u8]) -> bool {
     let mut refused = false;
     for length in 0..bytes.len() + 1 {
@@ -302,7 +304,7 @@ fn is_refused_from_some_prefix(bytes: &[u8]) -> bool {
     refused
 }
 
-// Whether a prefix may have this result, depending on whether the one before it was refused.
+// Whether a prefix may have this result. `refused` says whether the prefix one byte shorter was refused.
 fn may_follow(refused: bool, asked: Asked) -> bool {
     match asked {
         Asked::More => !refused,

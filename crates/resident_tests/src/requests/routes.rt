@@ -1,10 +1,10 @@
-//! Tests of routing.
+//! Tests of `route_request`, which finds the route of a request.
 use crate::asserting::assert_same;
 use resident_requests::routes::{Route, Routed, route_request};
 use std::alloc::Global;
 use std::process::Abort;
 
-// A row has a method, a path, a key or `-` for none, and where the request is routed.
+// Each row has a method, a path, a key or `-` for none, and a word for where the request is routed.
 const ROUTES: &str = "\
 GET /me key00000000000t1 standing\n\
 PUT /me/choices key00000000000t1 choices\n\
@@ -58,7 +58,7 @@ fn key_in(cell: &str) -> Option<&str> {
     if cell == "-" { None } else { Some(cell) }
 }
 
-// Where a request is routed, in one word.
+// The word for where a request is routed.
 fn word_for(routed: Routed<'_>) -> &'static str {
     match routed {
         Routed::Unknown => "unknown",

@@ -73,7 +73,7 @@ fn exports_moves_of_two_rounds(rt: HostRuntime) -> Result<(), Fail> {
     Ok(())
 }
 
-// If the export is read as a list, the grades are the same.
+// An export of grades that is read as a list gives the same grades.
 #[test]
 fn exports_grades_that_read_back(rt: HostRuntime) -> Result<(), Fail> {
     let alloc = rt.alloc();
@@ -191,7 +191,7 @@ fn stops_where_a_write_fails(rt: HostRuntime) -> Result<(), Fail> {
     Ok(())
 }
 
-// Either the device is full after `sent` bytes, or the next write fails.
+// The device either is full after `sent` bytes, or fails at the next write.
 #[test]
 fn stops_where_the_device_is_full_or_fails(rt: HostRuntime) -> Result<(), Fail> {
     let alloc = rt.alloc();
@@ -214,8 +214,8 @@ fn stops_where_the_device_is_full_or_fails(rt: HostRuntime) -> Result<(), Fail> 
     Ok(())
 }
 
-// A device that takes at most one byte a write. After `writes` writes one write fails, and then it works again. It takes `room`
-// bytes in all.
+// A device that takes at most one byte a write, and `room` bytes in all. After `writes` writes one write fails, and
+// later writes succeed.
 #[derive(Drop)]
 struct Device {
     written: Vec<u8>,

@@ -1,4 +1,4 @@
-//! Tests of lists as other programs write them, good and bad.
+//! Tests of good and bad lists as other programs write them.
 use crate::asserting::assert_same;
 use office_lists::{
     Cause, ListFault, PersonEntry, read_choices, read_grades, read_people, read_rooms,
@@ -30,7 +30,7 @@ fn are_codes(rooms: &[RoomCode], first: &str, second: &str) -> bool {
     matches!(rooms, [a, b] if a.as_str() == first && b.as_str() == second)
 }
 
-// As Python's `csv` module writes it, with the byte order mark of `utf-8-sig`.
+// The list is as Python's `csv` module writes it, with the byte order mark of the encoding `utf-8-sig`.
 #[test]
 fn reads_a_list_of_people(rt: HostRuntime) -> Result<(), Fail> {
     let list =
@@ -208,7 +208,7 @@ fn refuses_bad_choices(rt: HostRuntime) -> Result<(), Fail> {
     Ok(())
 }
 
-// A list of choices with one record, of the given number of rooms.
+// A list of choices with one record, which lists the given number of rooms.
 fn list_of_choices(alloc: Global, rooms: u8) -> Result<Vec<u8>, AllocError> {
     let mut list = Vec::from_slice(alloc, b"person,choices\nT1,R0")?;
     for number in 1..rooms {
@@ -227,7 +227,7 @@ fn reads_choices_up_to_the_limit(rt: HostRuntime) -> Result<(), Fail> {
     Ok(())
 }
 
-// The header, and the record 10,000 times, which is the limit.
+// A list of the header and 10,000 copies of the record, which is the largest number of records.
 fn longest(alloc: Global, header: &[u8], record: &[u8]) -> Result<Vec<u8>, AllocError> {
     let mut list = Vec::from_slice(alloc, header)?;
     for _ in 0..10_000 {
@@ -273,7 +273,7 @@ fn refuses_other_lists_that_are_too_long(rt: HostRuntime) -> Result<(), Fail> {
     Ok(())
 }
 
-// The entries of a list that has to be good.
+// Returns the entries of the list. Ends the test if the list is bad.
 fn read<T: Drop>(rt: &impl Abort, list: Result<Vec<T>, ListFault>) -> Vec<T> {
     match list {
         Ok(entries) => entries,
@@ -281,7 +281,7 @@ fn read<T: Drop>(rt: &impl Abort, list: Result<Vec<T>, ListFault>) -> Vec<T> {
     }
 }
 
-// Asserts that the list is bad in this record, for this cause.
+// Asserts that the list is bad at the record with number `at`, for this cause.
 fn expect<T: Drop>(rt: &impl Abort, list: Result<Vec<T>, ListFault>, at: u32, cause: Cause) {
     match list {
         Ok(_) => panic!(rt; "the list is bad"),

@@ -1,4 +1,4 @@
-//! Compares the rooms of `run` over both lines with the rooms of the plain program.
+//! Compares the rooms that `run` gives over each of the two lines with the rooms that the plain program gives.
 ghost use Rattle.std.specs.Prelude.{◌<◌};
 
 use super::{outcome_over, problem_of, rooms_of};
@@ -8,7 +8,7 @@ use std::test::Fail;
 use trade_line::plain::top_trading_cycles;
 use trade_line::{LinkedLine, Problem, TradeFault, VecLine};
 
-// All lists of distinct rooms out of three.
+// All lists of distinct rooms out of three rooms.
 const LISTS: [&[usize]; 16] = [
     &[],
     &[0],
@@ -33,15 +33,16 @@ const HOMES: [Option<usize>; 4] = [None, Some(0), Some(1), Some(2)];
 // The number of combinations of a home and a list for one person.
 const CHOICES: usize = HOMES.len() * LISTS.len();
 
-// The number of problems of at most three people and three rooms.
+// The number of problems with at most three people and at most three rooms.
 const SMALL_PROBLEMS: u64 = 25_148;
 
-// The number of drawn problems of at most twelve people, and of those of thirty.
+// How many problems with at most twelve people are drawn, and then how many with thirty people.
 const DRAWN_PROBLEMS: usize = 10_000;
 
 const DRAWN_LARGE_PROBLEMS: usize = 200;
 
-// Whether runs over both lines give the rooms of the plain program, with equal numbers of asks and looks.
+// Whether runs over both lines give the rooms of the plain program, and both take the same numbers of asks and of
+// looks.
 fn agree(alloc: Global, problem: &Problem) -> Result<bool, TradeFault> {
     let outcome = outcome_over::<VecLine>(alloc, problem)?;
     let linked = outcome_over::<LinkedLine>(alloc, problem)?;
@@ -55,7 +56,8 @@ fn agree(alloc: Global, problem: &Problem) -> Result<bool, TradeFault> {
     )
 }
 
-// The problem with this number: each digit, in base `CHOICES`, is the home and list of one person.
+// Returns the problem with this number. Each digit of the number, in base `CHOICES`, is the home and the list of one
+// person.
 fn numbered(
     alloc: Global,
     people: usize,
@@ -98,7 +100,7 @@ fn agrees_on_every_problem_of_up_to_three_people_and_rooms(rt: HostRuntime) -> R
     Ok(())
 }
 
-// Knuth's linear congruential generator, of which the high bits are used.
+// Knuth's linear congruential generator. Only its high bits are used.
 #[derive(Drop)]
 struct Generator(u64);
 
@@ -114,7 +116,8 @@ impl Generator {
     }
 }
 
-// A problem in which a room is drawn for each person: with chance 2/3 the person lives there, unless somebody else does.
+// Draws a problem. It draws a room for each person, who lives in the room with probability 2/3, unless somebody else
+// lives there.
 fn drawn(
     alloc: Global,
     generator: &mut Generator,

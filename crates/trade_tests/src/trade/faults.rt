@@ -5,7 +5,7 @@ use std::alloc::Global;
 use std::test::Fail;
 use trade_line::{OutOfMemory, TradeFault, VecLine, run_with_list};
 
-// Homes and lists over two rooms, and the first fault.
+// Homes and lists for two rooms, each with the first fault in them.
 const BAD: [(&[Option<usize>], &[&[usize]], TradeFault); 7] = [
     (&[None, None], &[&[2], &[]], TradeFault::BadIndex),
     (&[Some(2), None], &[&[], &[]], TradeFault::BadIndex),

@@ -1,4 +1,4 @@
-//! Small markets beyond the theorems on other lists and on the strict core: what those theorems do not say.
+//! Small markets that show what the theorems on other lists and on the strict core do not say.
 use super::problem_of;
 use crate::asserting::assert_same;
 use std::alloc::Global;
@@ -17,7 +17,7 @@ struct Twice {
 }
 
 const TWICE: [Twice; 3] = [
-    // the theorem says nothing if one of the group loses: then others may gain, and others lose
+    // the theorem says nothing about a group in which somebody loses: then some people may gain and others lose
     Twice {
         story: "a friend accepts a loss",
         rooms: 2,
@@ -27,7 +27,7 @@ const TWICE: [Twice; 3] = [
         other_lists: &[&[1, 0], &[0], &[1]],
         other_gets: &[Some(1), Some(0), None],
     },
-    // a person who gets something else by another list may change what others get
+    // a person who gets something else by handing in another list may change what others get
     Twice {
         story: "one of two who swap stays",
         rooms: 2,
@@ -37,7 +37,7 @@ const TWICE: [Twice; 3] = [
         other_lists: &[&[], &[0]],
         other_gets: &[Some(0), Some(1)],
     },
-    // staying is in the strict core too: apart, the only tenant could just keep the own room
+    // staying is in the strict core too: without the others, the only tenant can just keep the home
     Twice {
         story: "a room is vacant",
         rooms: 2,

@@ -1,4 +1,4 @@
-//! Large runs, and the number of asks and looks that they take.
+//! Large runs, with the numbers of asks and looks that they take.
 use super::outcome_over;
 use crate::asserting::assert_same;
 use std::alloc::Global;
@@ -8,7 +8,7 @@ use trade_line::{Line, LinkedLine, Problem, TradeFault, VecLine};
 
 const TENANTS: usize = 2000;
 
-// Each tenant lists the room of the next one, and the last tenant lists a vacant room.
+// Each tenant lists the room of the next tenant, and the last tenant lists a vacant room.
 fn one_room_on(alloc: Global) -> Result<Problem, TradeFault> {
     let mut homes = Vec::new(alloc);
     let mut lists = Vec::new(alloc);
@@ -38,7 +38,7 @@ fn everybody_moves_one_room_on(rt: HostRuntime) -> Result<(), Fail> {
 
 const VACANT: usize = 40;
 
-// One newcomer more than there are rooms, all with the same list.
+// There is one newcomer more than there are rooms, and all newcomers have the same list.
 fn same_lists(alloc: Global) -> Result<Problem, TradeFault> {
     let mut homes = Vec::new(alloc);
     let mut lists = Vec::new(alloc);

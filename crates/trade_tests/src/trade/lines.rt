@@ -1,4 +1,4 @@
-//! Tests of the calls of a line, made through the trait.
+//! Tests of the calls of a line through the trait `Line`.
 use crate::asserting::assert_same;
 use std::alloc::Global;
 use std::process::Abort;
@@ -6,7 +6,7 @@ use trade_line::{Line, LinkedLine, OutOfMemory, VecLine};
 
 const PEOPLE: usize = 5;
 
-// The people left in the line, in order.
+// Empties the line from the front and returns the people in this order.
 fn left<L: Line>(alloc: Global, mut line: L) -> Result<Vec<usize>, OutOfMemory> {
     let mut people = Vec::new(alloc);
     for _ in 0..PEOPLE {
@@ -18,7 +18,8 @@ fn left<L: Line>(alloc: Global, mut line: L) -> Result<Vec<usize>, OutOfMemory> 
     Ok(people)
 }
 
-// A whole line after `front` was brought to the front and `gone` was dropped. Nobody outside the line is brought or dropped.
+// Returns a line of all people after `front` was brought to its front and `gone` was dropped from it. A person who is
+// not in the line is neither brought nor dropped.
 fn moved<L: Line>(alloc: Global, front: usize, gone: usize) -> Result<L, OutOfMemory> {
     let mut line = L::whole(alloc, PEOPLE)?;
     if line.holds(front) {
@@ -30,13 +31,13 @@ fn moved<L: Line>(alloc: Global, front: usize, gone: usize) -> Result<L, OutOfMe
     Ok(line)
 }
 
-// Whether 3 is at the front, 4 is in the line and 1 is not.
+// Whether 3 is at the front of the line, 4 is in the line, and 1 is not.
 fn is_moved<L: Line>(line: &L) -> bool {
     let holds = line.holds(4) && !line.holds(1) && !line.holds(usize::MAX);
     holds && line.front() == Some(3) && !line.is_empty()
 }
 
-// The person to bring to the front, the person to drop, and the people left.
+// The person to bring to the front, the person to drop, and the people who are left in the line, in order.
 const MOVED: [(usize, usize, &[usize]); 4] = [
     (3, 1, &[3, 0, 2, 4]),
     (4, 0, &[4, 1, 2, 3]),

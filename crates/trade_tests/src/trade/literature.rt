@@ -1,4 +1,4 @@
-//! Runs in the manner of the literature's worked examples, each solved by hand: rooms, asks and looks.
+//! Examples in the manner of the literature, solved by hand. Each has its rooms and its numbers of asks and looks.
 use super::{outcome_over, problem_of, rooms_of};
 use crate::asserting::assert_same;
 use std::alloc::Global;
@@ -7,7 +7,7 @@ use std::test::Fail;
 use trade_line::plain::top_trading_cycles;
 use trade_line::{Line, LinkedLine, Problem, VecLine};
 
-// A solution by hand.
+// What a solution by hand gives.
 #[derive(Clone, Copy)]
 struct Solution<'a> {
     gets: &'a [Option<usize>],
@@ -44,16 +44,17 @@ fn is_found(
     Ok(())
 }
 
-// Four tenants and a newcomer rank all rooms. Below, person 1 is the first in the order and lives in room 1. The lists of the
-// test have only the rooms that each person ranks above the own one, and they count from 0.
+// Four tenants and a newcomer rank all rooms. Here person 1 is the first in the order and lives in room 1. The test
+// counts from 0, and its lists have only the rooms that a person ranks above the home.
 //
 //     1: room 2, 6, 5        2: room 7, 1, 6, 5, 4, 3        3: room 2, 1, 4, 7        4: room 2
 //     5 (a newcomer): room 4, 3, 7, 1, 2, 5, 6
 //
-// 1 asks for room 2, so 2 goes first, asks for room 7, which is vacant, and gets it. 1 asks again and gets room 2. Room 2 is
-// gone for 3, who gets room 1, which 1 has left. Room 2 is gone for 4 too, who stays in room 4. Room 4 is gone for 5, who gets
-// room 3. By steps of the definition: 1 and 2 leave by the cycle 1, room 2, 2, room 7; then 3 with room 1 and 4 with room 4;
-// then 5. Asks: 1, 2, 1, 3, 4, 5. Looks: 1, 1, 1, 2, 1, 2.
+// 1 asks for room 2, so 2 goes first and asks for room 7. Room 7 is vacant, and 2 gets it. 1 asks again and gets room
+// 2. Room 2 is gone for 3, who gets room 1, which 1 has left. Room 2 is gone for 4 as well, who stays in room 4. Room
+// 4 is gone for 5, who gets room 3. By steps of the definition: 1 and 2 leave by the cycle 1, room 2, 2, room 7. Then
+// 3 leaves with room 1, and 4 with room 4. Then 5 leaves. The askers are 1, 2, 1, 3, 4, 5, and their looks are 1, 1,
+// 1, 2, 1, 2.
 #[test]
 fn solves_four_tenants_and_a_newcomer(rt: HostRuntime) -> Result<(), Fail> {
     let alloc = rt.alloc();
@@ -77,13 +78,13 @@ fn solves_four_tenants_and_a_newcomer(rt: HostRuntime) -> Result<(), Fail> {
     is_found(&rt, alloc, &problem, &solution)
 }
 
-// Nine tenants, 1 to 9, each in the room of the same number, and seven newcomers, 10 to 16, among rooms 1 to 16. The order is
-// 13, 15, 11, 14, 12, 16, 10, and then 1 to 9. By turns, with the number of looks of each:
+// Nine tenants, 1 to 9, each live in the room of the same number, and 10 to 16 are newcomers. The rooms are 1 to 16.
+// The order is 13, 15, 11, 14, 12, 16, 10, and then 1 to 9. These are the turns, with the number of looks of each:
 //
 //     13 asks for 6 (1); 6 lists nothing and stays (0); 13 gets 13 (2)
 //     15 asks for 1 (1); 1 gets 15 (1); 15 gets 1 (1)
-//     11 asks for 2 (1); 2 asks for 3 (1); 1 is gone for 3, who stays (1); 2 asks for 4 (2); 4 asks for 2 (1), who has asked:
-//        4 gets 2 and 2 gets 4; 11 gets 16 (3)
+//     11 asks for 2 (1); 2 asks for 3 (1); 1 is gone for 3, who stays (1); 2 asks for 4 (2);
+//        4 asks for 2 (1), who has asked, so 4 gets 2 and 2 gets 4; 11 gets 16 (3)
 //     14 asks for 8 (1); 8 gets 12 (2); 14 gets 8 (1)
 //     12 gets 14 (2)
 //     16 asks for 5 (1); 5 asks for 9 (1); 9 gets 11 (1); 5 gets 9 (1); 16 gets 5 (1)
@@ -117,10 +118,11 @@ fn solves_nine_tenants_and_seven_newcomers(rt: HostRuntime) -> Result<(), Fail> 
     is_found(&rt, alloc, &problem, &solution)
 }
 
-// Only tenants, 1 to 6 in the order, who live in rooms 6, 4, 5, 1, 2, 3. By steps of the definition: 4, 5 and 6 point at one
-// another in a cycle and move; then 2 and 3, whose first choices are gone, swap; then nothing is left for 1 but the own room.
-// By turns, with the number of looks of each: 1 asks for room 3 (1), 6 for room 1 (1), 4 for room 2 (1), 5 for room 3 (1) and
-// closes the cycle; 1 asks for room 5 (2), 3 for room 4 (2), 2 for room 5 (2) and closes the swap; 1 stays (1).
+// Six tenants, 1 to 6 in the order, live in rooms 6, 4, 5, 1, 2, 3. By steps of the definition: 4, 5 and 6 point at
+// one another in a cycle and move. Then 2 and 3, whose first choices are gone, swap. Then nothing is left for 1 but
+// the home. These are the turns, with the number of looks of each: 1 asks for room 3 (1), 6 for room 1 (1), 4 for
+// room 2 (1), 5 for room 3 (1), which closes the cycle. 1 asks for room 5 (2), 3 for room 4 (2), 2 for room 5 (2),
+// which closes the swap. 1 stays (1).
 #[test]
 fn solves_six_tenants_without_newcomers(rt: HostRuntime) -> Result<(), Fail> {
     let alloc = rt.alloc();

@@ -1,4 +1,4 @@
-//! Worked runs: the rooms, asks and looks of runs over both lines, and the rooms of the plain program.
+//! Worked examples: the rooms, asks and looks of runs over both lines, and the rooms that the plain program gives.
 use super::{outcome_over, problem_of, rooms_of};
 use crate::asserting::assert_same;
 use std::alloc::Global;
@@ -17,7 +17,7 @@ struct Worked<'a> {
     looks: u128,
 }
 
-// The room that a person would get by another list than the recorded one.
+// A problem, and the room that one of its people would get with another list.
 struct OtherList<'a> {
     rooms: usize,
     homes: &'a [Option<usize>],

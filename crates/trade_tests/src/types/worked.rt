@@ -1,4 +1,4 @@
-//! Worked values: a text that a type reads, and the printed value or the error.
+//! Tests of worked values. Each has a text that a type reads, and the printed value or the error.
 use crate::asserting::assert_same;
 use room_types::grammars::{Keys, Labels, Names, PersonIds, RoomCodes};
 use room_types::{
@@ -7,7 +7,8 @@ use room_types::{
 use std::alloc::{AllocError, Global};
 use std::process::Abort;
 
-// A row has a type, a text, and the printed value, or `!` and the error. One space separates the codes of a list.
+// Each row has a type, a text, and the expected outcome: the printed value, or `!` and the error. One space separates
+// the codes of a list.
 const WORKED: &str = "\
 room|H1|H1\n\
 room|A|A\n\
@@ -123,7 +124,7 @@ list|R1 R2 R3 R4 R5 R6 R7 R8 R9 R10 R11 R12 R13 R14 R15 R16 R17 R18 R19 R20 R21 
 list|H1 V H1|!RoomRepeated H1\n\
 list|H1 V X V H1|!RoomRepeated V";
 
-// The outcome if a copy differs from its original.
+// The outcome if the copy of a value differs from the value.
 const OTHER_COPY: &str = "!OtherCopy";
 
 #[test]
@@ -165,7 +166,7 @@ fn prints_kinds_states_phases_and_out_of_memory(rt: HostRuntime) -> Result<(), A
     Ok(())
 }
 
-// The outcome of reading the text: the printed value or the error.
+// Reads the text as the type `kind`. Returns the printed value, or `!` and the error.
 fn outcome(alloc: Global, kind: &str, text: &str) -> Result<String, AllocError> {
     match printed(alloc, kind, text) {
         Ok(value) => Ok(value),
@@ -176,7 +177,8 @@ fn outcome(alloc: Global, kind: &str, text: &str) -> Result<String, AllocError> 
     }
 }
 
-// The value of the text, as printed. A copy of the value has to be equal to it.
+// Reads the text as the type `kind` and returns the printed value. Checks that a copy of the value is equal to the
+// value.
 fn printed(alloc: Global, kind: &str, text: &str) -> Result<String, TypeFault> {
     match kind {
         "room" => printed_text::<RoomCodes>(alloc, text),
