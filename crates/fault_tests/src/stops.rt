@@ -1,7 +1,7 @@
 //! Tests of offices in two files, one of which stops working at each of its calls in turn. After each stop the test
-//! opens everything that may be left of the two files. It must find the office before the command that was stopped or
-//! the one after it. If the command got a reply, it must find the one after it. After a stopped migration, all tables
-//! must be as before, or all of this version.
+//! opens everything that may be left of the two files. The test must find the office as it is either before or
+//! after the command that was stopped. If the command got a reply, the test must find the office after the command.
+//! After a stopped migration, either all tables must be as before, or all must be of this version.
 mod files;
 mod stories;
 mod visits;

@@ -1,10 +1,11 @@
 //! Statements that create the tables of an office. The tables are of an earlier version, or in the documented order.
 use crate::texts::{REGISTER, ROUND};
 
-/// Statements that create the tables of an office, and lines that lead to the same office.
+/// Statements that create the tables of an office and fill them, and lines after which an empty office equals this
+/// office.
 #[derive(Clone, Copy, Drop)]
 pub struct Tables {
-    /// The statements that create the tables.
+    /// The statements that create the tables and fill them.
     pub statements: &'static [&'static str],
     /// Whether the tables are of an earlier version, so that a desk has to migrate them and cannot adopt them.
     pub are_earlier: bool,
@@ -52,7 +53,7 @@ INSERT INTO word VALUES ('N', '0000000000000003'), ('T1', '0000000000000001');
 INSERT INTO word VALUES ('T2', '0000000000000002');
 INSERT INTO result VALUES ('N', 'V'), ('T1', 'H2'), ('T2', 'H1');";
 
-/// The tables of version 1 in the documented order.
+/// The tables of version 1, created in the order of the documentation.
 pub const FIRST: Tables = Tables {
     statements: &[
         REGISTER_TABLES,
@@ -78,7 +79,7 @@ pub const EARLIER_FIRST: Tables = Tables {
     lines: &[REGISTER, ROUND],
 };
 
-/// The tables of version 2, with a grade.
+/// The tables of version 2, with one person's grade.
 pub const SECOND: Tables = Tables {
     statements: &[
         REGISTER_TABLES,
@@ -93,7 +94,7 @@ pub const SECOND: Tables = Tables {
     lines: &[REGISTER, "grade N 2\n", ROUND],
 };
 
-/// The tables of this version in the documented order, with a grade.
+/// The tables of the current version, 3, created in the order of the documentation, with one person's grade.
 pub const THIRD: Tables = Tables {
     statements: &[
         REGISTER_TABLES,

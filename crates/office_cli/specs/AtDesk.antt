@@ -40,14 +40,14 @@ pub record EndsEarly (bytes : List ℕ) (out out' : Output) : Type 0 where
   pub prefix : PutsPrefix out out' sent bytes
   pub short : (out'.failed ≡ out.failed) ⊎ ((out'.failed ≡ true) × (sent < length bytes))
 
--- Either the program prints the whole export as it prints any text; the status is 0 if that succeeds. Or the export
--- stopped early, no flush followed, and the status is 3.
+-- Either the program prints the whole export, and the status is 0 if printing succeeds. Or the export stops early,
+-- no flush follows, and the status is 3.
 abbrev pub SendsExport : List ℕ → ℕ → Output → Output → Type 0
 SendsExport bytes status out out' =
     Prints bytes 0 status out out' ⊎ ((status ≡ 3) × (out'.flushes ≡ out.flushes) × EndsEarly bytes out out')
 
--- This holds whatever the disk did. Either the program prints a header and records as it prints any text; the status
--- is 0 if that succeeds. Or the export ended early, no flush followed, and the status is 3. It then ended after a
+-- How an export ends, whatever the disk does. Either the program prints a header and records, and the status is 0
+-- if printing succeeds. Or the export ends early, no flush follows, and the status is 3. An early end comes after a
 -- whole record, unless a write failed.
 abbrev pub EndsExport : ExportKind → ℕ → Output → Output → Type 0
 EndsExport kind status out out' =

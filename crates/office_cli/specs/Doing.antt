@@ -55,7 +55,8 @@ module _ {F S L P : Type 0} (access : FileAccess F S) (list_access : ListAccess 
       Refuses NotUnderstood status out out' error error' × (input' ≡ input) × (files' ≡ files) × (lists' ≡ lists) × (ports' ≡ ports)
 
   -- Either the program carries out the subcommand that the arguments give. Or an allocation fails, for parsing the
-  -- arguments or for the words of a draw, and the program reports it. This needs at least one argument.
+  -- arguments or for the words of a draw, and the program reports the failure. Without arguments, there is no such
+  -- failure.
   abbrev pub CarriesOut : List Text → F → L → P → ℕ → F → L → P → Input → Input → Output → Output → Output → Output → Type 0
   CarriesOut words files lists ports status files' lists' ports' input input' out out' error error' =
       DoesLine (program_of words) files lists ports status files' lists' ports' input input' out out' error error'

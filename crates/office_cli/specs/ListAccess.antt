@@ -47,8 +47,8 @@ module _ {H L : Type 0} (handles : H → Request → Answer → H → Type 0) (l
     pub imports : ImportsFrom handles list_access.remaining old kind label source source' status new out out'
     pub closed : list_access.closes between source' lists'
 
-  -- Either the program imports the list at a path and closes it. Or it could not open the path: then it prints
-  -- `unavailable`, and the handler gets no command. It opens and closes nothing else.
+  -- Either the program opens the list at a path, imports it, and closes it. Or the path cannot be opened: the
+  -- program prints `unavailable`, and the handler gets no command. The program opens and closes no other list.
   abbrev pub ImportsPath : L → H → ListKind → Text → Text → ℕ → L → H → Output → Output → Type 0
   ImportsPath lists old kind label path status lists' new out out' =
       ImportsOpened lists old kind label path status lists' new out out'

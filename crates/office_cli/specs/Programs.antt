@@ -19,9 +19,10 @@ use Rattle.room_types.specs.Texts.{Text}
 use Rattle.room_types.specs.declared.kinds.ListKind.{ListKind}
 use Rattle.room_types.specs.declared.kinds.ListKind.TheVariants as list
 
--- A subcommand with its arguments. `makes` makes an office in the file at a path. `migrates` migrates the tables of
--- the office in such a file. `performs` performs an action at the desk of the office in such a file. `rehearses`
--- rehearses. `prints` prints a number of words of the generator with a seed.
+-- A subcommand with its arguments. Three name the path of a file: `makes` makes an office in the file, `migrates`
+-- migrates the tables of its office, and `performs` performs an action at the desk of its office. `rehearses` lets
+-- an empty office handle the lines of standard input. `prints` prints a number of words of the generator with a
+-- seed.
 pub data Line : Type 0 where
   makes : Text → Line
   migrates : Text → Line

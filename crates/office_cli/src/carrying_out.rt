@@ -74,8 +74,8 @@ pub fn carry_out<'a, R: Read, W: Write, E: Write>(
 }
 
 /// Carries out these words, the arguments after the program's name, with the system's files and ports, and returns
-/// the exit status. `start` stands for what the office's file and its log contain when they are opened. The contract
-/// holds for every `S`, and so for any contents. `carry_out` passes `Wary`.
+/// the exit status. `start` stands for what the office's file and its log contain when they are opened. The
+/// contract holds for every type `S` of `start`, and so for any contents.
 pub fn carry_out_over<'a, S: Start, R: Read, W: Write, E: Write>(
     rt: &HostRuntime,
     words: &'a [&'a str],
@@ -125,8 +125,9 @@ pub fn carry_out_over<'a, S: Start, R: Read, W: Write, E: Write>(
 
 /// Carries out these words, the arguments after the program's name, with any office files, lists and ports, and
 /// returns the exit status. A subcommand on an office file opens the file once. If the file opens, the subcommand
-/// closes it in the state in which the action left it, with no transaction open. Only `import` opens a list, and
-/// opens it once. If the list opens, `import` closes it in the state in which the last read left it.
+/// does its work there. It closes the file in the state in which this work left it, with no transaction open. Only
+/// `import` opens a list, and opens it once. If the list opens, `import` closes it in the state in which the last
+/// read left it.
 pub fn carry_out_from<
     'a,
     B: Alter,
@@ -229,10 +230,10 @@ fn rehearse_anew<R: Read, W: Write>(
     }
 }
 
-/// Reads the input line by line, lets the desk handle each line, and writes the response. `rehearse` of
-/// `office_lines` does the same with any handler. If the disk returned what was written to it, the responses are
-/// those of the office that the desk represents. However the rehearsal ends, the desk then represents the office
-/// after the lines that were handled.
+/// Reads the input line by line, lets the desk handle each line, and writes the response. Returns how the rehearsal
+/// ended, and the exit status. If the disk returned what was written to it, the responses are those of the office
+/// that the desk represents. In this case the desk afterwards represents the office after the handled lines,
+/// however the rehearsal ended.
 pub fn rehearse<S: Alter, R: Read, W: Write>(
     alloc: Global,
     desk: &mut Desk<S>,
@@ -258,8 +259,10 @@ pub fn rehearse<S: Alter, R: Read, W: Write>(
     rehearse_with(alloc, desk, input, output)
 }
 
-/// Does what `rehearse` does, for a desk over a database in memory. This needs no premise about a disk. The responses
-/// are those of the office that the desk shows. The desk then shows the office after the lines that were handled.
+/// Reads the input line by line, lets a desk over a database in memory handle each line, and writes the response.
+/// Returns how the rehearsal ended, and the exit status. The responses are those of the office that the desk shows.
+/// Afterwards the desk shows the office after the handled lines. Unlike in `rehearse`, this needs no premise about
+/// a disk, because the database is in memory.
 pub fn rehearse_in_memory<R: Read, W: Write>(
     alloc: Global,
     desk: &mut Desk<MemStore>,

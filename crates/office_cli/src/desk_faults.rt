@@ -30,7 +30,8 @@ pub fn print_made<S: Alter, W: Write>(
     }
 }
 
-/// Prints why there is no desk, in the form in which the office's refusals are printed. Returns the exit status.
+/// Prints why there is no desk: `unavailable`, or a line that begins with `refused` and the fault's number and
+/// name. Returns the exit status.
 pub fn refuse_desk<W: Write>(alloc: Global, fault: DeskFault, output: &mut Watched<W>) -> u8
     requires fresh { IsFresh output.old }
     ensures no_wasted_write { StopsAtFailure output.old output.new }

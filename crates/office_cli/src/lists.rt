@@ -16,13 +16,13 @@ pub trait Lists {
 
     type List: Read + Drop;
 
-    /// Opening this path returned this list and led from the old state to the new one.
+    /// Opening this path returned this list, and took the store from the first state to the second.
     ghost opens: { Self → Text → Watched Self.List → Self → Type 0 } = { λ _ _ _ _. ⊤ };
 
-    /// Opening this path failed and led from the old state to the new one.
+    /// Opening this path failed, and took the store from the first state to the second.
     ghost fails: { Self → Text → Self → Type 0 } = { λ _ _ _. ⊤ };
 
-    /// Closing this list led from the old state to the new one.
+    /// Closing this list took the store from the first state to the second.
     ghost closes: { Self → Watched Self.List → Self → Type 0 } = { λ _ _ _. ⊤ };
 
     /// Opens the list at this path. The returned list is `Watched`, and no call has been made on it yet.
@@ -41,7 +41,7 @@ pub trait Lists {
 }
 
 /// The files of the system, as a store of lists. The contracts do not say what the files contain. Code that is
-/// generic in `Lists` cannot reach other files, because only this type holds the runtime.
+/// generic in `Lists` reaches files only by the methods of `Lists`, because only this type holds the runtime.
 #[derive(Drop)]
 pub struct SystemLists<'a> {
     rt: &'a HostRuntime,

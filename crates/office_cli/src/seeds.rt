@@ -4,10 +4,10 @@ ghost use Rattle.office_cli.specs.Seeds.{parse_seed};
 
 use hex::FromHex;
 
-/// The number of bytes of a seed.
+/// The number of bytes of the seed from which the words of a draw are generated.
 pub const SEED_BYTES: usize = 32;
 
-/// A seed of the generator.
+/// A seed from which the words of a draw are generated.
 pub type Seed = [u8; SEED_BYTES];
 
 /// Parses a seed, which is exactly 64 hexadecimal digits of either case. Each pair of digits gives one byte, in

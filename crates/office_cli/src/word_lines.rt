@@ -10,8 +10,8 @@ use rand_core::SeedableRng;
 use room_types::{OutOfMemory, Word};
 use std::alloc::Global;
 
-/// Returns the first `count` words of the generator with this seed, one on each line. Fails if an allocation fails,
-/// which needs a `count` above 0.
+/// Returns the first `count` words of the generator with this seed, one on each line. Fails if an allocation fails.
+/// With a `count` of 0 it always succeeds.
 pub fn words_text(alloc: Global, seed: Seed, count: usize) -> Result<String, OutOfMemory>
     ensures text { IfOk result (λ text. string_bytes text ≡ words_text seed count) }
     ensures memory { OnErr result (0 < count) }

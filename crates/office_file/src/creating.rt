@@ -19,9 +19,9 @@ use std::alloc::Global;
 ///
 /// `AlreadyThere` if and only if a table, an index, a view or a trigger of the opened database has the name of one of
 /// an office's ten tables. `Unavailable` otherwise: the file was not opened, its schema has something under other
-/// names, the disk failed, or memory ran out. On an error the function closes the connection that it opened. The
-/// tables are unchanged, unless a fault had closed the connection before or the disk failed to return what was
-/// written.
+/// names, the disk failed, or memory ran out. On an error the function closes the connection, if it opened one. The
+/// tables are then unchanged, unless the disk failed to return what was written or a fault closed the connection
+/// earlier.
 pub fn create_in<B: Alter, F: Files<B> + Closes<Connection<B>>>(
     alloc: Global,
     files: &mut F,

@@ -7,9 +7,9 @@ use crate::opening::{FileConnection, open_file, open_present_file};
 use office_store::Unavailable;
 use sqlite::{Alter, Connection, FileFrom, FileStore, Start};
 
-/// Opens office files by their paths, each as a database over the store `B`. The contract of each call is a relation
-/// between the states of `self` before and after the call. Generic code can establish that relation only by making
-/// the call.
+/// Opens office files by their paths. Each opened file is a database over the store `B`. The relations `opens`,
+/// `finds` and `fails` specify the calls: they relate the states of `self` before and after a call. Generic code can
+/// establish these relations only by making a call.
 pub trait Files<B: Alter> {
     ghost use Rattle.std.specs.Prelude.{◌≡◌, false, List, ℕ, IfOk, OnErr, ⊤};
     ghost use Rattle.sqlite.specs.Held.{Held};
@@ -23,7 +23,7 @@ pub trait Files<B: Alter> {
     /// `open` or `open_present` with this path failed, and led from the old state to the new one.
     ghost fails: { Self → List ℕ → Self → Type 0 } = { λ _ _ _. ⊤ };
 
-    /// Opens the database in the file of this path. Creates a missing file.
+    /// Opens the database in the file at this path. Creates a missing file.
     ///
     /// # Errors
     ///
@@ -33,7 +33,7 @@ pub trait Files<B: Alter> {
         ensures opened { IfOk result (λ connection. opens self.old path.now connection self.new) }
         ensures failed { OnErr result (fails self.old path.now self.new) };
 
-    /// Opens the database in the file of this path. Does not create a missing file.
+    /// Opens the database in the file at this path. Does not create a missing file.
     ///
     /// # Errors
     ///
@@ -44,8 +44,8 @@ pub trait Files<B: Alter> {
         ensures failed { OnErr result (fails self.old path.now self.new) };
 }
 
-/// Closes connections of type `C`. The contract of `close` is a relation between the states of `self` before and
-/// after the call.
+/// Closes connections of type `C`. The relation `closes` specifies the call `close`: it relates the states of `self`
+/// before and after the call.
 pub trait Closes<C> {
     ghost use Rattle.std.specs.Prelude.{⊤};
 
@@ -57,16 +57,18 @@ pub trait Closes<C> {
         ensures { closes self.old connection self.new };
 }
 
-/// The files of the system. A value opens at most one file: after the first call of `open` or `open_present`, each
-/// further call fails. `S` represents what that file and its log held. The contracts do not say which file a path
-/// names. Only this type holds the runtime, so code that is generic over `Files` cannot open a file in any other way.
+/// Opens and closes files of the operating system. A value opens at most one file: after the first call of `open` or
+/// `open_present`, each later call of either fails. In contracts, `S` represents what the file and its log held when
+/// the file was opened. No contract says which file a path names. Only this type holds the runtime, so code that is
+/// generic over `Files` can open a file only by calling `open` or `open_present`.
 #[derive(Drop)]
 pub struct SystemFiles<'a, S: Start> {
     opening: Option<(&'a HostRuntime, S)>,
 }
 
 impl<'a, S: Start> SystemFiles<'a, S> {
-    /// Returns a value that has not opened a file yet. `start` represents what the file and its log held.
+    /// Returns a value that has not opened a file yet. In contracts, `start` represents what the file and its log
+    /// hold when the value opens the file.
     pub fn new(rt: &'a HostRuntime, start: S) -> Self {
         SystemFiles {
             opening: Some((rt, start)),

@@ -9,14 +9,20 @@ use sqlite::{Alter, Connection};
 use std::alloc::Global;
 
 /// Opens a desk over the office that the file at this path holds. The tables must have the version of this program.
-/// They may be in the order in which this program creates them, or in the documented order (`Layout::Documented`).
-/// Opens the file once. Does not create a missing file.
+/// If they are in the documented order (`Layout::Documented`), the function recreates them in the order in which this
+/// program creates tables. Opens the file once. Does not create a missing file.
 ///
 /// # Errors
 ///
-/// `Unavailable` if the file was not opened. Otherwise the fault that `Desk::adopt` returns for the opened database:
-/// `NotAnOffice`, `OtherVersion` or `Unavailable`. The function then closes the connection. The tables are unchanged,
-/// unless a fault had closed the connection before or the disk failed to return what was written.
+/// - `NotAnOffice`: nothing has the name of table `round`, or the tables do not hold the rows of an office.
+/// - `OtherVersion`: the row of table `round` holds the version that the fault names, which is not the version of
+///   this program.
+/// - `Unavailable`: the file was not opened, the schema is not that of an office, the database failed, or memory ran
+///   out.
+///
+/// `Desk::adopt` has the exact conditions for an opened file. On an error the function closes the connection, if it
+/// opened one. The tables are then unchanged, unless the disk failed to return what was written or a fault closed the
+/// connection earlier.
 pub fn find_in<B: Alter, F: Files<B> + Closes<Connection<B>>>(
     alloc: Global,
     files: &mut F,

@@ -8,15 +8,21 @@ use office_store::{Desk, DeskFault, Unavailable};
 use sqlite::{Alter, Connection};
 use std::alloc::Global;
 
-/// Opens the file at this path, which holds an office of an earlier version. Migrates its tables to the version of
-/// this program, and returns a desk over the office. Opens the file once. Does not create a missing file.
+/// Migrates the office in the file at this path from version 1 or 2 to the version of this program. Returns a desk
+/// over the office. Opens the file once. Does not create a missing file.
 ///
 /// # Errors
 ///
-/// `Unavailable` if the file was not opened. Otherwise the fault that `Desk::migrate` returns for the opened
-/// database: `NotAnOffice`, `OtherVersion`, `AlreadyThere` or `Unavailable`. The function then closes the connection.
-/// The tables are unchanged, unless a fault had closed the connection before or the disk failed to return what was
-/// written.
+/// - `NotAnOffice`: nothing has the name of table `round`, or the tables do not hold the rows of an office of the
+///   version in that table.
+/// - `OtherVersion`: the row of table `round` holds the version that the fault names, which is neither 1 nor 2.
+/// - `AlreadyThere`: something has the name of a table that the version in table `round` lacks.
+/// - `Unavailable`: the file was not opened, the schema is not that of an office, the version in table `round` is not
+///   an integer, the database failed, or memory ran out.
+///
+/// `Desk::migrate` has the exact conditions for an opened file. On an error the function closes the connection, if it
+/// opened one. The tables are then unchanged, unless the disk failed to return what was written or a fault closed the
+/// connection earlier.
 pub fn migrate_in<B: Alter, F: Files<B> + Closes<Connection<B>>>(
     alloc: Global,
     files: &mut F,

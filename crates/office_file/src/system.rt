@@ -21,11 +21,15 @@ use sqlite::{FileFrom, FileStore, Start, Wary};
 /// A desk over a database file and its log. `S` represents what the two held when the file was opened.
 pub type FileDesk<S> = Desk<FileStore<FileFrom<S>>>;
 
-/// Creates a desk over the file at this path, and makes the tables of the empty office in it. Creates a missing file.
+/// Creates the tables of the empty office in the file at this path. Returns a desk over that office. Creates a
+/// missing file.
 ///
 /// # Errors
 ///
-/// Those of `create_in`.
+/// `AlreadyThere` if and only if a table, an index, a view or a trigger of the opened database has the name of one of
+/// an office's ten tables. `Unavailable` otherwise: the file was not opened, its schema has something under other
+/// names, the disk failed, or memory ran out. On an error the tables are unchanged, with the exceptions that
+/// `create_in` lists.
 pub fn create_file(rt: &HostRuntime, path: &str) -> Result<FileDesk<Wary>, DeskFault>
     ensures shows { IfOk result
         (λ desk. HasCleanDisk (file_state desk.conn) → Shows over_files desk empty_office) }
@@ -37,12 +41,18 @@ pub fn create_file(rt: &HostRuntime, path: &str) -> Result<FileDesk<Wary>, DeskF
     create_over(rt, path, Wary)
 }
 
-/// Does what `create_file` does, for any contents of the file and its log before the call. `start` represents these
-/// contents.
+/// Creates the tables of the empty office in the file at this path. Returns a desk over that office. Creates a
+/// missing file.
+///
+/// In contracts, `start` represents what the file and its log held before the call. No code can know these contents;
+/// the contract of this function holds for any contents.
 ///
 /// # Errors
 ///
-/// Those of `create_in`.
+/// `AlreadyThere` if and only if a table, an index, a view or a trigger of the opened database has the name of one of
+/// an office's ten tables. `Unavailable` otherwise: the file was not opened, its schema has something under other
+/// names, the disk failed, or memory ran out. On an error the tables are unchanged, with the exceptions that
+/// `create_in` lists.
 pub fn create_over<S: Start>(
     rt: &HostRuntime,
     path: &str,
@@ -59,11 +69,19 @@ pub fn create_over<S: Start>(
     create_in(rt.alloc(), &mut files, path)
 }
 
-/// Opens a desk over the office that the file at this path holds. Does not create a missing file.
+/// Opens a desk over the office that the file at this path holds. The tables must have the version of this program.
+/// Does not create a missing file.
 ///
 /// # Errors
 ///
-/// Those of `find_in`.
+/// - `NotAnOffice`: nothing has the name of table `round`, or the tables do not hold the rows of an office.
+/// - `OtherVersion`: the row of table `round` holds the version that the fault names, which is not the version of
+///   this program.
+/// - `Unavailable`: the file was not opened, the schema is not that of an office, the database failed, or memory ran
+///   out.
+///
+/// `Desk::adopt` has the exact conditions for an opened file. On an error the tables are unchanged, with the
+/// exceptions that `find_in` lists.
 pub fn on_file(rt: &HostRuntime, path: &str) -> Result<FileDesk<Wary>, DeskFault>
     ensures shows { IfOk result
         (λ desk. OpensFound (system_access (image_at ⟦<Wary as Start>⟧)) tt path.now desk tt) }
@@ -72,12 +90,22 @@ pub fn on_file(rt: &HostRuntime, path: &str) -> Result<FileDesk<Wary>, DeskFault
     find_over(rt, path, Wary)
 }
 
-/// Does what `on_file` does, for any contents of the file and its log before the call. `start` represents these
-/// contents.
+/// Opens a desk over the office that the file at this path holds. The tables must have the version of this program.
+/// Does not create a missing file.
+///
+/// In contracts, `start` represents what the file and its log held before the call. No code can know these contents;
+/// the contract of this function holds for any contents.
 ///
 /// # Errors
 ///
-/// Those of `find_in`.
+/// - `NotAnOffice`: nothing has the name of table `round`, or the tables do not hold the rows of an office.
+/// - `OtherVersion`: the row of table `round` holds the version that the fault names, which is not the version of
+///   this program.
+/// - `Unavailable`: the file was not opened, the schema is not that of an office, the database failed, or memory ran
+///   out.
+///
+/// `Desk::adopt` has the exact conditions for an opened file. On an error the tables are unchanged, with the
+/// exceptions that `find_in` lists.
 pub fn find_over<S: Start>(rt: &HostRuntime, path: &str, start: S) -> Result<FileDesk<S>, DeskFault>
     ensures shows { IfOk result
         (λ desk. OpensFound (system_access (image_at S.Start)) tt path.now desk tt) }
@@ -87,12 +115,20 @@ pub fn find_over<S: Start>(rt: &HostRuntime, path: &str, start: S) -> Result<Fil
     find_in(rt.alloc(), &mut files, path)
 }
 
-/// Opens the file at this path, which holds an office of an earlier version. Migrates its tables to the version of
-/// this program, and returns a desk over the office. Does not create a missing file.
+/// Migrates the office in the file at this path from version 1 or 2 to the version of this program. Returns a desk
+/// over the office. Does not create a missing file.
 ///
 /// # Errors
 ///
-/// Those of `migrate_in`.
+/// - `NotAnOffice`: nothing has the name of table `round`, or the tables do not hold the rows of an office of the
+///   version in that table.
+/// - `OtherVersion`: the row of table `round` holds the version that the fault names, which is neither 1 nor 2.
+/// - `AlreadyThere`: something has the name of a table that the version in table `round` lacks.
+/// - `Unavailable`: the file was not opened, the schema is not that of an office, the version in table `round` is not
+///   an integer, the database failed, or memory ran out.
+///
+/// `Desk::migrate` has the exact conditions for an opened file. On an error the tables are unchanged, with the
+/// exceptions that `migrate_in` lists.
 pub fn migrate_file(rt: &HostRuntime, path: &str) -> Result<FileDesk<Wary>, DeskFault>
     ensures shows { IfOk result
         (λ desk. OpensMigrated (system_access (image_at ⟦<Wary as Start>⟧)) tt path.now desk tt) }
@@ -101,12 +137,23 @@ pub fn migrate_file(rt: &HostRuntime, path: &str) -> Result<FileDesk<Wary>, Desk
     migrate_over(rt, path, Wary)
 }
 
-/// Does what `migrate_file` does, for any contents of the file and its log before the call. `start` represents these
-/// contents.
+/// Migrates the office in the file at this path from version 1 or 2 to the version of this program. Returns a desk
+/// over the office. Does not create a missing file.
+///
+/// In contracts, `start` represents what the file and its log held before the call. No code can know these contents;
+/// the contract of this function holds for any contents.
 ///
 /// # Errors
 ///
-/// Those of `migrate_in`.
+/// - `NotAnOffice`: nothing has the name of table `round`, or the tables do not hold the rows of an office of the
+///   version in that table.
+/// - `OtherVersion`: the row of table `round` holds the version that the fault names, which is neither 1 nor 2.
+/// - `AlreadyThere`: something has the name of a table that the version in table `round` lacks.
+/// - `Unavailable`: the file was not opened, the schema is not that of an office, the version in table `round` is not
+///   an integer, the database failed, or memory ran out.
+///
+/// `Desk::migrate` has the exact conditions for an opened file. On an error the tables are unchanged, with the
+/// exceptions that `migrate_in` lists.
 pub fn migrate_over<S: Start>(
     rt: &HostRuntime,
     path: &str,
@@ -120,8 +167,8 @@ pub fn migrate_over<S: Start>(
     migrate_in(rt.alloc(), &mut files, path)
 }
 
-/// Closes the file of a desk, if there is a desk. Callers pass the desk to this function because the proof that an
-/// open file can be dropped takes minutes in each crate that drops one.
+/// Closes the file of the desk if `desk` is `Ok`. Otherwise does nothing. Call this instead of dropping a desk: if a
+/// crate drops an open file, the proof that the crate may do so takes minutes.
 pub fn close_file<S: Start>(desk: Result<FileDesk<S>, DeskFault>) {
     let mut files = SystemFiles::unopened();
     close(&mut files, desk);

@@ -1,4 +1,4 @@
-//! Handles a single line from the program's arguments like a line of a rehearsal.
+//! Handles one line that the program's arguments give. It is parsed and handled like a line of a rehearsal's input.
 ghost use Rattle.std.specs.Prelude.{◌≡◌, map};
 ghost use Rattle.room_types.specs.Streams.{output_of};
 ghost use Rattle.room_types.specs.Watched.{IsFresh, StopsAtFailure};
@@ -14,8 +14,11 @@ use room_types::Watched;
 use std::alloc::Global;
 use std::io::Write;
 
-/// Joins the words with single spaces, handles the result as one line, and prints the response. Returns the exit
-/// status. Joining two or more words allocates. If this allocation fails, prints `unavailable` and handles no line.
+/// Joins the words with single spaces and passes the result to `do_line`, which handles it as one line and prints the
+/// response. Returns the exit status that `do_line` returns.
+///
+/// Joining two or more words allocates. If this allocation fails, handles no line, prints `unavailable`, and returns
+/// exit status 3.
 pub fn do_words<H: Handler, W: Write>(
     alloc: Global,
     handler: &mut H,
@@ -39,11 +42,11 @@ pub fn do_words<H: Handler, W: Write>(
     }
 }
 
-/// Handles one line and prints its response. Returns the exit status of the response. Returns 3 instead if the output
-/// fails or an allocation for the response's text fails; the request has been handled even then.
+/// Handles one line and then prints its response. Returns the exit status of the response, or 3 if the output fails
+/// or an allocation for the response's text fails. The line has been handled even if its response cannot be printed.
 ///
-/// If `line` contains a line feed, prints `not understood` and handles nothing. If `line` is longer than
-/// `LINE_LIMIT`, handles and prints nothing and returns 3.
+/// If `line` contains a line feed, handles nothing, prints `not understood`, and returns 2, or 3 if the output fails.
+/// Otherwise, if `line` is longer than `LINE_LIMIT`, handles and prints nothing and returns 3.
 pub fn do_line<H: Handler, W: Write>(
     alloc: Global,
     handler: &mut H,
@@ -74,7 +77,7 @@ fn has_newline(text: &[u8]) -> bool
     text.iter().any(|byte| *byte == b'\n')
 }
 
-/// Writes the text of the response and flushes. Returns the response's exit status, or 3 if the output or an
+/// Writes the text of the response and flushes. Returns the response's exit status, or 3 if a write, the flush or an
 /// allocation for the text fails.
 pub fn print_response<W: Write>(alloc: Global, response: &Response, output: &mut Watched<W>) -> u8
     requires ascending { ResponseAscends response.now }

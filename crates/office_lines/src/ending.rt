@@ -16,8 +16,8 @@ pub enum Ending {
 /// The exit status of a rehearsal, and how it ended.
 #[derive(Clone, Copy, Debug, PartialEq, Eq)]
 pub struct Rehearsed {
-    /// 3 unless the ending is `Ended`. For `Ended`, the greatest exit status of the lines, or 0 if there are no
-    /// lines.
+    /// The exit status. If `ending` is `Ended`, this is the greatest exit status of the lines, or 0 if there are no
+    /// lines. Otherwise it is 3.
     pub status: u8,
     pub ending: Ending,
 }

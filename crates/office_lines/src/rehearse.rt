@@ -1,4 +1,4 @@
-//! Runs a rehearsal, which handles lines from a reader and writes the responses.
+//! Runs a rehearsal: handles the lines from a reader, and writes the responses to a writer.
 ghost use Rattle.std.specs.Prelude.{◌≡◌, ◌+◌, ◌^◌, ◌≤◌, length, OnOk, IfErr};
 ghost use Rattle.std.specs.Io.KnownBytes.{IsAtEnd};
 ghost use Rattle.room_types.specs.Streams.{input_of, output_of};
@@ -17,12 +17,13 @@ use room_types::Watched;
 use std::alloc::Global;
 use std::io::{Read, Write};
 
-/// Handles each line of the input and writes the responses. Flushes the output at the end of the input. Handled
-/// requests take effect whatever the ending is.
+/// Handles each line of the input and writes the responses. Flushes the output at the end of the input. Returns how
+/// the rehearsal ended, and its exit status. A handled request stays in effect even if the rehearsal fails
+/// afterwards.
 ///
-/// The handler may allocate. Apart from the handler, `rehearse` allocates only for one line, its request and its
-/// response. `rehearse` handles all lines of a chunk before it reads the next chunk. After a failure it uses neither
-/// the input nor the output. After the end of the input it reads no more.
+/// Reads the input in chunks of at most `CHUNK_LIMIT` bytes. Handles all lines that end in a chunk before it reads
+/// the next chunk. Apart from what the handler allocates, allocates only for one line, its request and its response.
+/// After a failure, makes no further call on the input or the output. After the end of the input, reads no more.
 pub fn rehearse<H: Handler, R: Read, W: Write>(
     alloc: Global,
     handler: &mut H,
@@ -60,7 +61,7 @@ pub fn rehearse<H: Handler, R: Read, W: Write>(
 }
 
 // Reads the input to its end, and handles each line that ends with a line feed. Fails with `ReadFault` if a read
-// fails or if `READ_LIMIT` reads do not reach the end of the input.
+// fails or if `READ_LIMIT` reads do not reach the end of the input. Also stops at the first error of `take_chunk`.
 fn handle_input<H: Handler, R: Read, W: Write>(
     alloc: Global,
     handler: &mut H,

@@ -83,13 +83,13 @@ impl Session {
         }
     }
 
-    /// Takes one byte of input. A line feed ends the unfinished line, which is then handled by `answer_line`. Any
-    /// other byte is appended to the unfinished line.
+    /// Takes one byte of input. If the byte is a line feed, handles the unfinished line and writes its response.
+    /// Otherwise appends the byte to the unfinished line.
     ///
     /// # Errors
     ///
-    /// `ReadFault` if the byte would make the line longer than `LINE_LIMIT`, `NoMemory` if an allocation fails, and
-    /// `WriteFault` if a write fails.
+    /// `ReadFault` if the byte would make the line longer than `LINE_LIMIT`. `NoMemory` if an allocation for the line
+    /// or for the response's text fails. `WriteFault` if a write fails.
     pub fn take_byte<H: Handler, W: Write>(
         &mut self,
         alloc: Global,
@@ -124,7 +124,12 @@ impl Session {
     }
 
     /// Takes a chunk of input. Handles each line that ends in the chunk, and keeps the bytes after the last line feed
-    /// as the unfinished line. Stops at the first error of `take_byte`.
+    /// as the unfinished line.
+    ///
+    /// # Errors
+    ///
+    /// Stops at the first error: `ReadFault` if a line is longer than `LINE_LIMIT`, `NoMemory` if an allocation for a
+    /// line or for a response's text fails, and `WriteFault` if a write fails.
     pub fn take_chunk<H: Handler, W: Write>(
         &mut self,
         alloc: Global,

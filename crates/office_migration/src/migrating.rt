@@ -40,35 +40,41 @@ pub enum MigrateFault {
     Unavailable,
     /// The row of table `round` holds this version, which is neither 1 nor 2.
     OtherVersion(i64),
-    /// Nothing has the name of table `round`, or the first tables do not hold the rows of an office of version 1 or
-    /// 2.
+    /// Nothing has the name of table `round`, or the first tables of the schema do not hold the rows of an office of
+    /// version 1 or 2.
     NotAnOffice,
-    /// Something has the name of a table that the earlier version lacks, and the migration found no fault in the
-    /// rows.
+    /// Something has the name of a table that the version in table `round` lacks, so the migration cannot create that
+    /// table. If the migration finds that the rows are wrong too, it returns `NotAnOffice` instead.
     AlreadyThere,
 }
 
 /// Migrates the tables of an office of version 1 or 2 to the version of this program, in one transaction. Returns the
-/// office that they hold. This office has no leavers, and no grades if its version was 1. Presupposes that each table
-/// with the name of one of an office's ten tables is declared as that table. The call does not compare columns.
+/// office that the tables hold. The office has no leavers, and it has no grades if its version was 1.
+///
+/// The call compares the names of tables, but not their columns. It presupposes that each table with the name of one
+/// of an office's ten tables also has the declaration of that table.
 ///
 /// # Errors
 ///
-/// The first of these that applies:
+/// The fault is the first of these that applies:
 ///
 /// - `NotAnOffice` if nothing has the name of table `round`.
-/// - `Unavailable` if the first three tables are not `room`, `person` and `round`, each in the tree where an office
-///   keeps it, or if there is a view. Triggers, and tables that the engine does not understand, count as views. No
-///   statement has run then.
-/// - `NotAnOffice` if table `round` does not have exactly one row, `Unavailable` if the version in its row is not an
-///   integer, or `OtherVersion` if that integer is neither 1 nor 2.
-/// - If something has the name of a table that the version in that row lacks (version 1 lacks `grade`, versions 1 and
-///   2 lack `going`): `NotAnOffice` if the schema begins with the tables of a layout of that version and they do not
-///   hold the rows of an office of that version. Otherwise `AlreadyThere`.
-/// - `Unavailable` if the tables are in no known layout, or `NotAnOffice` if they do not hold the rows of an office
-///   of the version in that row.
+/// - `Unavailable` if there is a view, or if the first three tables are not `room`, `person` and `round`, each in the
+///   tree where an office keeps it. Triggers, and tables that the engine does not understand, count as views. In this
+///   case and in the first one, no statement has run.
+/// - `NotAnOffice` if table `round` does not have exactly one row.
+/// - `Unavailable` if the version in this row is not an integer.
+/// - `OtherVersion` if the version in this row is neither 1 nor 2.
+/// - `NotAnOffice` or `AlreadyThere` if something has the name of a table that the version in this row lacks. Version
+///   1 lacks `grade` and `going`, and version 2 lacks `going`. The fault is `NotAnOffice` if the schema begins with
+///   the tables of a layout of that version, but these tables do not hold the rows of an office of that version.
+///   Otherwise it is `AlreadyThere`.
+/// - `Unavailable` if the tables are in no known layout.
+/// - `NotAnOffice` if the tables do not hold the rows of an office of the version in table `round`.
 ///
-/// If the database fails or memory runs out, the call may return `Unavailable` instead of any of these but the first.
+/// The call also returns `Unavailable` if the database fails or memory runs out, except in the first case: there it
+/// neither reads the database nor allocates.
+///
 /// On an error the tables are unchanged, unless a fault closed the connection or the disk failed to return what was
 /// written.
 pub fn migrate<S: Alter>(alloc: Global, conn: &mut Connection<S>) -> Result<Office, MigrateFault>

@@ -24,14 +24,14 @@ use office_state::Office;
 use sqlite::{Alter, Connection, Error, ErrorCode};
 use std::alloc::Global;
 
-/// Recreates tables that are in `layout` in the layout that this program creates, in one transaction. Returns the
-/// office that they hold. Returns `None`, and changes nothing, if they hold no lawful office of the version of
-/// `layout`. Reads the rows twice: first to test them, then to copy them.
+/// Recreates the tables of an office in the layout that this program creates, in one transaction. `layout` is the
+/// layout of the tables before the call. Returns the office. If the tables hold no lawful office of the version of
+/// `layout`, returns `None` and changes nothing. Reads the rows twice: first to test them, then to copy them.
 ///
 /// # Errors
 ///
-/// Fails if the tables cannot be read or written. They are then unchanged, unless a fault closed the connection or
-/// the disk failed to return what was written.
+/// Fails if the tables cannot be read or written, or if memory runs out. The tables are then unchanged, unless a
+/// fault closed the connection or the disk failed to return what was written.
 pub fn renewed_office<S: Alter>(
     alloc: Global,
     conn: &mut Connection<S>,

@@ -22,10 +22,13 @@ use sqlite::{Alter, Connection};
 use sqlite_schema::schema::Schema;
 use std::alloc::Global;
 
-/// Returns why a migration from this version fails if something has the name of a table that the version lacks.
-/// Changes no table. The fault is `NotAnOffice` if the schema begins with the tables of a layout of this version and
-/// they do not hold the rows of an office of this version. It is `Unavailable` if the database fails or memory runs
-/// out. Otherwise it is `AlreadyThere`.
+/// Returns the fault with which a migration from `version` fails. `migrate` calls this if something has the name of a
+/// table that this version lacks. Changes no table. The fault is:
+///
+/// - `Unavailable` if the database fails or memory runs out.
+/// - `NotAnOffice` if the schema begins with the tables of a layout of this version, but these tables do not hold the
+///   rows of an office of this version.
+/// - `AlreadyThere` otherwise.
 pub fn refused_for_name<S: Alter>(
     alloc: Global,
     conn: &mut Connection<S>,

@@ -9,8 +9,9 @@ ghost use Rattle.office_migration.specs.Versions.{do_all_arrive, is_not_grades};
 use office_state::{Office, RoundMoves, StoredImport};
 use room_types::ListKind;
 
-/// Returns whether `office` can be an office of this version. Grades and lists of grades came with version 2, leavers
-/// with version 3. Does not allocate.
+/// Returns whether `office` holds only what an office of this version may hold. Before version 2, an office has no
+/// grades and no lists of grades. Before version 3, it has no leavers, and each recorded move goes into a room. Does
+/// not allocate.
 pub fn is_of_version(office: &Office, version: u16) -> bool
     ensures { Decides result (IsOfVersion version office.now) }
 {

@@ -20,16 +20,16 @@ MayNotMigrate db (OtherVersion version) = StatesVersion db version × IsNotEarli
 MayNotMigrate db AlreadyThere = HasNameTaken db
 
 -- The cause that `Desk::migrate` must have to return this fault, if the schema begins with the first three tables of
--- an office. It is the cause of the same fault of a migration (`MayReturn`), and does not depend on how the tables
--- after the first three are declared.
+-- an office. `MayReturn` states it for the fault of the migration that becomes this fault. The cause does not depend
+-- on how the tables after the first three are declared.
 abbrev pub MayReturnFault : Database → DeskFault → Type 0
 MayReturnFault db Unavailable = ⊤
 MayReturnFault db NotAnOffice = MayReturn db migrate.NotAnOffice
 MayReturnFault db (OtherVersion version) = MayReturn db (migrate.OtherVersion version)
 MayReturnFault db AlreadyThere = MayReturn db migrate.AlreadyThere
 
--- The condition on the schema under which `Desk::migrate` may return this fault, whatever the disk does. It is the
--- condition for the same fault of a migration (`IsAllowed`).
+-- The condition on the schema under which `Desk::migrate` may return this fault, whatever the disk does. `IsAllowed`
+-- states it for the fault of the migration that becomes this fault.
 abbrev pub IsFaultOfMigration : Schema → DeskFault → Type 0
 IsFaultOfMigration schema Unavailable = ⊤
 IsFaultOfMigration schema NotAnOffice = IsAllowed schema migrate.NotAnOffice

@@ -7,12 +7,12 @@ use sqlite::MemStore;
 use std::alloc::Global;
 use std::process::Abort;
 
-/// Parses the text.
+/// Parses the text. Ends the test if the text does not parse.
 pub fn text<G: Grammar>(rt: &impl Abort, alloc: Global, text: &str) -> Text<G> {
     Text::read(alloc, text).expect(rt, text)
 }
 
-/// Parses the text, if there is one.
+/// Parses the text, if there is one. Ends the test if that text does not parse.
 pub fn optional<G: Grammar>(
     rt: &impl Abort,
     alloc: Global,

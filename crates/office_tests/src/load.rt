@@ -49,7 +49,8 @@ const BREAKS: [(&str, &str); 3] = [
     ),
 ];
 
-// More statements of this kind, for tables with leavers.
+// Statements that break the rows of an office with leavers, so that these are no office's. Each has a statement
+// that undoes the break.
 const LEAVERS_BREAK: [(&str, &str); 3] = [
     (
         "UPDATE person SET withdrawn = 1 WHERE id = 'L1'",

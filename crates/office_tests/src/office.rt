@@ -288,7 +288,8 @@ fn refused_next(rt: &impl Abort, alloc: Global, office: &mut Office) -> u8
     refused(alloc, office, &next)
 }
 
-// Returns the number of the refusal as `refused_next` does, or 0 if the office is not lawful.
+// Adds a person, whom the office must accept. Returns the number of the refusal of one more person, or 0 if the
+// office accepts that person too. If the office is not lawful, adds nobody and returns 0.
 fn refused_person(rt: &impl Abort, alloc: Global, office: &mut Office) -> u8 {
     if sound(alloc, office).expect(rt, "memory") {
         refused_next(rt, alloc, office)

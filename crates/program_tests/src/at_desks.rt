@@ -45,13 +45,15 @@ fn parse_requests(alloc: Global, lines: &str) -> Result<Vec<Request>, Fail> {
     Ok(requests)
 }
 
-/// The output of `QUERIES` at the desk.
+/// Returns the output of a rehearsal at the desk whose lines query the rooms, the people, the round, the order, the
+/// results and the moves of the first round.
 pub fn shown(alloc: Global, desk: &mut Desk<MemStore>) -> Vec<u8> {
     let (_, text) = rehearsed_at(alloc, desk, QUERIES.as_bytes());
     text
 }
 
-/// Whether a rehearsal of the lines and then of `QUERIES` ends its output with this text, and the text is not empty.
+/// Rehearses the lines, and then the queries that `shown` makes. Returns whether the output ends with the text
+/// `stored`, and this text is not empty.
 pub fn is_shown_after(alloc: Global, lines: &str, stored: &[u8]) -> Result<bool, Fail> {
     let mut all = String::from_str(alloc, lines)?;
     all.push_str(QUERIES)?;

@@ -30,8 +30,9 @@ pub const DRAW: [(&str, &str); 14] = [
     ("round", "round 1 idle people 3 withdrawn 0\n"),
 ];
 
-/// Draws for the same people with the same words. E3 has grade 1 in the first round. Before the second round E3 is
-/// removed and added again without a grade. A grade that is set back to 0 has no effect.
+/// Two rounds whose draws have the same people and the same words, but other grades. E3 has grade 1 in the first
+/// round. Before the second round E3 is removed and added again, which clears E3's grade. E1's grade is set and
+/// then set back to 0.
 pub const GRADES: [(&str, &str); 23] = [
     ("person E3 key00000000000e3 Cy Coy", "ok\n"),
     ("person E1 key00000000000e1 Ann Ash", "ok\n"),

@@ -22,7 +22,7 @@ impl Read for FailingReader<'_> {
     }
 }
 
-/// A writer that keeps the bytes that it takes, at most `room` in all. After `writes` writes one write fails, and
+/// A writer that takes at most `room` bytes in all, and keeps them. After `writes` writes one write fails, and
 /// later writes succeed. Flushes succeed if and only if `flushes` is true.
 #[derive(Drop)]
 pub struct FailingWriter {

@@ -5,7 +5,8 @@ use crate::scripts::rehearsed;
 use office_cli::Ending;
 use std::test::Fail;
 
-/// Commands and queries, except those about grades and leavers.
+/// A script of commands and queries in each phase, some of which the office refuses. None is about grades or
+/// leavers.
 pub const REFUSALS: [(&str, &str); 72] = [
     // Rooms, one of them shut, a tenant and a newcomer.
     ("room H1", "ok\n"),
@@ -100,7 +101,8 @@ pub const REFUSALS: [(&str, &str); 72] = [
     ("settle", "settled 0\n"),
 ];
 
-/// Commands and queries about grades and leavers, with two tenants and a newcomer.
+/// A script of commands and queries about grades and leavers, some of which the office refuses. The people are two
+/// tenants and a newcomer.
 pub const GRADES_AND_LEAVERS: [(&str, &str); 60] = [
     ("room H1", "ok\n"),
     ("room H2", "ok\n"),

@@ -4,7 +4,8 @@ use office_cli::Ending;
 use std::alloc::Global;
 use std::test::Fail;
 
-/// Rooms, people and homes, two rounds that are opened, and refused lines among them.
+/// A script that adds rooms and people, gives people homes, and opens two rounds. The office refuses some of the
+/// lines.
 pub const REGISTER: [(&str, &str); 28] = [
     ("room H1", "ok\n"),
     ("room H2", "ok\n"),

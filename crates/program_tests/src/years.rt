@@ -110,7 +110,7 @@ pub const SWAP: [(&str, &str); 30] = [
     ("cancel", "cancelled\n"),
 ];
 
-/// T1 moves after T2.
+/// T2 moves into a vacant room, and then T1 into the room that T2 left.
 pub const CHAIN: [(&str, &str); 17] = [
     ("room H1", "ok\n"),
     ("room H2", "ok\n"),

@@ -36,8 +36,8 @@ list_fault fault.OutOfMemory = unavailable_answer
 list_fault fault.TooManyChoices = fault_answer 422 (codes "TooManyChoices")
 list_fault (fault.RoomRepeated room) = fault_answer 422 (codes "RoomRepeated")
 
--- The response to a resident's command that the office refuses. The office refuses such a command only for the
--- reasons that have their own line here.
+-- The response to a resident's command that the office refuses. The office refuses a resident's command only for the
+-- reasons that have their own line in this definition.
 abbrev pub refusal_answer : Refusal → Answer
 refusal_answer (refusal.BadPhase phase) = fault_answer 409 (codes "BadPhase")
 refusal_answer refusal.Withdrawn = fault_answer 409 (codes "Withdrawn")

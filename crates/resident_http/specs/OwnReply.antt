@@ -36,7 +36,8 @@ pub record AgreeFor (bytes : List ℕ) (a b : Office) : Type 0 where
   pub own : (method path key body : List ℕ) (used : ℕ) → Asks bytes (ask method path (Some key) body used)
       → AgreeOnKey a b key
 
--- if two offices agree as `AgreeFor` says, every response that one may serve to the bytes, the other may serve too
+-- If `AgreeFor` holds for the bytes and two offices, each response that one office may serve to the bytes may also be
+-- served by the other office.
 abbrev pub RepliesByOwnRecord : Type 0
 RepliesByOwnRecord =
     (a b : Office) (bytes : List ℕ) (answer : Answer) (next : Office) → AgreeFor bytes a b

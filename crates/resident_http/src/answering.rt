@@ -23,8 +23,13 @@ use resident_requests::{
 use room_types::{Key, Listing, PersonId, RoomRow, TypeFault};
 use std::alloc::Global;
 
-/// Returns the response to the parsed bytes of a connection. No more bytes will come: if the request is incomplete,
-/// the response is 400.
+/// Returns the response to `asked`, the parsed bytes of a connection. Lets the handler handle a complete request. An
+/// incomplete request gets status 400, because no more bytes will come.
+///
+/// # Errors
+///
+/// `ResponseUnavailable` if an allocation fails, if the handler's answer is `Unavailable`, or if the handler gives an
+/// answer that does not belong to the request.
 pub fn answer_ask<H: Handler>(
     alloc: Global,
     handler: &mut H,
@@ -110,7 +115,8 @@ fn authenticate<H: Handler>(
     authorize(alloc, handler, route, &me, body)
 }
 
-// Returns the response, given the desk's answer to the question who owns the key. The response is 403 if nobody does.
+// Returns the response to a request, given `me`, the desk's answer to the question who owns the key. The response is
+// 403 if nobody owns the key.
 fn authorize<H: Handler>(
     alloc: Global,
     handler: &mut H,

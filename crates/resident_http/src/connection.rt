@@ -20,11 +20,15 @@ use std::alloc::Global;
 /// The greatest number of bytes read from a connection: the length of the longest head plus that of the longest body.
 pub const CONNECTION_LIMIT: usize = 9_216;
 
-/// Reads one request from the stream, passes it to the handler, writes the response, and flushes once. Returns how
-/// this ended. The reads fill a fixed buffer and need no allocation. They end when the request is complete or
-/// refused, or when the stream ends. If an allocation for the response fails, the response is 503, and the handler
-/// has handled no command. After a failure, makes no further call on the stream. After the end of the stream, makes
-/// no further read. Makes no other calls on the stream than these reads, these writes and this flush.
+/// Serves one connection: reads one request from the stream, passes it to the handler, writes the response, and
+/// flushes once. Returns how serving the connection ended.
+///
+/// Reads until the request is complete or refused, or until the stream ends. The reads fill a fixed buffer and need
+/// no allocation. If an allocation for the response fails, the response is 503, and the handler has handled no
+/// command.
+///
+/// Makes no calls on the stream except the reads, the writes and the flush. After a call fails, makes no further call
+/// on the stream. After the end of the stream is found, makes no further read.
 pub fn serve_connection<H: Handler, T: Stream>(
     alloc: Global,
     handler: &mut H,
@@ -58,8 +62,8 @@ pub fn serve_connection<H: Handler, T: Stream>(
     }
 }
 
-// Writes the response to the parsed bytes, and flushes. No more bytes will come: the response to an incomplete
-// request is 400.
+// Finds the response to `asked`, the parsed bytes, writes the response to the stream, and flushes. An incomplete
+// request gets status 400, because no more bytes will come.
 fn respond<H: Handler, T: Stream>(
     alloc: Global,
     handler: &mut H,

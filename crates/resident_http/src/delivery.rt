@@ -11,8 +11,8 @@ use crate::served::Served;
 use http::StatusCode;
 use room_types::{Stream, Watched};
 
-/// Writes the whole response, and flushes. Returns `Answered` with this status, or `WriteFault` with the number of
-/// bytes written before a write or the flush failed.
+/// Writes the bytes `text` of a response to the stream, and flushes. Returns `Answered` with `status` if all this
+/// succeeds. If a write or the flush fails, returns `WriteFault` with the number of bytes written before the failure.
 pub fn deliver<T: Stream>(stream: &mut Watched<T>, status: StatusCode, text: &[u8]) -> Served
     requires { watched_failed stream.old ≡ false }
     ensures delivers { Delivers result status text.now

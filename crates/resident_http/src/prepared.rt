@@ -28,7 +28,7 @@ impl From<OutOfMemory> for ResponseUnavailable {
     }
 }
 
-/// Prepares this response: builds its bytes. Fails if an allocation fails.
+/// Builds the bytes of the response `answer`. Fails if an allocation fails.
 fn prepare(alloc: Global, answer: HttpAnswer) -> Result<PreparedResponse, ResponseUnavailable>
     ensures { IfOk result (λ response. IsPrepared response answer) }
 {
@@ -39,7 +39,11 @@ fn prepare(alloc: Global, answer: HttpAnswer) -> Result<PreparedResponse, Respon
     })
 }
 
-/// Prepares the success response with this body.
+/// Builds the bytes of the success response, which has status 200 and the body `body`.
+///
+/// # Errors
+///
+/// `ResponseUnavailable` if an allocation fails.
 pub fn prepare_success(
     alloc: Global,
     body: Listing<u8>,
@@ -49,7 +53,12 @@ pub fn prepare_success(
     prepare(alloc, HttpAnswer::success(body))
 }
 
-/// Prepares the error response with this status and error name, which must be one of the status's names.
+/// Builds the bytes of the error response with the status `status` and the error name `name`. The name must be one
+/// that `HttpAnswer::fault` allows for the status.
+///
+/// # Errors
+///
+/// `ResponseUnavailable` if an allocation fails.
 pub fn prepare_fault(
     alloc: Global,
     status: StatusCode,
@@ -62,8 +71,12 @@ pub fn prepare_fault(
     prepare(alloc, answer)
 }
 
-/// Prepares the error response for a status that has exactly one error name. The status must not be 405:
-/// `prepare_wrong_method` prepares that response.
+/// Builds the bytes of the error response for a status that has exactly one error name: 400, 403, 404, 413, 417, 501
+/// or 503. The status must not be 405, whose response `prepare_wrong_method` builds.
+///
+/// # Errors
+///
+/// `ResponseUnavailable` if an allocation fails.
 pub fn status_fault(
     alloc: Global,
     status: StatusCode,
@@ -75,7 +88,12 @@ pub fn status_fault(
     prepare_fault(alloc, status, fault_name(status))
 }
 
-/// Prepares the response to a request with a wrong method. The response names the method to use.
+/// Builds the bytes of the response with status 405, for a request whose method its path does not take. The response
+/// names `allow`, the method that the path takes.
+///
+/// # Errors
+///
+/// `ResponseUnavailable` if an allocation fails.
 pub fn prepare_wrong_method(
     alloc: Global,
     allow: Method,

@@ -9,8 +9,8 @@ use office_store::Answer;
 use room_types::Listing;
 use std::alloc::Global;
 
-/// A prepared response for each answer that a resident's command can get. `new` prepares them before the desk handles
-/// the command. Once the command has taken effect, its response needs no allocation.
+/// A prepared response for each answer that a resident's command can get. `new` prepares the responses before the
+/// desk handles the command. So the response to a command that has taken effect needs no allocation.
 #[derive(Drop)]
 pub struct CommandResponses {
     pub success: PreparedResponse,
@@ -24,7 +24,8 @@ pub struct CommandResponses {
 impl CommandResponses {
     ghost use Rattle.std.specs.Prelude.{◌≡◌, ℕ, IfOk, List};
 
-    /// Prepares all responses. The success response has this body. Fails if an allocation fails.
+    /// Prepares the success response, with the body `body`, and an error response for each refusal that a resident's
+    /// command can get. Fails if an allocation fails.
     pub fn new(alloc: Global, body: Listing<u8>) -> Result<CommandResponses, ResponseUnavailable>
         ensures { IfOk result (λ responses. AreCommandResponses responses body) }
     {
@@ -38,8 +39,8 @@ impl CommandResponses {
         })
     }
 
-    /// Returns the response to the desk's answer. Fails if the desk was unavailable, or if the answer is a refusal
-    /// that a resident's command never gets.
+    /// Returns the prepared response for `answer`, the desk's answer to the command. Fails if the answer is
+    /// `Unavailable`, or if it is a refusal that a resident's command never gets.
     pub fn response_to(self, answer: &Answer) -> Result<PreparedResponse, ResponseUnavailable>
         ensures { (body : List ℕ) → AreCommandResponses self body
             → WithAnswer result (λ due. due ≡ command_answer body answer.now) }

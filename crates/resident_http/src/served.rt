@@ -9,12 +9,12 @@ pub enum Served {
         /// The status of the response.
         status: StatusCode,
     },
-    /// The stream ended before any byte. Nothing was written, and nothing changed.
+    /// The stream ended before its first byte. Nothing was written, and no request was handled.
     Silent,
-    /// A read failed. Nothing was written, and nothing changed.
+    /// A read failed. Nothing was written, and no request was handled.
     ReadFault,
-    /// A write failed after `sent` bytes of the response, or the flush failed after all of them. A command that was
-    /// accepted stays in effect.
+    /// A write failed after `sent` bytes of the response were written, or the flush failed after the whole response
+    /// was written. A command that was accepted stays in effect.
     WriteFault {
         /// The number of bytes of the response that were written.
         sent: usize,

@@ -17,10 +17,11 @@ use room_types::{Stream, Watched};
 use sqlite::{Alter, MemStore};
 use std::alloc::Global;
 
-/// Serves one resident: reads one request, lets the desk handle it, and writes the response, as `serve_connection`
-/// does. If the disk returned what was written to it, the response is one that the office represented by the desk may
-/// serve to the bytes read. The desk then represents the office after this request, even if the response could not be
-/// written.
+/// Serves one resident at the desk: reads one request from the stream, lets the desk handle it, writes the response,
+/// and flushes. Returns how serving the resident ended.
+///
+/// A desk represents an office. If the disk returned what was written to it, the office may serve this response to
+/// the bytes read. The desk then represents the office after the request, even if the response could not be written.
 pub fn serve_one<S: Alter, T: Stream>(
     alloc: Global,
     desk: &mut Desk<S>,
@@ -43,9 +44,11 @@ pub fn serve_one<S: Alter, T: Stream>(
     serve_connection(alloc, desk, stream)
 }
 
-/// Does what `serve_one` does, for a desk over a database in memory. This needs no premise about a disk. The response
-/// is one that the office shown by the desk may serve to the bytes read. The desk then shows the office after this
-/// request.
+/// Serves one resident at a desk over a database in memory: reads one request from the stream, lets the desk handle
+/// it, writes the response, and flushes. Returns how serving the resident ended.
+///
+/// The desk shows an office. This office may serve the response to the bytes read, and the desk then shows the office
+/// after the request. Unlike the contract of `serve_one`, this holds without a premise about a disk.
 pub fn serve_one_in_memory<T: Stream>(
     alloc: Global,
     desk: &mut Desk<MemStore>,

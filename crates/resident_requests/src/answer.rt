@@ -8,14 +8,14 @@ use room_types::{Listing, OutOfMemory};
 use std::alloc::{AllocError, Global};
 use std::marker::Model;
 
-/// An HTTP response. Its status is one of those that `is_response_status` lists. `allow` is present exactly if the
-/// status is 405. The body should be JSON, because `answer_bytes` writes a field `Content-Type` that says so. The
-/// type does not check the body.
+/// An HTTP response. Its status is 200, 400, 403, 404, 405, 409, 413, 417, 422, 501 or 503. `allow` is present
+/// exactly if the status is 405. The body should be JSON, because `answer_bytes` labels each body as JSON in the
+/// field `Content-Type`. The type does not check the body.
 #[derive(Debug, Drop)]
 pub struct HttpAnswer {
     /// The status.
     pub status: StatusCode,
-    /// The method that the path takes, if the request has a different method.
+    /// For status 405, the method that the path takes; the request had a different method. Otherwise `None`.
     pub allow: Option<Method>,
     /// The bytes of the body.
     pub body: Listing<u8>,

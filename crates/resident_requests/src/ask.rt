@@ -33,7 +33,7 @@ pub enum AskState<'b> {
     Ask {
         /// The method, as written in the request.
         method: &'b [u8],
-        /// The target up to its first question mark, not decoded.
+        /// The part of the request target before its first question mark. Percent-encoding is not decoded.
         path: &'b str,
         /// The resident's key, if there is exactly one field `Room-Key` and its value is in the grammar of `Key`.
         key: Option<&'b str>,
@@ -42,15 +42,16 @@ pub enum AskState<'b> {
         /// The length of the head and the body, in bytes.
         used: usize,
     },
-    /// The bytes are refused: the response has this status.
+    /// The bytes are refused. The response to them has the status given here.
     Fault(StatusCode),
 }
 
 /// Parses the request at the start of the bytes: the head, and as many bytes after it as the head announces. Ignores
 /// the bytes after the body. Does not allocate.
 ///
-/// A head follows the default grammar of `httparse`; for example, a line may end with a line feed alone. If several
-/// of these faults apply, returns the first:
+/// A head follows the default grammar of `httparse`; for example, a line may end with a line feed alone. A request
+/// with a fault is refused with one of the following statuses. If it has several faults, the first in this list
+/// counts:
 ///
 /// - 400: the head is not HTTP/1.0 or HTTP/1.1, is longer than `HEAD_LIMIT`, has more than `FIELD_LIMIT` fields, has
 ///   more than one field `Host`, or has none in HTTP/1.1.
@@ -59,12 +60,13 @@ pub enum AskState<'b> {
 /// - 400: the head has more than one field `Content-Length`, or one that is not decimal digits.
 /// - 413: the value of the field `Content-Length` is above `BODY_LIMIT`.
 ///
-/// For fewer than `HEAD_LIMIT` bytes without a complete head, the result depends on what can follow:
+/// If there are fewer than `HEAD_LIMIT` bytes and they do not start with a complete head, the result depends on
+/// whether further bytes can complete a head:
 ///
-/// - `More`, if further bytes can complete a head with at most `FIELD_LIMIT` fields.
-/// - `More` or 400, if further bytes can complete a head, but only with more than `FIELD_LIMIT` fields.
-/// - `More` or 400, if no further bytes can complete a head, and the bytes end within the target.
-/// - 400, if no further bytes can complete a head, and the bytes do not end within the target.
+/// - They can, with at most `FIELD_LIMIT` fields: the result is `More`.
+/// - They can, but only with more than `FIELD_LIMIT` fields: the result may be `More` or 400.
+/// - They cannot, and the bytes end within the request target: the result may be `More` or 400.
+/// - They cannot, and the bytes do not end within the request target: the result is 400.
 pub fn read_ask(bytes: &[u8]) -> AskState<'_>
     ensures asks { Asks bytes.now (seen result) }
     // The status of a fault is 400, 413, 417 or 501.

@@ -11,7 +11,7 @@ use room_types::{Listing, OutOfMemory, RoomCode, RoomRow};
 use serde_json::{Value, json};
 use std::alloc::{AllocError, Global};
 
-/// Returns the JSON body of the response to a recorded preference list: `{"choices":[..]}`.
+/// Returns the JSON body of the response that confirms a recorded preference list: `{"choices":[..]}`.
 ///
 /// # Errors
 ///
@@ -23,7 +23,11 @@ pub fn choices_body(alloc: Global, choices: &[RoomCode]) -> Result<Listing<u8>, 
     written_json(alloc, &value)
 }
 
-/// Returns the body with a resident's own record.
+/// Returns the JSON body of the response with a resident's own record.
+///
+/// # Errors
+///
+/// `OutOfMemory` if an allocation fails.
 pub fn standing_body(alloc: Global, standing: &Standing) -> Result<Listing<u8>, OutOfMemory>
     ensures { IfOk result (λ body. body ≡ compact_text (standing_data standing.now)) }
 {
@@ -31,7 +35,12 @@ pub fn standing_body(alloc: Global, standing: &Standing) -> Result<Listing<u8>, 
     written_json(alloc, &value)
 }
 
-/// Returns the body with the rooms and their states, in the order of the rows.
+/// Returns the JSON body of the response that lists the rooms: an array with the code and the state of each room, in
+/// the order of `rows`.
+///
+/// # Errors
+///
+/// `OutOfMemory` if an allocation fails.
 pub fn rooms_body(alloc: Global, rows: &[RoomRow]) -> Result<Listing<u8>, OutOfMemory>
     ensures { IfOk result (λ body. body ≡ compact_text (rooms_data rows.now)) }
 {
@@ -39,7 +48,11 @@ pub fn rooms_body(alloc: Global, rows: &[RoomRow]) -> Result<Listing<u8>, OutOfM
     written_json(alloc, &value)
 }
 
-/// Returns the body that confirms a withdrawal.
+/// Returns the JSON body of the response that confirms a withdrawal: `{"withdrawn":true}`.
+///
+/// # Errors
+///
+/// `OutOfMemory` if an allocation fails.
 pub fn withdrawn_body(alloc: Global) -> Result<Listing<u8>, OutOfMemory>
     ensures { IfOk result (λ body. body ≡ compact_text withdrawn_data) }
 {
@@ -47,7 +60,11 @@ pub fn withdrawn_body(alloc: Global) -> Result<Listing<u8>, OutOfMemory>
     written_json(alloc, &value)
 }
 
-/// Returns the body with the name of an error.
+/// Returns the JSON body of an error response, which contains the name of the error: `{"error":".."}`.
+///
+/// # Errors
+///
+/// `OutOfMemory` if an allocation fails.
 pub fn fault_body(alloc: Global, name: &str) -> Result<Listing<u8>, OutOfMemory>
     ensures { IfOk result (λ body. body ≡ compact_text (fault_data name.now)) }
 {

@@ -11,10 +11,10 @@ use std::alloc::Global;
 ///
 /// # Errors
 ///
-/// - `BadValue` if the body is not such an array.
-/// - `TooManyChoices` if the array has too many codes.
+/// - `BadValue` if the body is not a JSON array of room codes.
+/// - `TooManyChoices` if the array has more than `CHOICE_LIMIT` codes.
 /// - `RoomRepeated` if a code occurs in the array more than once.
-/// - `OutOfMemory` if an allocation fails. For an empty body, the error is always `BadValue`.
+/// - `OutOfMemory` if an allocation fails. This never happens for an empty body, whose error is `BadValue`.
 pub fn choices_of_body(alloc: Global, body: &[u8]) -> Result<Choices, TypeFault>
     ensures value { IfOk result (λ choices. choices_of_body body.now ≡ Ok choices) }
     ensures fault { IfErr result (λ fault.

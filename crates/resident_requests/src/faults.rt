@@ -22,8 +22,14 @@ impl HttpAnswer {
         }
     }
 
-    /// Returns an error response. Its body contains the name of the error, which must be one of the error names of
-    /// the status. The status can be neither 200, which is no error, nor 405, whose response `wrong_method` returns.
+    /// Returns the error response with this status. Its body contains `name`, which must be an error name of the
+    /// status:
+    ///
+    /// - 409: `BadPhase`, `Withdrawn` or `Going`.
+    /// - 422: `TooManyChoices`, `RoomRepeated`, `UnknownRoom` or `RoomShut`.
+    /// - 400, 403, 404, 413, 417, 501 or 503: the name that `fault_name` returns for the status.
+    ///
+    /// No other status is allowed. For 405, call `wrong_method`, which also names the method to use.
     ///
     /// # Errors
     ///
@@ -40,7 +46,8 @@ impl HttpAnswer {
         })
     }
 
-    /// Returns the response to a request with a wrong method. The response names the method to use.
+    /// Returns the response with status 405, for a request whose method its path does not take. The response names
+    /// `allow`, the method that the path takes.
     ///
     /// # Errors
     ///
@@ -57,8 +64,8 @@ impl HttpAnswer {
     }
 }
 
-/// Returns the error name of a status that has exactly one. This excludes 200, which has none, and 409 and 422, which
-/// have several.
+/// Returns the error name of a status that has exactly one error name: 400, 403, 404, 405, 413, 417, 501 or 503. The
+/// caller must pass one of these. For example, 200 has no error name, and 409 and 422 have several.
 pub fn fault_name(status: StatusCode) -> &'static str
     requires { has_one_name status ≡ true }
     ensures { result.now ≡ fault_name status }

@@ -9,16 +9,17 @@ ghost use Rattle.resident_requests.specs.Inner.Found.{Finds};
 
 use httparse::spans::{HeaderSpan, Span};
 
-/// The result of searching for fields of one name.
+/// The result of searching a request's head for the fields with a given name.
 #[derive(Clone, Copy, Debug, PartialEq, Eq, Drop)]
 pub enum Found {
     Nothing,
-    /// One field, whose value is at this span.
+    /// There is exactly one field. The span is the place of its value in the buffer.
     One(Span),
     Several,
 }
 
-/// Searches for the fields with this name. Ignores the ASCII case of names.
+/// Searches `headers` for the fields named `name`, ignoring ASCII case. The spans in `headers` and in the result are
+/// places in `buf`.
 pub fn find_fields(buf: &[u8], headers: &[HeaderSpan], name: &[u8]) -> Found
     requires { All (IsHeaderWithin (length buf.now)) headers.now }
     ensures { Finds buf.now result (values_of name.now (map (header_bytes buf.now) headers.now)) }
@@ -61,7 +62,7 @@ fn has_only_digits(text: &[u8]) -> bool
     text.iter().all(|b| b.is_ascii_digit())
 }
 
-/// Parses decimal digits. Returns their value, or `most` if that is smaller.
+/// Returns the number that the decimal digits in `text` denote, or `most` if the number is greater than `most`.
 pub fn number_up_to(text: &[u8], most: u16) -> usize
     requires { list_all is_ascii_digit text.now ≡ true }
     ensures { result ≡ min (number_of text.now) most }

@@ -7,16 +7,18 @@ ghost use Rattle.resident_requests.specs.Asks.{Asked, Asks, BeginsTooManyFields,
 
 use crate::answer::UNAVAILABLE_RESPONSE;
 
-/// The bytes of `UNAVAILABLE_RESPONSE` are those of the error response with status 503 and the error name
-/// `Unavailable`.
+/// Theorem: the constant `UNAVAILABLE_RESPONSE` consists of the bytes of the error response with status 503 and the
+/// error name `Unavailable`.
 pub fn unavailable_is_an_answer()
     ensures { UNAVAILABLE_RESPONSE.now ≡ bytes_of (fault_answer 503 (codes "Unavailable")) }
 {}
 
-/// How a connection's bytes are split into chunks does not change which request they give. Once the bytes so far give
-/// a request, they give the same request after any further bytes. Once they give a fault, no further bytes turn it
-/// into a request. Further bytes can change the fault only in two cases: the bytes so far begin a head with too many
-/// fields, or they end within the request target.
+/// Theorem: how the bytes of a connection are split into chunks does not change which request they give.
+///
+/// - Once the bytes read so far give a request, further bytes do not change this request.
+/// - Once the bytes read so far give a fault, no further bytes turn the fault into a request.
+/// - Further bytes can change a fault only in two cases: the bytes read so far begin a head with too many fields, or
+///   the bytes read so far end within the request target.
 pub fn findings_stay()
     ensures request { (bytes next : List ℕ) (asked later : Asked)
         → Asks bytes asked → is_request asked ≡ true

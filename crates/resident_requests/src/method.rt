@@ -4,19 +4,19 @@ ghost use Rattle.resident_requests.specs.Answers.{method_text};
 
 use std::fmt;
 
-/// A method that a path takes.
+/// An HTTP method that a path of the server takes.
 #[derive(Clone, Copy, Debug, PartialEq, Eq, Drop)]
 pub enum Method {
-    /// Reads the rooms or the resident's own record.
+    /// `GET`, which reads the rooms or the resident's own record.
     Get,
-    /// Hands in a preference list.
+    /// `PUT`, which hands in a preference list.
     Put,
-    /// Withdraws from the round.
+    /// `POST`, which withdraws the resident from the round.
     Post,
 }
 
 impl Method {
-    /// Returns the name of the method, as it stands in a request.
+    /// Returns the name of the method as a request contains it, for example `GET`.
     pub fn as_str(self) -> &'static str
         ensures { result.now ≡ method_text self }
     {

@@ -8,7 +8,7 @@ use matchit::{InsertError, Router};
 use room_types::OutOfMemory;
 use std::alloc::Global;
 
-/// The resource at a path.
+/// A resource of the server. Each has its own path.
 #[derive(Clone, Copy, Debug, PartialEq, Eq, Drop)]
 pub enum Route {
     /// `/me/choices`: the resident's preference list.
@@ -22,7 +22,7 @@ pub enum Route {
 }
 
 impl Route {
-    /// Returns the only method that the path takes.
+    /// Returns the only HTTP method that the path of this resource takes.
     pub fn method(self) -> Method
         ensures { result ≡ method_of self }
     {
@@ -37,30 +37,31 @@ impl Route {
 /// The route and the key of a request, or why the request is refused.
 #[derive(Clone, Copy, Debug)]
 pub enum Routed<'b> {
-    /// There is no such path.
+    /// The server has no resource at the request's path.
     Unknown,
-    /// The path takes another method.
+    /// The request's path takes a method that is not the request's method.
     WrongMethod {
-        /// The method to use.
+        /// The method that the path takes.
         allow: Method,
     },
-    /// The request has no valid key: no field `Room-Key`, several, or one whose value is not in the grammar of keys.
+    /// The request has no valid key. It has no field `Room-Key`, or several such fields, or one whose value is not in
+    /// the grammar of keys.
     Forbidden,
-    /// The path has a route, and the request has a key.
+    /// The server has a resource at the request's path, and the request has the right method and a key.
     To {
-        /// The route of the path.
+        /// The resource at the request's path.
         route: Route,
         /// The key, as written in the request.
         key: &'b str,
     },
 }
 
-/// Routes a request by its path, method and key. Reports an unknown path first, then a wrong method, then a missing
-/// key.
+/// Finds the resource that a request with this method, path and key asks for, or why the request is refused. If there
+/// are several reasons, returns the first in this order: an unknown path, a wrong method, a missing key.
 ///
 /// # Errors
 ///
-/// `OutOfMemory` if an allocation for the router fails.
+/// `OutOfMemory` if an allocation fails. The function allocates a router of all paths.
 pub fn route_request<'b>(
     alloc: Global,
     method: &[u8],

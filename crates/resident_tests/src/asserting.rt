@@ -17,7 +17,8 @@ pub fn holds(rt: &impl Abort, is_so: bool, note: &str) {
     assert!(rt; is_so, "{note}");
 }
 
-/// Like `assert_eq!`, but calls `same`, and takes a text in place of a format string.
+/// Ends the test unless the two values are equal, as `assert_eq!` does, by a call of `same`. If the caller gives no
+/// note, the note is the code of the first value.
 macro_rules! assert_same {
     ($rt:expr; $found:expr, $wanted:expr $(,)?) => {
         $crate::asserting::same(&$rt, &$found, &$wanted, stringify!($found))

@@ -39,7 +39,7 @@ const REQUEST: &str = "PUT /me/choices HTTP/1.1\r\n\
     \r\n\
     [\"H2\"]";
 
-// The response to that request.
+// The response to `REQUEST`.
 const ANSWER: &str = "HTTP/1.1 200 OK\r\n\
     Content-Type: application/json\r\n\
     Content-Length: 18\r\n\

@@ -11,9 +11,9 @@ use room_types::OutOfMemory;
 use sqlite::{Connection, MemStore};
 use std::alloc::Global;
 
-/// Handles the lines of these texts at a desk, and returns whether another desk that adopts its database shows the
-/// same office. An adoption may fail only because it is out of memory. Then the next desk has to adopt the returned
-/// connection.
+/// Handles the lines of these texts at a desk. Returns whether another desk that adopts the database shows the
+/// office after these lines. The adoption may fail only because it is out of memory. Then a second adoption, with
+/// the connection that the first returned, has to succeed.
 pub fn office_is_adopted(alloc: Global, texts: &[&str]) -> Result<bool, OutOfMemory> {
     let requests = parse_requests(alloc, texts)?;
     let office = office_after(alloc, &requests)?;
@@ -21,8 +21,9 @@ pub fn office_is_adopted(alloc: Global, texts: &[&str]) -> Result<bool, OutOfMem
     taken_judged(alloc, connection, false, &office)
 }
 
-/// Creates these tables in a database, and returns whether a desk that adopts or migrates it shows the office of the
-/// tables. A failure to do so is judged as in `office_is_adopted`.
+/// Creates these tables in a database, and opens a desk over it: migrates tables of an earlier version, and adopts
+/// other tables. Returns whether the desk shows the office of the tables. Opening may fail only because it is out
+/// of memory. Then a second attempt, with the connection that the first returned, has to succeed.
 pub fn office_is_opened(alloc: Global, tables: &Tables) -> Result<bool, OutOfMemory> {
     let requests = parse_requests(alloc, tables.lines)?;
     let office = office_after(alloc, &requests)?;

@@ -26,8 +26,9 @@ const EXPORTS: [(ExportKind, &str); 4] = [
     (ExportKind::Grades, "person,grade\nN,2\nT1,0\nT2,0\n"),
 ];
 
-/// Handles the lines of these texts and writes each export. Returns whether the exports are complete and the office
-/// is unchanged. An export that is out of memory must write a prefix and report the prefix's length.
+/// Handles the lines of these texts at a desk, which then writes an export of each kind. Returns whether the
+/// exports are complete and leave the office unchanged. An export may be incomplete only if it is out of memory. It
+/// must then have written a prefix and report the prefix's length.
 pub fn exports_match(alloc: Global, texts: &[&str]) -> Result<bool, OutOfMemory> {
     let requests = parse_requests(alloc, texts)?;
     let office = office_after(alloc, &requests)?;

@@ -43,7 +43,8 @@ const LISTS: [(ListKind, &str, &str); 8] = [
     ),
 ];
 
-/// Whether each good list is read, and each bad one is refused for its first bad record.
+/// Reads good and bad lists of each kind. Returns whether each good list gives its entries, and each bad list gives
+/// the fault of its header or of its first bad record. One read may instead be out of memory.
 pub fn lists_are_read(alloc: Global) -> Result<bool, OutOfMemory> {
     let mut failures = 0usize;
     for (kind, list, wanted) in &LISTS {

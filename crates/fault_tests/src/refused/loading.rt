@@ -15,8 +15,8 @@ struct Read {
     second: Option<Office>,
 }
 
-/// Handles the lines of these texts at a desk. Returns whether the desk loads the right office both times, and the
-/// office is lawful.
+/// Handles the lines of these texts at a desk, which then loads its office twice. Returns whether both loads give
+/// the office after these lines, and this office is lawful. One load, or the check, may instead be out of memory.
 pub fn office_is_read(alloc: Global, texts: &[&str]) -> Result<bool, OutOfMemory> {
     let requests = parse_requests(alloc, texts)?;
     let read = read_twice(alloc, &requests)?;

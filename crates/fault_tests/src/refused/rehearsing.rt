@@ -14,9 +14,9 @@ struct Observed {
     text: Vec<u8>,
 }
 
-/// Rehearses these lines twice and returns whether both rehearsals print the same. All lines have to be acceptable.
-/// One rehearsal may be out of memory. Then it prints a prefix of the other's output and reports the prefix's length,
-/// or it prints that a line is unavailable.
+/// Rehearses these lines twice and returns whether both rehearsals print the same text. The office must refuse none
+/// of the lines. One rehearsal may be out of memory. It must then print a prefix of the other rehearsal's output
+/// and report the prefix's length, or answer a line with `unavailable`.
 pub fn is_rehearsed(alloc: Global, lines: &str) -> Result<bool, OutOfMemory> {
     let observed = rehearsal_of(alloc, lines)?;
     let again = rehearsal_of(alloc, lines)?;

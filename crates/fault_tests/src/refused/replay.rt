@@ -15,9 +15,9 @@ struct Observed {
     office: Option<Office>,
 }
 
-/// Handles these requests at a desk, and then at another desk those that the first did not answer as unavailable.
-/// Returns whether both desks give the same answers and hold the same office afterwards. If no answer was
-/// unavailable, the office also has to refuse exactly `refusals` requests.
+/// Handles these requests at a desk. Then handles at a second desk the requests that the first desk did not answer
+/// as unavailable. Returns whether both desks give these requests the same answers and hold the same office
+/// afterwards. If no answer was unavailable, the office also has to refuse exactly `refusals` requests.
 pub fn matches_replay(
     alloc: Global,
     requests: &[Request],
@@ -43,7 +43,8 @@ fn nothing_judged(alloc: Global, observed: &Observed) -> Result<bool, OutOfMemor
     }
 }
 
-// Returns the verdict if both desks gave the same answers.
+// Returns the verdict on two desks that gave the same answers. Both must hold the same office. If no answer was
+// unavailable, exactly `refusals` answers must be refusals.
 fn answers_judged(
     observed: &Observed,
     again: &Observed,

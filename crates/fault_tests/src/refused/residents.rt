@@ -34,7 +34,8 @@ const UNAVAILABLE: &str = "HTTP/1.1 503 Service Unavailable\r\n\
     {\"error\":\"Unavailable\"}";
 
 /// A step: the office handles `lines`, and then a resident sends `request` with `spaces` spaces after it. The
-/// remaining fields say what the response is, and which lines the office then records.
+/// fields `status`, `reason`, `allow` and `body` give the expected response. `records` has the lines that have the
+/// effect of the request on the office.
 #[derive(Clone, Copy)]
 pub struct Step {
     lines: &'static str,
@@ -72,23 +73,23 @@ const REFUSED: Step = Step {
     records: "",
 };
 
-/// T1 hands in a list.
+/// A step in which T1 hands in a list.
 pub const LIST: [Step; 1] = [RECORDED];
 
-/// T1 hands in a list that the office has recorded already.
+/// A step in which T1 hands in a list that the office has recorded already.
 pub const LIST_AGAIN: [Step; 1] = [Step {
     lines: CHOOSES,
     ..RECORDED
 }];
 
-/// T1 hands in a list in a body of 1,024 bytes.
+/// A step in which T1 hands in a list in a body of 1,024 bytes.
 pub const LONGEST_LIST: [Step; 1] = [Step {
     request: "PUT /me/choices HTTP/1.1\r\nHost: a\r\nRoom-Key: key00000000000t1\r\nContent-Length: 1024\r\n\r\n[\"H2\"]",
     spaces: 1_018,
     ..RECORDED
 }];
 
-/// Requests that are incomplete, too long, or refused.
+/// Steps with requests that are incomplete, too long, or refused.
 pub const FAULTS: [Step; 5] = [
     Step {
         request: "PUT /me/choices HTTP/1.1\r\nHost: a\r\nRoom-Key: key00000000000t1\r\nContent-Length: 6\r\n\r\n[\"H2\"",
@@ -134,7 +135,7 @@ const SHOWN: Step = Step {
     ..RECORDED
 };
 
-/// T1 asks for T1's own standing before the results are published, and again afterwards.
+/// Steps in which T1 asks for T1's own standing, before and after the results are published.
 pub const RESULTS: [Step; 2] = [
     SHOWN,
     Step {
@@ -161,9 +162,9 @@ enum Answered {
     Otherwise,
 }
 
-/// Takes the steps at a new desk. Returns whether each resident gets the step's response and the office has the
-/// step's record. A resident may instead get the response that the desk is unavailable. Then the office must not have
-/// the record.
+/// Takes the steps at a new desk. Returns whether each request gets its step's response and has the effect of its
+/// step's `records` on the office. A request may instead get the response that the desk is unavailable. Such a
+/// request must have no effect.
 pub fn are_served(alloc: Global, steps: &[Step]) -> Result<bool, OutOfMemory> {
     let Ok(mut desk) = Desk::in_memory(alloc) else {
         return Err(OutOfMemory {});
@@ -176,7 +177,8 @@ pub fn are_served(alloc: Global, steps: &[Step]) -> Result<bool, OutOfMemory> {
     }
 }
 
-// Takes the steps at the desk. Returns `None` if a response is neither the step's nor that the desk is unavailable.
+// Takes the steps at the desk. Returns `None` if a response is neither the one that the step expects nor the one
+// that the desk is unavailable.
 fn observed_in_turn(
     alloc: Global,
     desk: &mut Desk<MemStore>,

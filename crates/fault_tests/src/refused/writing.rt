@@ -15,8 +15,9 @@ const MOVE: &[u8] = b"round,wave,person,from,to\n1,swap,T1,H1,H2\n";
 
 const GRADE: &[u8] = b"person,grade\nT1,0\n";
 
-/// Whether each export is written completely. An export that is out of memory must write a prefix and report the
-/// prefix's length.
+/// Writes four exports of one row each: a room, a person, a move and a grade. Returns whether each is written
+/// completely. An export may be incomplete only if it is out of memory. It must then have written a prefix and
+/// report the prefix's length.
 pub fn rows_are_sent(alloc: Global) -> Result<bool, OutOfMemory> {
     let mut all = 0usize;
     for failures in [

@@ -24,7 +24,7 @@ pub struct Calls {
 }
 
 impl Calls {
-    /// Neither file stops.
+    /// More calls than a test makes, so that neither file stops.
     pub const ALL: Calls = Calls {
         log: u64::MAX,
         database: u64::MAX,
@@ -55,8 +55,9 @@ pub fn is_working(file: &mut StoppingFile) -> bool {
     file.may_be_used() && file.len().is_ok()
 }
 
-/// Returns the contents that a file may have after a crash. One content has all bytes as written. If some of these
-/// are not synced, a second has only the synced bytes, and a third mixes both as in `torn`.
+/// Returns the contents that a file may have after a crash. The first has all bytes as written. If some written
+/// bytes are not synced, a second has only the synced bytes. A third then has the written bytes in every second
+/// sector, and the synced bytes in the other sectors.
 pub fn contents_left(alloc: Global, mut file: StoppingFile) -> Option<Vec<Vec<u8>>> {
     let written = Vec::from_slice(alloc, file.inner().bytes()).ok()?;
     file.crash();

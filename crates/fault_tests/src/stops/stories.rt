@@ -33,14 +33,14 @@ pub fn creation(alloc: Global) -> Option<Story> {
     })
 }
 
-/// A small year, in which a room is shut for a while.
+/// A story of a small year, in which a room is shut for a while.
 pub fn small_year(alloc: Global) -> Option<Story> {
     let texts = [REGISTER, "shut V\nreopen V\n", ROUND, "settle\n"];
     story_of(alloc, parse_requests(alloc, &texts).ok()?)
 }
 
-/// A year with grades, in which a person leaves the college. After it, a round is cancelled in which another person
-/// planned to leave.
+/// A story of a year with grades, in which a person leaves the college. A further round, in which another person
+/// plans to leave, is cancelled.
 pub fn year_of_leavers(alloc: Global) -> Option<Story> {
     let texts = [REGISTER, LEAVING, "settle\nopen\ngoing T1\ncancel\n"];
     story_of(alloc, parse_requests(alloc, &texts).ok()?)
@@ -73,7 +73,7 @@ fn settled_office(alloc: Global, tables: &Tables) -> Option<Office> {
     office_after(alloc, &requests).ok()
 }
 
-/// A story of imports of lists, two of which are imported twice.
+/// A story in which lists are imported, two of them twice.
 pub fn imports(alloc: Global) -> Option<Story> {
     story_of(alloc, import_requests(alloc).ok()?)
 }

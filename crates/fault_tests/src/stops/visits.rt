@@ -39,14 +39,14 @@ pub struct Visit<'a> {
     pub is_read: bool,
 }
 
-/// The outcome of a visit.
+/// The outcome of the work of a desk over two files.
 #[derive(Drop)]
 pub struct Visited {
-    /// The fault, or `None` if there was a desk.
+    /// Why no desk could be opened, or `None` if there was a desk.
     pub fault: Option<DeskFault>,
-    /// The number of requests that got a reply.
+    /// The number of requests that got a reply. It is 0 if there was no desk.
     pub answered: usize,
-    /// The office, or `None` if it was not to be loaded or could not be.
+    /// The office that the desk loaded at the end, or `None` if the desk loaded no office.
     pub office: Option<Office>,
 }
 
@@ -58,8 +58,8 @@ fn no_desk(fault: DeskFault) -> Visited {
     }
 }
 
-/// Does this work at a desk over these files. Returns the outcome and the files. Changes that are not committed are
-/// lost.
+/// Opens a desk over these files and lets it do the work that `visit` describes. Returns the outcome and the files.
+/// Changes that were not committed are lost.
 pub fn visit_files(
     alloc: Global,
     files: Files<StoppingFile>,

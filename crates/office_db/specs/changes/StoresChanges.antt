@@ -29,8 +29,9 @@ pub record StoresChange (first : Office) (old new : State) (change : Change) : T
 abbrev pub StoresAlways : State → State → Change → Type 0
 StoresAlways old new change = (first : Office) → StoresChange first old new change
 
--- As `StoresChange`, for a list of changes. Each change has to fit the office that results from the changes before
--- it.
+-- If the tables held the rows of an office, each in the form of its table, they now hold the rows of the office after
+-- all changes. Each row still has the form of its table. This presupposes that each change fits the office that
+-- results from the changes before it. `first` is the office before all changes of the command.
 pub record StoresChanges (first : Office) (old new : State) (changes : List Change) : Type 0 where
   pub shown : (office : Office) → HasCleanDisk new → AllFit first office changes
       → IsWellFormed (rows_of office)

@@ -10,7 +10,7 @@ table_names =
     codes "room" ∷ codes "person" ∷ codes "round" ∷ codes "choice" ∷ codes "word" ∷ codes "result"
     ∷ codes "move" ∷ codes "list" ∷ codes "grade" ∷ codes "going" ∷ []
 
--- A table, an index or a view has one of these names, in upper or lower case.
+-- A table, an index or a view has the name of one of the ten tables of an office, in upper or lower case.
 abbrev pub is_taken : Schema → Bool
 is_taken schema = list_any (λ name. is_used schema name) table_names
 

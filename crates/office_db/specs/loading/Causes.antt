@@ -23,16 +23,16 @@ pub record HoldsNoOfficeIn (layout : Layout) (db : Database) : Type 0 where
   pub none : (office : Office) → IsLawful office → IsWellFormed (rows_at (version_of layout) office)
       → ¬ HoldsOfficeIn layout db office
 
--- If `find` refuses, with this fault, a database whose schema is that of the layout, then this is the cause.
+-- What holds if `find` returns this fault for a database whose schema is that of the layout.
 abbrev pub HasCauseIn : Layout → Database → FindFault → Type 0
 HasCauseIn layout db Unavailable = ⊤
 HasCauseIn layout db NotAnOffice = HoldsNoOfficeIn layout db
 HasCauseIn layout db (OtherVersion version) = BeginsOffice db.schema × HoldsOtherVersion db version
 
--- If `find` refuses a database with this fault, then this is the cause. For `NotAnOffice`, nothing has the name of
--- table `round`, or the schema is that of a layout and the tables do not hold the rows of a lawful office of the
--- layout's version. For `OtherVersion`, the row of table `round` holds that version, and any tables may follow the
--- first three. `Unavailable` may have any cause.
+-- What holds if `find` returns this fault for the database. For `NotAnOffice`, nothing has the name of table `round`,
+-- or the schema is that of a layout and the tables do not hold the rows of a lawful office of the layout's version.
+-- For `OtherVersion`, the row of table `round` holds the version in the fault, and any tables may follow the first
+-- three. `Unavailable` may have any cause.
 abbrev pub HasCause : Database → FindFault → Type 0
 HasCause db Unavailable = ⊤
 HasCause db NotAnOffice =

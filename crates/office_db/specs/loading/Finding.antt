@@ -20,11 +20,11 @@ use Rattle.office_schema.specs.declared.tables.layouts.Layout.{Layout}
 abbrev pub names_round : Schema → Bool
 names_round schema = is_used schema (codes "round")
 
--- If `table` has the name of `own`, it is declared as `own`. The trees of the two may differ.
+-- If `table` has the name of `own`, it also has the declaration of `own`. The trees of the two may differ.
 abbrev pub IsDeclaredAs : Table → Table → Type 0
 IsDeclaredAs own table = IsTrue (same_name table.name own.name) → table ≡ record own { tree = table.tree }
 
--- Each table with the name of one of the office's ten tables is declared as that table.
+-- Each table with the name of one of the office's ten tables also has its declaration.
 abbrev pub AreDeclared : Schema → Type 0
 AreDeclared schema =
     AllByRecursion (λ own. AllByRecursion (IsDeclaredAs own) schema.tables) office_schema.tables

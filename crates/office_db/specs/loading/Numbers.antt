@@ -12,7 +12,7 @@ use Rattle.office_schema.specs.tables.Holds.{same_rowid}
 use Rattle.office_schema.specs.tables.Layouts.{has_grades, has_leavers, schema_of, table_count, trees_of}
 use Rattle.office_schema.specs.declared.tables.layouts.Layout.{Layout}
 
--- Every row has an integer rowid, and no two rows have the same.
+-- Every row has an integer rowid, and no two rows have the same rowid.
 pub record HaveRowids (rows : List Row) : Type 0 where
   pub keyed : AllByRecursion (λ r. IsTrue (is_int (rowid r))) rows
   pub apart : IsDistinct same_rowid rows
@@ -40,7 +40,7 @@ tree_of layout place =
 abbrev pub only_rowid : List Term
 only_rowid = col 1 0 ∷ []
 
--- In each table of the layout every row has an integer rowid, and no two rows have the same.
+-- In each table of the layout, every row has an integer rowid, and no two rows have the same rowid.
 abbrev pub AllHaveRowids : Layout → Trees → Type 0
 AllHaveRowids layout trees =
     (place : ℕ) → place < table_count layout → HaveRowids (trees (tree_of layout place))

@@ -11,7 +11,7 @@ use office_schema::tables::choices::{add_choice, drop_choices};
 use room_types::{Choices, PersonId};
 use sqlite::{Alter, Error, Transaction};
 
-/// Replaces a person's preference list. If the new list is empty, the person has no row.
+/// Replaces a person's preference list. If the new list is empty, only deletes the rows of the old list.
 pub(crate) fn put_choices<S: Alter>(
     tx: &mut Transaction<'_, S>,
     person: &PersonId,

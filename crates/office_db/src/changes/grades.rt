@@ -12,7 +12,8 @@ use office_schema::tables::grades::{add_grade, drop_grade};
 use room_types::{Grade, PersonId};
 use sqlite::{Alter, Error, Transaction};
 
-/// Replaces a person's grade. If the new grade is 0, the person has no row.
+/// Replaces a person's grade. If the new grade is 0, only deletes the row of the old grade, because grade 0 has no
+/// row.
 pub(crate) fn put_grade<S: Alter>(
     tx: &mut Transaction<'_, S>,
     person: &PersonId,
@@ -48,7 +49,7 @@ fn record_grade<S: Alter>(
     add_grade(tx, person, grade)
 }
 
-/// Adds a person who leaves the college after the round.
+/// Records that a person leaves the college after the round.
 pub(crate) fn put_going<S: Alter>(
     tx: &mut Transaction<'_, S>,
     person: &PersonId,

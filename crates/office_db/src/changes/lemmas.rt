@@ -10,21 +10,21 @@ ghost use Rattle.room_types.specs.Grammars.{is_person_id, is_room_code, is_key, 
 use room_types::text::{Grammar, Text};
 use room_types::{Grade, Move, Wave, Word};
 
-// A text is UTF-8.
+// Lemma: a text is UTF-8.
 fn lemma_utf8(text: &str)
     ensures { IsUtf8 text.now }
 {
     let _text = text;
 }
 
-/// A text is in its grammar.
+/// Lemma: a `Text<G>` is in the grammar `G`. The function does nothing.
 pub(crate) fn lemma_text<G: Grammar>(text: &Text<G>)
     ensures { IsTextOf G.is_text (value.Text text.now) }
 {
     lemma_utf8(text.as_str());
 }
 
-/// An optional text, if present, is in its grammar.
+/// Lemma: an optional `Text<G>`, if present, is in the grammar `G`. The function does nothing.
 pub(crate) fn lemma_optional_text<G: Grammar>(text: &Option<Text<G>>)
     ensures { IsOptionalTextOf G.is_text (text_or_null text.now) }
 {
@@ -33,14 +33,14 @@ pub(crate) fn lemma_optional_text<G: Grammar>(text: &Option<Text<G>>)
     }
 }
 
-/// A word fits in 64 bits.
+/// Lemma: a word fits in 64 bits. The function does nothing.
 pub(crate) fn lemma_word(word: Word)
     ensures { word < 2 ^ 64 }
 {
     let _value = word.value();
 }
 
-/// A grade is at most 9.
+/// Lemma: a grade is at most 9. The function does nothing.
 pub(crate) fn lemma_grade(grade: Grade)
     ensures { grade ≤ 9 }
 {
@@ -56,7 +56,7 @@ fn lemma_wave(wave: Wave)
     }
 }
 
-/// The row of a move has its form.
+/// Lemma: the row that stores a move has the form of a row of table `move`. The function does nothing.
 pub(crate) fn lemma_move(moved: &Move)
     ensures { IsMoveRow (move_columns moved.now) }
 {

@@ -28,7 +28,7 @@ pub(crate) fn put_result<S: Alter>(
     add_result(tx, person, room)
 }
 
-/// Adds a move.
+/// Adds a person's move in a round to table `move`.
 pub(crate) fn record_move<S: Alter>(tx: &mut Transaction<'_, S>, moved: &Move) -> Result<(), Error>
     ensures same_reference { tx.new.conn.ghost_name ≡ tx.old.conn.ghost_name }
     ensures made { OnOk result

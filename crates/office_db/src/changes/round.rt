@@ -26,7 +26,7 @@ pub(crate) fn put_round<S: Alter>(
     set_round(tx, number, phase)
 }
 
-/// Deletes lists, withdrawals, leavers, words and results.
+/// Deletes all preference lists, withdrawals, leavers, drawn words and results.
 pub(crate) fn clear_round<S: Alter>(tx: &mut Transaction<'_, S>) -> Result<(), Error>
     ensures same_reference { tx.new.conn.ghost_name ≡ tx.old.conn.ghost_name }
     ensures made { OnOk result

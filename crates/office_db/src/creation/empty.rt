@@ -18,8 +18,8 @@ use sqlite::{Alter, Connection, Error, Transaction};
 /// Why no office was created.
 #[derive(Clone, Copy, Debug, PartialEq, Eq, Drop)]
 pub enum CreateFault {
-    /// The database or an allocation failed. Or the database declares something, but nothing with the name of one of
-    /// the office's ten tables.
+    /// The database or an allocation failed, or the database is not empty. In the last case it declares something,
+    /// but nothing with the name of one of the office's ten tables.
     Unavailable,
     /// A table, an index, a view or a trigger has the name of one of the ten tables of an office.
     AlreadyThere,
@@ -33,8 +33,8 @@ pub enum CreateFault {
 /// tables. Otherwise, `Unavailable` if the database declares anything else, or if the database or an allocation
 /// fails.
 ///
-/// After an error the tables are unchanged, unless a fault closed the connection or, for a file, the disk did not
-/// return what was written to it. If the database declares anything, no statement runs.
+/// After an error the tables are unchanged, with two exceptions: a fault closed the connection, or the disk did not
+/// return what was written to the file. If the database declares anything, `create` runs no statement.
 pub fn create<S: Alter>(conn: &mut Connection<S>) -> Result<(), CreateFault>
     requires { conn.old.in_transaction ≡ false }
     ensures outside { conn.new.in_transaction ≡ false }

@@ -29,23 +29,24 @@ use std::alloc::Global;
 /// Why no office was found.
 #[derive(Clone, Copy, Debug, PartialEq, Eq)]
 pub enum FindFault {
-    /// The database failed, memory ran out, or the schema is in no known layout. In the last case, something has the
-    /// name of table `round`, but no version other than this program's was read from that table.
+    /// The database failed, memory ran out, or the schema is in no known layout. For a schema in no known layout
+    /// there are two exceptions: `find` returns `NotAnOffice` if nothing has the name of table `round`, and
+    /// `OtherVersion` if it reads a version other than this program's from that table.
     ///
     /// A schema is in a known layout if it has exactly the tables of an office, of this or an earlier version, in a
-    /// known order. So it is in none if a table is missing or not understood, if the tables were created in another
-    /// order, or if the schema declares anything else.
+    /// known order. A missing table, a table that the engine does not understand, another order of creation, or any
+    /// other declaration puts a schema in no known layout.
     Unavailable,
-    /// Nothing has the name of table `round`, or the tables do not hold the rows of a lawful office of this version.
-    /// If the tables are exactly those of an earlier version, `find` returns this fault too, unless the row of table
-    /// `round` holds another version.
+    /// Nothing has the name of table `round`, or the schema is in a known layout but the tables do not hold the rows
+    /// of a lawful office of this program's version. This includes the tables of an earlier version, unless the row
+    /// of table `round` holds a version other than this program's.
     NotAnOffice,
-    /// The row of table `round` holds this version, which is not the version of this program. Any tables may follow
-    /// the first three.
+    /// The row of table `round` holds the version in this fault, which is not the version of this program. Any tables
+    /// may follow the first three.
     OtherVersion(i64),
 }
 
-/// An office that was found.
+/// An office that `find` found in a database.
 #[derive(Drop)]
 pub struct Found {
     pub office: Office,
@@ -54,22 +55,22 @@ pub struct Found {
 }
 
 /// Finds the lawful office whose rows the tables hold, and the layout of the tables. Presupposes that each table with
-/// the name of one of the office's ten tables is declared as that table. Changes no table. On `Ok` the connection is
-/// open.
+/// the name of one of the office's ten tables has the same declaration as that table of an office. Changes no table.
+/// On `Ok` the connection is open.
 ///
 /// # Errors
 ///
 /// `NotAnOffice` if nothing has the name of table `round`. Otherwise:
 ///
-/// - `OtherVersion` only if the row of table `round` holds the version that the fault names, and this is not the
-///   version of this program. Any tables may follow the first three.
-/// - `NotAnOffice` only if the row holds no other version, the schema is in a known layout, and the tables do not
-///   hold the rows of a lawful office.
-/// - `Unavailable` if the schema is in no known layout and no other version is read from table `round`, or if the
-///   database fails or memory runs out.
+/// - `OtherVersion` only if the row of table `round` holds the version in the fault, and this is not the version of
+///   this program. Any tables may follow the first three.
+/// - `NotAnOffice` only if the schema is in a known layout but the tables do not hold the rows of a lawful office. In
+///   this case the row of table `round` holds no version other than this program's.
+/// - `Unavailable` if the database fails or memory runs out. `find` also returns it if the schema is in no known
+///   layout, unless `find` reads a version other than this program's from table `round`.
 ///
-/// No statement runs if there is a view, or if the first three tables are not `room`, `person` and `round`, each in
-/// its tree.
+/// `find` runs no statement if there is a view. It runs none either if the first three tables are not `room`,
+/// `person` and `round`, each in the tree that all layouts give it.
 pub fn find<S: Alter>(alloc: Global, conn: &mut Connection<S>) -> Result<Found, FindFault>
     requires { conn.old.in_transaction ≡ false }
     ensures outside { conn.new.in_transaction ≡ false }

@@ -10,8 +10,8 @@ use office_schema::tables::layouts::Layout;
 use sqlite_schema::schema::{Index, Schema, Table};
 
 /// Returns whether the first three tables are named `room`, `person` and `round`, each is in the tree that all
-/// layouts give it, and there are no views. If each table with the name of an office's table is declared as that
-/// table, then the first three tables are exactly those of an office.
+/// layouts give it, and there are no views. The declarations of the tables are not compared. But if each table with
+/// the name of an office's table also has its declaration, the first three tables are exactly those of an office.
 pub fn begins_office(schema: &Schema) -> bool
     ensures tested { result ≡ begins_office schema.now }
     ensures whole { IsTrue result → AreDeclared schema.now → BeginsOffice schema.now }
@@ -34,8 +34,8 @@ fn are_first(tables: &[Table]) -> bool
 }
 
 /// Returns whether the first tables have the names and trees of the layout's tables, the first indexes are those of
-/// the layout, and there are no views. If each table with the name of an office's table is declared as that table,
-/// then the first tables are exactly those of the layout.
+/// the layout, and there are no views. The declarations of the tables are not compared. But if each table with the
+/// name of an office's table also has its declaration, the first tables are exactly those of the layout.
 pub fn begins_with(schema: &Schema, layout: Layout) -> bool
     ensures tested { result ≡ begins_with layout schema.now }
     ensures whole { IsTrue result → AreDeclared schema.now → Begins layout schema.now }

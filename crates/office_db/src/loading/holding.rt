@@ -20,14 +20,14 @@ use office_state::Office;
 use sqlite::{Alter, Connection, Error, ErrorCode};
 use std::alloc::Global;
 
-/// Reads the lawful office that the tables of the layout hold. Every text of the office is in its grammar, and every
-/// number in its range. Any tables may follow those of the layout. Returns `None` only if the tables hold no such
-/// office. Changes no table. On `Ok` the connection is open.
+/// Reads the lawful office whose rows the tables of the layout hold. Any tables may follow those of the layout.
+/// Returns `None` only if the tables hold no lawful office that has every text in its grammar and every number in its
+/// range. Changes no table. On `Ok` the connection is open.
 ///
 /// # Errors
 ///
-/// Fails if the database fails, if memory runs out, or if the rowids of a table do not rise. The rowids of every
-/// table that the engine stores rise.
+/// Fails if the database fails or memory runs out. Also fails if the rowids of a table do not rise in the order of
+/// reading: the rowids of every table that the engine stores rise, so the database is then corrupt.
 pub fn held<S: Alter>(
     alloc: Global,
     conn: &mut Connection<S>,

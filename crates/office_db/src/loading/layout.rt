@@ -21,8 +21,8 @@ pub fn names_round(schema: &Schema) -> bool
 /// conditions hold: the tables have the names and trees of the layout's tables, in the same order; the indexes are
 /// those of the layout; and there are no views.
 ///
-/// The columns of tables are not compared. But if each table with the name of an office's table is declared as that
-/// table, the schema is exactly that of the layout.
+/// The columns of tables are not compared. But if each table with the name of an office's table also has its
+/// declaration, the schema is exactly that of the layout.
 pub fn layout_in(schema: &Schema) -> Option<Layout>
     ensures tested { result ≡ layout_in schema.now }
     ensures whole { IfSome result (λ layout. AreDeclared schema.now → schema.now ≡ schema_of layout) }

@@ -22,20 +22,20 @@ use std::alloc::Global;
 
 /// A type whose values are the records that one table of an office stores.
 pub trait Listed: Record {
-    /// The text of the query for all records.
+    /// The text of the query that lists all rows of the table.
     ghost text: { List ℕ };
-    /// The tree of the table in each layout.
+    /// The number of the tree that stores the table, in each layout.
     ghost tree: { AnyLayout → ℕ };
-    /// Whether the layout has the table.
+    /// Whether a layout has the table.
     ghost is_there: { AnyLayout → Bool };
-    /// The columns that the query lists.
+    /// The columns of the table that the query lists.
     ghost project: { List Term };
-    /// The names of these columns.
+    /// The names of the columns that the query lists.
     ghost names: { List (List ℕ) };
-    /// The columns of a record as the table stores them.
+    /// The columns of the row that stores a record in the table.
     ghost kept: { Self → Values };
 
-    /// Returns the text of the query.
+    /// Returns the text of the query that lists all rows of the table.
     fn query() -> &'static str
         ensures text { result.now ≡ text }
         ensures lists { (layout : AnyLayout) → is_there layout ≡ true
@@ -89,8 +89,8 @@ pub fn table_records<R: Listed, S: Alter>(
     }
 }
 
-/// If the layout has the table, reads its records as `table_records` does. Otherwise returns an empty vector. On
-/// `Ok`, a connection that was open is still open.
+/// Reads the records of a table, in some order, or returns an empty vector if the layout does not have the table.
+/// Returns `None` if a row does not have the form of a record. On `Ok`, a connection that was open is still open.
 pub fn records_if_there<R: Listed, S: Alter>(
     alloc: Global,
     conn: &mut Connection<S>,

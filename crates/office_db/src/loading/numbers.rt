@@ -12,8 +12,8 @@ ghost use Rattle.office_db.specs.loading.Reading.{OnlyReads};
 use office_schema::tables::layouts::Layout;
 use sqlite::{Alter, Connection, Error, Row};
 
-/// Returns whether the rowids of each table of the layout rise in the order of reading. If they do, no rowid occurs
-/// twice in a table. Any tables may follow those of the layout.
+/// Returns whether the rowids of each table of the layout rise in the order in which the engine returns the rows. If
+/// the result is `true`, no rowid occurs twice in a table. Any tables may follow those of the layout.
 pub fn all_rowids_rise<S: Alter>(conn: &mut Connection<S>, layout: Layout) -> Result<bool, Error>
     requires { conn.old.in_transaction ≡ false }
     ensures outside { conn.new.in_transaction ≡ false }

@@ -12,8 +12,8 @@ ghost use Rattle.office_db.specs.loading.Versions.{IsOnly, only_version};
 
 use sqlite::{Alter, Connection, Error, Row};
 
-/// Reads the version in the row of table `round`. Returns `None` if the table does not have exactly one row. Any
-/// tables may follow the first three tables of an office.
+/// Reads the version in the row of table `round`. Returns `None` if the table does not have exactly one row.
+/// Presupposes that the database begins with the first three tables of an office; any tables may follow them.
 pub fn version_held<S: Alter>(conn: &mut Connection<S>) -> Result<Option<i64>, Error>
     requires { conn.old.in_transaction ≡ false }
     ensures outside { conn.new.in_transaction ≡ false }
@@ -31,7 +31,9 @@ pub fn version_held<S: Alter>(conn: &mut Connection<S>) -> Result<Option<i64>, E
     version_in(rows.as_slice())
 }
 
-/// Reads the version as `version_held` does, but also returns `None` if this is the version of this program.
+/// Reads the version in the row of table `round`, if it is not the version of this program. Returns `None` if it is,
+/// or if the table does not have exactly one row. Presupposes that the database begins with the first three tables of
+/// an office; any tables may follow them.
 pub fn other_version<S: Alter>(conn: &mut Connection<S>) -> Result<Option<i64>, Error>
     requires { conn.old.in_transaction ≡ false }
     ensures outside { conn.new.in_transaction ≡ false }
@@ -50,7 +52,7 @@ pub fn other_version<S: Alter>(conn: &mut Connection<S>) -> Result<Option<i64>, 
     Ok(unless_own(found))
 }
 
-// Returns the version unless it is the version of this program.
+// Returns `found`, or `None` if `found` is the version of this program.
 fn unless_own(found: Option<i64>) -> Option<i64>
     ensures other { IfSome result (λ version. (found ≡ Some version) × (version ≢ pos own_version)) }
     ensures returned { (version : _) → found ≡ Some version → version ≢ pos own_version

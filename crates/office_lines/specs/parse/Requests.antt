@@ -125,9 +125,9 @@ first_in is_text (word ∷ rest) = is_text word
 abbrev pub is_drawn_word : Text → Bool
 is_drawn_word word = is_some (word_of word)
 
--- Whether parsing the words after the first word may allocate. Parsing may allocate if the number of words fits the
--- kind of request and the first value is in its grammar. Parsing a request without values or a `moves` request never
--- allocates.
+-- Whether parsing the words after the first word, the values of the request, may allocate. It may if the number of
+-- values fits the kind of request, and the first value is in its grammar. Parsing never allocates for a request
+-- without values, nor for a `moves` request.
 abbrev pub copies : Verb → List Text → Bool
 copies verb.Room rest = is_some (add_room rest)
 copies verb.Person rest = nat_le 3 (length rest) && first_in is_person_id rest

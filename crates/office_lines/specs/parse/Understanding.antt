@@ -11,7 +11,7 @@ UnderstandsAs view meaning (Ok x) = meaning ≡ Some (view x)
 UnderstandsAs view meaning (Err NotUnderstood) = meaning ≡ None
 UnderstandsAs view meaning (Err OutOfMemory) = ⊤
 
--- as `UnderstandsAs`, for a parser whose value is the meaning itself
+-- the results that a parser may return for words with this meaning, if the parser's value is the meaning itself
 abbrev pub Understands : {X : Type 0} → Option X → Result X WordFault → Type 0
 Understands meaning result = UnderstandsAs (λ x. x) meaning result
 

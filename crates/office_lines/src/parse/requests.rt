@@ -14,8 +14,8 @@ use office_core::{Command, Query};
 use office_store::Request;
 use std::alloc::Global;
 
-/// The kind of request that the first word of a line names. Each variant has the name of this word: `Room` stands for
-/// `room`, and `WhatIf` for `whatif`.
+/// The kind of request that the first word of a line names. Each variant is named after this word: `Room` after
+/// `room`, and `WhatIf` after `whatif`.
 #[derive(Clone, Copy, Debug, PartialEq, Eq, Drop)]
 pub enum Verb {
     Room,
@@ -85,9 +85,11 @@ pub fn verb_of(word: &str) -> Option<Verb>
 ///
 /// # Errors
 ///
-/// `NotUnderstood` if the words are not a request, or `OutOfMemory` if an allocation fails. Parsing allocates only if
-/// the number of words fits the kind of request and the first value is in its grammar. Parsing a request without
-/// values or a `moves` request never allocates.
+/// `NotUnderstood` if the words are not a request. `OutOfMemory` if an allocation fails.
+///
+/// The values of a request are the words after the first word. Parsing allocates only if the number of values fits
+/// the kind of request, and the first value is in its grammar. Parsing never allocates for a request without values,
+/// nor for a `moves` request.
 pub fn words_to_command(alloc: Global, words: &[&str]) -> Result<Request, WordFault>
     ensures understands { Understands (request_of (map (λ word. word.now) words.now)) result }
     ensures memory { OutOfMemoryOnlyIf (allocates (map (λ word. word.now) words.now)) result }

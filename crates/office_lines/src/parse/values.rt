@@ -38,8 +38,8 @@ pub(crate) fn value_of<G: Grammar>(alloc: Global, word: &str) -> Result<Text<G>,
 ///
 /// # Errors
 ///
-/// `NotUnderstood` unless there is exactly one word and the word is in the grammar. `OutOfMemory` if an allocation
-/// fails, which happens only for one word in the grammar.
+/// `NotUnderstood` if the number of words is not 1, or if the word is not in the grammar. `OutOfMemory` if an
+/// allocation fails, which happens only if there is exactly one word and this word is in the grammar.
 pub(crate) fn only_value<G: Grammar>(alloc: Global, words: &[&str]) -> Result<Text<G>, WordFault>
     ensures understands { Understands
         (only G.is_text (map (λ word. word.now) words.now)) result }
@@ -68,8 +68,8 @@ pub(crate) fn name_of(alloc: Global, words: &[&str]) -> Result<Name, WordFault>
 ///
 /// # Errors
 ///
-/// `NotUnderstood` if a word is not a room code, if a code occurs twice, or if there are too many codes.
-/// `OutOfMemory` if an allocation fails.
+/// `NotUnderstood` if a word is not a room code, if a code occurs twice, or if there are more than `CHOICE_LIMIT`
+/// codes. `OutOfMemory` if an allocation fails.
 pub(crate) fn choices_in(alloc: Global, words: &[&str]) -> Result<Choices, WordFault>
     ensures { Understands (choices_in (map (λ word. word.now) words.now)) result }
 {

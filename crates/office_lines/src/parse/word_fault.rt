@@ -3,10 +3,10 @@ ghost use Rattle.std.specs.Prelude.{◌≡◌};
 
 use std::alloc::{AllocError, AllocFailed};
 
-/// Why words were not parsed.
+/// Why a parser returned no value for words of a line.
 #[derive(Clone, Copy, Debug, PartialEq, Eq, Drop)]
 pub enum WordFault {
-    /// The words are not what the parser accepts, such as a request or a room code.
+    /// The words do not have the form that the parser expects, for example the form of a request or of a room code.
     NotUnderstood,
     /// An allocation failed.
     OutOfMemory,

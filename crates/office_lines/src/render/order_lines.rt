@@ -6,7 +6,7 @@ use office_core::OrderRow;
 use room_types::{Grade, OutOfMemory};
 use std::alloc::{AllocError, Global};
 
-/// The width of the column that shows the place of each row.
+/// The width, in characters, of the column that shows the place of each row.
 const PLACE_WIDTH: usize = 4;
 
 /// Returns one line for each row, in the order of `rows`. Each line starts with the row's place, counted from 1. If
@@ -29,7 +29,7 @@ pub fn order_text(alloc: Global, rows: &[OrderRow]) -> Result<String, OutOfMemor
     Ok(text)
 }
 
-// Appends the line of a row that has this place.
+// Appends the line of a row. `place` is the row's place in the order, counted from 1.
 fn push_order_row(
     alloc: Global,
     text: &mut String,

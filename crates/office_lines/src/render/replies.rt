@@ -28,8 +28,8 @@ pub const NOT_UNDERSTOOD: u8 = 2;
 /// The exit status of a line that failed because memory ran out or a device failed.
 pub const UNAVAILABLE: u8 = 3;
 
-/// Returns the text to print for a response. The rows of a reply must ascend; a handler's answers meet this
-/// condition.
+/// Returns the text to print for a response. If the response is a reply with rows, rows of rooms must ascend by code,
+/// and rows of people or results by identifier. The answers of a `Handler` meet this condition.
 ///
 /// The texts `unavailable` and `not understood` are borrowed constants. So the program needs no allocation to report
 /// that it is out of memory.
@@ -66,8 +66,8 @@ pub fn exit_status(response: &Response) -> u8
     }
 }
 
-/// Returns the lines to print for a reply. The rows of the reply must ascend; the replies of `answer` and `decide`
-/// meet this condition.
+/// Returns the lines to print for a reply. Rows of rooms must ascend by code, and rows of people or results by
+/// identifier. The replies that `office_core` returns meet this condition.
 ///
 /// # Errors
 ///

@@ -32,9 +32,10 @@ abbrev pub LeavesFirst : Layout → ℕ → State → State → Type 0
 LeavesFirst layout after =
     ChangesSchema (schema_of layout) (tables_of layout after) (tables_of layout after).tables []
 
--- Some of the four tables of a round may be missing. They are the last four tables of an office. Either some of them
--- were dropped, or all four were dropped and fewer than four were created again. The first six tables have the same
--- rows as before. If the database had other tables than those of an office, this says nothing.
+-- Some of the four tables of a round, which are the last four tables of an office, may be missing. Either some of the
+-- four were dropped, or all four were dropped and fewer than four were created again. The first six tables have the
+-- same rows as before. This holds only if the database had exactly the tables of an office; otherwise the definition
+-- says nothing.
 abbrev pub LacksTables : State → State → Type 0
 LacksTables old new =
     ((after : ℕ) × (6 ≤ after) × (after ≤ 10) × LeavesFirst Own after old new)

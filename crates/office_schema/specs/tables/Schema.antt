@@ -265,7 +265,7 @@ first_tables tables = record {
   views = [];
 }
 
--- the same ten tables, created in the order of `docs/formats.md`
+-- the ten tables of an office, created in the order of `docs/formats.md`
 abbrev pub documented_schema : Schema
 documented_schema = record {
   tables =

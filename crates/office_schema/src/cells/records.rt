@@ -10,11 +10,12 @@ use std::alloc::Global;
 
 /// A type whose values are the records of one table.
 pub trait Record: Drop {
-    /// The rows that have the form of a record.
+    /// The rows that have the form of a record. Unless an allocation fails, `from_row` reads exactly these rows into
+    /// records.
     ghost is_form: { Values → Type 0 };
     /// The columns of a row that `from_row` reads.
     ghost front: { Values → Values };
-    /// The columns of a record.
+    /// The values of a record, as the columns of a row.
     ghost columns: { Self → Values };
     /// The rows for which `from_row` may allocate.
     ghost may_allocate: { Values → Type 0 };
@@ -30,8 +31,9 @@ pub trait Record: Drop {
 
 /// Reads all rows into records, in order. Returns `None` if a row does not have the form of a record.
 ///
-/// Fails only if an allocation fails while this function reads a row that satisfies `may_allocate`, or stores the
-/// record of a row. In either case, all rows before that row have the form of a record.
+/// Fails only if an allocation fails. This can happen while the function reads a row that satisfies
+/// `R::may_allocate`, or while it stores the record of a row. All rows before the row at which the allocation fails
+/// have the form of a record.
 pub fn records_in<R: Record>(alloc: Global, rows: &[Row]) -> Result<Option<Vec<R>>, OutOfMemory>
     ensures returned { IfOk result (λ found. MatchOption found (¬ All R.is_form rows.now)
         (λ records. map R.columns records.items ≡ map R.front rows.now)) }

@@ -14,7 +14,8 @@ use sqlite_value::value::ValueRef;
 use std::alloc::Global;
 use std::str;
 
-/// Reads a column as a text, borrowed from the row. Does not allocate.
+/// Reads column `at` as a text, borrowed from the row. Returns `None` if the column does not hold a UTF-8 text. Does
+/// not allocate.
 pub fn str_in(row: &Row, at: usize) -> Option<&str>
     ensures { MatchOption result (¬ IsString (column row.now at))
         (λ t. (column row.now at ≡ text_value t.now) × IsUtf8 t.now) }
@@ -25,8 +26,8 @@ pub fn str_in(row: &Row, at: usize) -> Option<&str>
     }
 }
 
-/// Reads a column as a text of the grammar `G`. Allocates only if the column holds a text of `G`. Fails only if an
-/// allocation fails.
+/// Reads column `at` as a text of the grammar `G`. Returns `None` if the column holds anything else. Allocates only
+/// if the column holds a text of `G`. Fails only if an allocation fails.
 pub fn text_in<G: Grammar>(
     alloc: Global,
     row: &Row,
@@ -49,8 +50,9 @@ pub fn text_in<G: Grammar>(
     }
 }
 
-/// Reads a column as a text of the grammar `G`, or NULL. A column past the end of the row is NULL. Allocates only if
-/// the column holds a text of `G`. Fails only if an allocation fails.
+/// Reads column `at` as a text of the grammar `G`, or as NULL. Returns `Some(None)` for NULL and for a column past
+/// the end of the row. Returns `None` if the column holds anything else. Allocates only if the column holds a text of
+/// `G`. Fails only if an allocation fails.
 pub fn optional_text_in<G: Grammar>(
     alloc: Global,
     row: &Row,
@@ -79,8 +81,8 @@ fn is_null(row: &Row, at: usize) -> bool
     matches!(row.get_ref(at), Ok(ValueRef::Null) | Err(_))
 }
 
-/// Reads a column as a blob. Allocates only if the column holds a blob that is not empty. Fails only if an allocation
-/// fails.
+/// Reads column `at` as a blob. Returns `None` if the column holds anything else. Allocates only if the column holds
+/// a blob of at least one byte. Fails only if an allocation fails.
 pub fn bytes_in(alloc: Global, row: &Row, at: usize) -> Result<Option<Listing<u8>>, OutOfMemory>
     ensures returned { IfOk result (λ found. MatchOption found (¬ IsBlob (column row.now at))
         (λ bytes. column row.now at ≡ blob_value bytes)) }
@@ -93,7 +95,7 @@ pub fn bytes_in(alloc: Global, row: &Row, at: usize) -> Result<Option<Listing<u8
     }
 }
 
-// Copies the bytes. Does not allocate if there are none.
+// Copies the bytes. Allocates nothing if `bytes` is empty.
 fn copy_bytes(alloc: Global, bytes: &[u8]) -> Result<Listing<u8>, OutOfMemory>
     ensures same { IfOk result (λ copy. copy ≡ bytes.now) }
     ensures memory { OnErr result (0 < length bytes.now) }
@@ -104,7 +106,7 @@ fn copy_bytes(alloc: Global, bytes: &[u8]) -> Result<Listing<u8>, OutOfMemory>
     Ok(Listing::new(Vec::from_slice(alloc, bytes)?))
 }
 
-/// Reads a column as an integer from 0 up.
+/// Reads column `at` as an integer from 0 up. Returns `None` if the column holds anything else.
 pub fn u64_in(row: &Row, at: usize) -> Option<u64>
     ensures returned { MatchOption result (¬ IsCount (column row.now at))
         (λ n. column row.now at ≡ Int (pos n)) }
@@ -116,7 +118,8 @@ pub fn u64_in(row: &Row, at: usize) -> Option<u64>
     }
 }
 
-// Reads a column as an integer from 0 up, or NULL. A column past the end of the row is NULL.
+// Reads column `at` as an integer from 0 up, or as NULL. Returns `Some(None)` for NULL and for a column past the end
+// of the row. Returns `None` if the column holds anything else.
 fn optional_u64_in(row: &Row, at: usize) -> Option<Option<u64>>
     ensures { MatchOption result
         (¬ ((column row.now at ≡ Null) ⊎ IsCount (column row.now at)))
@@ -129,7 +132,7 @@ fn optional_u64_in(row: &Row, at: usize) -> Option<Option<u64>>
     }
 }
 
-/// Reads a column as a flag: 0 or 1.
+/// Reads column `at` as a flag: 0 is `false`, 1 is `true`. Returns `None` if the column holds anything else.
 pub fn flag_in(row: &Row, at: usize) -> Option<bool>
     ensures returned { MatchOption result (¬ IsFlag (column row.now at))
         (λ b. column row.now at ≡ flag b) }
@@ -142,7 +145,7 @@ pub fn flag_in(row: &Row, at: usize) -> Option<bool>
     }
 }
 
-/// Reads a column as an unsigned integer of 16 bits.
+/// Reads column `at` as an integer from 0 to 65535. Returns `None` if the column holds anything else.
 pub fn u16_in(row: &Row, at: usize) -> Option<u16>
     ensures returned { MatchOption result (¬ IsShort (column row.now at))
         (λ n. column row.now at ≡ Int (pos n)) }
@@ -152,8 +155,8 @@ pub fn u16_in(row: &Row, at: usize) -> Option<u16>
     u16::try_from(number).ok()
 }
 
-/// Reads a column as a wave. NULL is a swap, and an unsigned integer of 16 bits is the number of a wave. A column
-/// past the end of the row is NULL.
+/// Reads column `at` as a wave. NULL is a swap, and an integer from 0 to 65535 is the number of a wave. A column past
+/// the end of the row counts as NULL. Returns `None` if the column holds anything else.
 pub fn wave_in(row: &Row, at: usize) -> Option<Wave>
     ensures returned { MatchOption result (¬ IsWave (column row.now at))
         (λ w. column row.now at ≡ wave_value w) }

@@ -2,7 +2,8 @@
 //! nothing.
 ghost use Rattle.office_schema.specs.rows.SameRows.{RowsDetermineOffice};
 
-/// Two lawful offices with the same rows, in any order, are equal.
+/// A theorem: if two lawful offices have the same rows, in any order, the offices are equal. The function itself does
+/// nothing.
 pub fn rows_determine_office()
     ensures { RowsDetermineOffice }
 {}

@@ -13,11 +13,12 @@ use office_state::{Office, sound};
 use room_types::OutOfMemory;
 use std::alloc::Global;
 
-/// Rebuilds the lawful office whose rows, in tables of this version, are exactly `records`. The records of each table
-/// may be in any order. Returns `None` if no lawful office has these rows; otherwise the result is unique.
+/// Rebuilds the lawful office whose rows, in tables of version `version`, are exactly `records`. The records of each
+/// table may be in any order. Returns `None` if no lawful office has these rows. No two lawful offices have them.
 ///
-/// Takes O(n log n) time, plus the time of one run of the round if results are recomputed. Fails only if an
-/// allocation fails. If every table except `round` is empty, this function allocates only to recompute results.
+/// Takes O(n log n) time for n records. If the phase of the office has results and the office satisfies every other
+/// invariant, this function recomputes the results to check them. That takes the time of one run of the round. Fails
+/// only if an allocation fails. If every table except `round` is empty, only recomputing the results allocates.
 pub fn read_office(
     alloc: Global,
     records: OfficeRecords,

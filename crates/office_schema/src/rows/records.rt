@@ -2,7 +2,7 @@
 use office_state::{Assigned, Person, StoredImport};
 use room_types::{Grade, Label, Move, PersonId, Phase, RoomCode, Word};
 
-/// A record of a person.
+/// A row of table `person`, as a record.
 #[derive(Drop)]
 pub struct PersonRecord {
     pub id: PersonId,
@@ -11,7 +11,7 @@ pub struct PersonRecord {
     pub withdrawn: bool,
 }
 
-/// An entry of a preference list: the room that the person listed at this place. Places count from 0. Records compare
+/// An entry of a preference list: the room that the person listed at this place. Places count from 0. Entries compare
 /// by person, then place, then room.
 #[derive(Debug, PartialEq, Eq, PartialOrd, Ord, Drop)]
 pub struct ChoiceRecord {
@@ -20,7 +20,7 @@ pub struct ChoiceRecord {
     pub room: RoomCode,
 }
 
-/// The record of the round.
+/// A row of table `round`, as a record. In an office this table has exactly one row.
 #[derive(Clone, Copy, Debug, Drop)]
 pub struct RoundRecord {
     /// The version of the tables.

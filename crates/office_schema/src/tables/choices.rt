@@ -9,8 +9,8 @@ use crate::tables::running::run;
 use room_types::{PersonId, RoomCode};
 use sqlite::{Alter, Error, Transaction, params};
 
-/// Adds a room to a person's list at this place. Places count from 0. Fails if the list has this place or this room
-/// already, or if the person or the room is unknown.
+/// Adds a room to a person's preference list at place `place`. Places count from 0. Fails if the person or the room
+/// is unknown. Also fails if the list already has a room at this place, or already has this room.
 pub fn add_choice<S: Alter>(
     tx: &mut Transaction<'_, S>,
     person: &PersonId,
@@ -32,7 +32,7 @@ pub fn add_choice<S: Alter>(
     )
 }
 
-/// Deletes a person's list.
+/// Deletes a person's preference list. Does nothing if the person has none.
 pub fn drop_choices<S: Alter>(tx: &mut Transaction<'_, S>, person: &PersonId) -> Result<(), Error>
     ensures same_reference { tx.new.conn.ghost_name ≡ tx.old.conn.ghost_name }
     ensures made { OnOk result

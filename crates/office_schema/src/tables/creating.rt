@@ -8,8 +8,9 @@ ghost use Rattle.office_schema.specs.tables.Steps.{StaysInside};
 use crate::tables::running::run;
 use sqlite::{Alter, Error, Transaction};
 
-/// Creates the tables at places `first` to 9 of `office_schema`, without rows. Presupposes that the database has
-/// exactly the tables at the places before `first`.
+/// Creates the tables of an office from place `first` to the last place, 9, without rows. Places count from 0, in the
+/// order in which this program creates the ten tables. Presupposes that the database has exactly the tables at the
+/// places before `first`.
 pub fn create_tables_from<S: Alter>(tx: &mut Transaction<'_, S>, first: usize) -> Result<(), Error>
     requires { first ≤ 10 }
     ensures same_reference { tx.new.conn.ghost_name ≡ tx.old.conn.ghost_name }

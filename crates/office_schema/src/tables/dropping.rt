@@ -12,8 +12,7 @@ use crate::tables::layouts::Layout;
 use crate::tables::running::run;
 use sqlite::{Alter, Error, Transaction};
 
-/// Drops the tables of the layout, the last one first, until only the first `left` tables remain. Their rows are
-/// dropped too.
+/// Drops tables of the layout and their rows, the last table first, until only the first `left` tables remain.
 pub(crate) fn drop_tables_to<S: Alter>(
     tx: &mut Transaction<'_, S>,
     layout: Layout,
@@ -35,7 +34,8 @@ pub(crate) fn drop_tables_to<S: Alter>(
     Ok(())
 }
 
-// Returns the statement that drops the table at this place. The first three tables have no such statement.
+// Returns the statement that drops the table at this place. There is none for the first three tables, which are never
+// dropped.
 fn drop_text(layout: Layout, place: usize) -> &'static str
     requires low { 3 ≤ place }
     requires high { place < table_count layout }
@@ -50,7 +50,7 @@ fn drop_text(layout: Layout, place: usize) -> &'static str
     }
 }
 
-// Returns the same as `drop_text`, for the layout `Own`.
+// Returns the statement that drops the table at this place of the layout `Own`.
 fn own_drop_text(place: usize) -> &'static str
     requires low { 3 ≤ place }
     requires high { place < 10 }
@@ -67,7 +67,7 @@ fn own_drop_text(place: usize) -> &'static str
     }
 }
 
-// Returns the same as `drop_text`, for the layouts whose tables were created in the order of `docs/formats.md`.
+// Returns the statement that drops the table at this place of a layout in the order of `docs/formats.md`.
 fn documented_drop_text(place: usize) -> &'static str
     requires low { 3 ≤ place }
     requires high { place < 10 }
@@ -84,7 +84,7 @@ fn documented_drop_text(place: usize) -> &'static str
     }
 }
 
-// Returns the same as `drop_text`, for the layout `EarlierFirst`.
+// Returns the statement that drops the table at this place of the layout `EarlierFirst`.
 fn earlier_drop_text(place: usize) -> &'static str
     requires low { 3 ≤ place }
     requires high { place < 8 }

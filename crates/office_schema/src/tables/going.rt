@@ -9,8 +9,8 @@ use crate::tables::running::run;
 use room_types::PersonId;
 use sqlite::{Alter, Error, Transaction, params};
 
-/// Adds a person who leaves the college after the round. Fails if the table has the person already, or if the person
-/// is unknown.
+/// Records that a person leaves the college after the round. Fails if this is recorded already, or if the person is
+/// unknown.
 pub fn add_going<S: Alter>(tx: &mut Transaction<'_, S>, person: &PersonId) -> Result<(), Error>
     ensures same_reference { tx.new.conn.ghost_name ≡ tx.old.conn.ghost_name }
     ensures made { OnOk result

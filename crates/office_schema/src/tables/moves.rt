@@ -10,7 +10,7 @@ use crate::tables::running::run;
 use room_types::Move;
 use sqlite::{Alter, Error, Transaction, params};
 
-/// Adds a move. Fails if the table has a move of the same person in the same round already.
+/// Adds a move of a person in a round. Fails if a move of this person in this round is stored already.
 pub fn add_move<S: Alter>(tx: &mut Transaction<'_, S>, row: &Move) -> Result<(), Error>
     ensures same_reference { tx.new.conn.ghost_name ≡ tx.old.conn.ghost_name }
     ensures made { OnOk result

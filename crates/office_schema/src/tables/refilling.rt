@@ -24,9 +24,10 @@ use room_types::{Grade, Label, Move, PersonId, Word};
 use sqlite::{Alter, Error, ErrorCode, Transaction};
 use std::alloc::Global;
 
-/// Converts the tables of `layout` to the layout and version that this program creates. `records` has to hold all
-/// rows of these tables. Drops the tables after the first three, and creates those of this program's layout. Then
-/// fills the new tables from `records` and sets the version.
+/// Converts the tables of `layout` to the layout and version that this program creates. Keeps the first three tables,
+/// which are at the same places in every layout, and drops the others. Then creates the other tables of this
+/// program's layout, fills them from `records`, and sets the version. `records` has to hold all rows of the tables of
+/// `layout`.
 pub fn migrate_tables<S: Alter>(
     alloc: Global,
     tx: &mut Transaction<'_, S>,
@@ -79,12 +80,12 @@ fn refill<R: Refilled, S: Alter>(
     Ok(())
 }
 
-/// A row that `refill` can add to its table.
+/// A record that can be added, as a row, to the table for records of its type.
 pub trait Refilled {
-    /// The tables with this row added.
+    /// The tables of an office after `self` is added to its table as a row.
     ghost with_row: { Self → Tables → Tables };
 
-    /// Adds the row to its table.
+    /// Adds `self` as a row to the table for records of its type.
     fn add_again<S: Alter>(&self, alloc: Global, tx: &mut Transaction<'_, S>) -> Result<(), Error>
         ensures same_reference { tx.new.conn.ghost_name ≡ tx.old.conn.ghost_name }
         ensures made { OnOk result

@@ -10,8 +10,8 @@ use crate::tables::running::run;
 use room_types::{PersonId, RoomCode};
 use sqlite::{Alter, Error, Transaction, params};
 
-/// Adds a person's result: a room or none. Fails if the person has a result already or is unknown, or if the room is
-/// somebody else's result or is unknown.
+/// Adds a person's result: a room or none. Fails if the person is unknown or has a result already. Also fails if the
+/// room is unknown or is somebody else's result.
 pub fn add_result<S: Alter>(
     tx: &mut Transaction<'_, S>,
     person: &PersonId,

@@ -11,9 +11,9 @@ use crate::tables::dropping::drop_tables_to;
 use crate::tables::layouts::Layout;
 use sqlite::{Alter, Error, Transaction};
 
-/// Deletes all words, results, choices and leavers. Drops the four tables and creates them again in the same places,
-/// because the store in memory would scan the whole table for each deleted row. On an error, some of the four tables
-/// may be missing for the rest of the transaction.
+/// Deletes all words, results, choices and leavers: drops their four tables and creates the tables again in the same
+/// places. Deleting the rows would be slower, because the store in memory scans the whole table for each deleted row.
+/// On an error, some of the four tables may be missing for the rest of the transaction.
 pub fn clear_round_tables<S: Alter>(tx: &mut Transaction<'_, S>) -> Result<(), Error>
     ensures same_reference { tx.new.conn.ghost_name ≡ tx.old.conn.ghost_name }
     ensures made { OnOk result

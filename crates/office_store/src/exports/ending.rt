@@ -1,9 +1,9 @@
 //! How an export ends early.
 
-/// Why an export ended early. `sent` is the number of bytes that were written, which are a prefix of the export.
+/// Why an export ended early. The bytes written are a prefix of the export, and `sent` is their number.
 #[derive(Clone, Copy, Debug, PartialEq, Eq, Drop)]
 pub enum ExportEnd {
-    /// A write failed or took no bytes.
+    /// A write to the output failed or accepted no bytes.
     Fault { sent: u128 },
     /// The database failed, a row had an unexpected form, or memory ran out. The bytes written are whole records.
     Unavailable { sent: u128 },

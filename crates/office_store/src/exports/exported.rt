@@ -11,12 +11,12 @@ use room_types::OutOfMemory;
 use sqlite::Row;
 use std::alloc::Global;
 
-/// A type of row that an export writes. Its members specify the query that returns these rows, and the record that
-/// the export writes for each.
+/// A type of row that an export writes. The members of this trait specify the query that returns the rows of the
+/// export, and the record that the export writes for each row.
 pub trait Exported {
     /// The kind of the export.
     ghost kind: { Kind };
-    /// The text of the query, which returns the rows in the order of the export.
+    /// The SQL text of the query that returns the rows of the export, in the order of the export.
     ghost text: { List ℕ };
     /// Maps a row of the query to the fields of its record.
     ghost fields: { Values → Record };
@@ -25,7 +25,7 @@ pub trait Exported {
     fn kind() -> ExportKind
         ensures { result ≡ kind };
 
-    /// Returns the text of the query.
+    /// Returns the SQL text of the query for the rows of the export.
     fn query() -> &'static str
         ensures text { result.now ≡ text }
         ensures asks { AsksForExport kind text fields };

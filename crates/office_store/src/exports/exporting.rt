@@ -26,13 +26,14 @@ use std::io::Write;
 #[derive(Drop)]
 struct NoRecord;
 
-/// Writes the export of the office whose rows the tables hold. Reads the rows one at a time from one query, and
-/// writes each before it reads the next. Does not flush. Changes no table.
+/// Writes an export of an office to `output`. The tables hold the rows of this office. Reads the rows of the export
+/// one at a time with one query, and writes the record of each row before it reads the next row. Does not flush
+/// `output`. Changes no table.
 ///
 /// # Errors
 ///
-/// `Fault` if a write fails or accepts no bytes. `Unavailable` if the database fails, a row has an unexpected form,
-/// or memory runs out; the bytes written are then whole records.
+/// `Fault` if a write to `output` fails or accepts no bytes. `Unavailable` if the database fails, a row has an
+/// unexpected form, or memory runs out; the bytes written are then whole records.
 pub fn export<S: Alter, W: Write>(
     alloc: Global,
     conn: &mut Connection<S>,

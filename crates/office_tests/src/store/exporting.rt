@@ -46,7 +46,7 @@ fn requests(rt: &impl Abort, alloc: Global) -> Vec<Request> {
     .expect(rt, "memory")
 }
 
-// A desk that has accepted these requests.
+// A desk that has accepted the requests of `requests`.
 fn furnished(rt: &impl Abort, alloc: Global) -> Desk<MemStore> {
     let requests = requests(rt, alloc);
     let mut desk = new_desk(rt, alloc);

@@ -8,7 +8,7 @@ use std::io::Write;
 use std::net::{Ipv4Addr, SocketAddr, TcpListener, TcpStream};
 
 /// A listening socket. The contract of each method is a relation between the socket's states before and after the
-/// call. Generic code can establish this relation only by making the call.
+/// call. For generic code, calling the method is the only way to prove this relation.
 pub trait Listener {
     ghost use Rattle.std.specs.Prelude.{IfSome, Option, ⊤};
     ghost use Rattle.resident_http.specs.server.Unused.{IsUnused};
@@ -17,11 +17,12 @@ pub trait Listener {
 
     type Stream: Stream + Drop;
 
-    /// After this output had been written, accepting returned this connection or none, and led from the old state to
-    /// the new one.
+    /// `accepts old printed connection new`: after the output `printed` had been written, `accept` returned
+    /// `connection`, which may be `None`, and led from the state `old` to the state `new`.
     ghost accepts: { Self → Output → Option (Watched Self.Stream) → Self → Type 0 } = { λ _ _ _ _. ⊤ };
 
-    /// After this output had been written, closing this connection led from the old state to the new one.
+    /// `closes old printed connection new`: after the output `printed` had been written, closing `connection` led
+    /// from the state `old` to the state `new`.
     ghost closes: { Self → Output → Watched Self.Stream → Self → Type 0 } = { λ _ _ _ _. ⊤ };
 
     /// Waits for the next connection and returns it, or returns `None` if the connection could not be accepted. The
@@ -53,19 +54,20 @@ impl Listener for TcpListener {
 }
 
 /// The ports that residents connect to. The contract of each method is a relation between the states of the ports
-/// before and after the call. Generic code can establish this relation only by making the call.
+/// before and after the call. For generic code, calling the method is the only way to prove this relation.
 pub trait Ports {
     ghost use Rattle.std.specs.Prelude.{ℕ, IfOk, OnErr, ⊤};
 
     type Socket: Listener;
 
-    /// Listening on this port returned this socket and led from the old state to the new one.
+    /// `listens old port socket new`: listening on `port` returned `socket`, and led from the state `old` to the
+    /// state `new`.
     ghost listens: { Self → ℕ → Self.Socket → Self → Type 0 } = { λ _ _ _ _. ⊤ };
 
-    /// Listening on this port failed and led from the old state to the new one.
+    /// `fails old port new`: listening on `port` failed, and led from the state `old` to the state `new`.
     ghost fails: { Self → ℕ → Self → Type 0 } = { λ _ _ _. ⊤ };
 
-    /// Closing this socket led from the old state to the new one.
+    /// `stops old socket new`: closing `socket` led from the state `old` to the state `new`.
     ghost stops: { Self → Self.Socket → Self → Type 0 } = { λ _ _ _. ⊤ };
 
     /// Listens on a port.
@@ -82,15 +84,15 @@ pub trait Ports {
         ensures { stops self.old socket self.new };
 }
 
-/// The ports of 127.0.0.1, which no other machine can reach. Code that is generic in `Ports` cannot reach other
-/// ports, because only this type holds the runtime.
+/// The ports of 127.0.0.1, which no other machine can reach. Listening on a port needs a `HostRuntime`, and the one
+/// that this type holds is private. So code that gets only a `Ports` value cannot listen on another address.
 #[derive(Drop)]
 pub struct Loopback<'a> {
     rt: &'a HostRuntime,
 }
 
 impl<'a> Loopback<'a> {
-    /// Returns the ports of 127.0.0.1. None of them is being listened on yet.
+    /// Returns the ports of 127.0.0.1, without listening on any of them yet.
     pub fn new(rt: &'a HostRuntime) -> Self {
         Loopback { rt }
     }

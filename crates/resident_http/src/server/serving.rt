@@ -16,8 +16,9 @@ use sqlite::Alter;
 use std::alloc::{AllocError, Global};
 use std::io::Write;
 
-/// Listens on this port, serves residents as `serve_listener` does, and closes the listener. If listening on the port
-/// fails, prints `unavailable`. Returns the exit status.
+/// Listens on `port`, calls `serve_listener`, and closes the listener. `serve_listener` asks for `count` connections,
+/// one after another, and serves a resident on each one that is accepted. Returns the exit status of
+/// `serve_listener`. If listening on the port fails, prints `unavailable` and returns 3.
 pub fn serve_port<S: Alter, P: Ports, W: Write>(
     alloc: Global,
     desk: &mut Desk<S>,
@@ -45,11 +46,11 @@ pub fn serve_port<S: Alter, P: Ports, W: Write>(
 }
 
 /// Prints `listening on 127.0.0.1:PORT`. Then asks the listener for `count` connections, one after another. Serves
-/// each one that is accepted, and closes it before asking for the next. Then prints `served COUNT`. Returns the exit
-/// status.
+/// each one that is accepted, and closes it before asking for the next. Then prints `served COUNT`. Returns exit
+/// status 0 if both lines were printed, and 3 otherwise.
 ///
-/// Allocates both lines at the start. If an allocation fails, prints `unavailable` and asks for no connection. If the
-/// first line cannot be printed, also asks for no connection.
+/// Allocates both lines at the start. If an allocation for the lines fails, prints `unavailable` and asks for no
+/// connection. If the first line cannot be printed, asks for no connection either.
 pub fn serve_listener<S: Alter, L: Listener, W: Write>(
     alloc: Global,
     desk: &mut Desk<S>,
@@ -74,7 +75,7 @@ pub fn serve_listener<S: Alter, L: Listener, W: Write>(
 }
 
 /// Asks the listener for `count` connections, one after another. Serves a resident on each one that is accepted, and
-/// closes it before asking for the next. A connection that could not be accepted also counts. `printed` is the output
+/// closes it before asking for the next. A failed attempt to accept a connection also counts. `printed` is the output
 /// written so far.
 pub fn serve_each<S: Alter, L: Listener, W: Write>(
     alloc: Global,

@@ -342,7 +342,7 @@ fn request_prefix() -> &'static str {
     REQUEST.strip_suffix("6\r\n\r\n[\"H2\"]").unwrap_or("")
 }
 
-// Asserts that the same request with a body of 1,024 bytes gets the same response.
+// Asserts that `REQUEST`, lengthened by spaces to a body of 1,024 bytes, gets the response `ANSWER`.
 fn is_answered_at_length(rt: &impl Abort, alloc: Global, desk: &mut Desk<MemStore>) {
     let prefix = request_prefix();
     let spaces = " ".repeat(alloc, 1_018).expect(rt, "memory");

@@ -26,9 +26,9 @@ impl Read for ChunkedReader<'_> {
     }
 }
 
-/// A writer that keeps the bytes that it takes, at most `chunk` bytes a write. After `room` bytes it refuses one
-/// write, which fails if `fails` and otherwise takes no byte. Then it takes `later` more bytes. Flushes succeed if
-/// and only if `flushes` is true.
+/// A writer that takes at most `chunk` bytes a write, and keeps them. After `room` bytes it refuses one write: the
+/// write fails if `fails` is true, and otherwise takes no byte. Then the writer takes `later` more bytes. Flushes
+/// succeed if and only if `flushes` is true.
 #[derive(Drop)]
 pub struct NarrowWriter {
     pub written: Vec<u8>,

@@ -64,7 +64,7 @@ fn request_with(rt: &impl Abort, alloc: Global, list: &str) -> String {
     ).expect(rt, "memory")
 }
 
-// The response that this list is recorded.
+// The response that says that this list is recorded.
 fn recorded_text(rt: &impl Abort, alloc: Global, list: &str) -> String {
     let length = list.len() + 12;
     format!(in alloc;

@@ -7,10 +7,10 @@ use sqlite::MemStore;
 use std::alloc::Global;
 use std::process::Abort;
 
-/// T1's line if the office has no list of T1.
+/// The line that the office prints in place of T1's list if it has recorded none.
 pub const NO_LIST: &str = "choices\n";
 
-/// T1's line if T1 lists H2.
+/// The line that the office prints for T1's list if T1 lists H2.
 pub const LISTS_H2: &str = "choices H2\n";
 
 // Lines that query the whole office: its rooms, people and round, and what each person sees.
@@ -45,7 +45,8 @@ withdrawn no\n\
 going no\n\
 result hidden\n";
 
-/// Asserts that the office prints what it has to in its open round. `list` is the expected line with T1's list.
+/// Queries the whole office in its open round, and asserts the printed answers. `list` is the expected line with
+/// T1's list. `case` is the note of the assertion.
 pub fn is_as_expected(
     rt: &impl Abort,
     alloc: Global,

@@ -318,7 +318,7 @@ fn is_refused_with_rooms(rt: &impl Abort, alloc: Global, end: &str, wanted: &Typ
     is_refused(rt, alloc, body.as_bytes(), wanted);
 }
 
-/// A body that begins with the given number of distinct rooms and then has this end.
+/// The body of a request, which begins with a list of `count` distinct rooms and ends with `end`.
 pub fn listed(rt: &impl Abort, alloc: Global, count: usize, end: &str) -> String {
     let mut body = String::from_str(alloc, "[\"A0\"").expect(rt, "memory");
     for i in 1..count {
