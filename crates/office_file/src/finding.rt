@@ -8,9 +8,9 @@ use office_store::{Desk, DeskFault, Unavailable};
 use sqlite::{Alter, Connection};
 use std::alloc::Global;
 
-/// Opens a desk over the office that the file at this path holds. The tables must have the version of this program.
-/// If they are in the documented order (`Layout::Documented`), the function recreates them in the order in which this
-/// program creates tables. Opens the file once. Does not create a missing file.
+/// Opens a desk over the office that the file at this path holds. The tables must have the version of this program,
+/// and be in the order in which this program creates tables or in the documented order (`Layout::Documented`). In the
+/// second case, the function recreates them in the first order. Opens the file once. Does not create a missing file.
 ///
 /// # Errors
 ///

@@ -86,8 +86,9 @@ StatesVersion db version = BeginsOffice db.schema × HoldsVersion db version
 -- The database holds no office of an earlier version. It begins with the first three tables of an office
 -- (`first_tables`). If the row of table `round` holds a version, that is 1 or 2 (`version`). The schema then begins
 -- with the tables of a layout of that version, or it is exactly that of some layout and nothing has the name of a
--- table that the version lacks (`known`). So tables in an unknown order do not satisfy this record: they may hold an
--- office. In no layout of an earlier version do the first tables hold the rows of an office of that version (`none`).
+-- table that the version lacks (`known`). So tables in an unknown order satisfy this record only if table `round`
+-- holds no version (`HoldsVersion`); otherwise they may hold an office. In no layout of an earlier version do the
+-- first tables hold the rows of an office of that version (`none`).
 pub record HoldsNoEarlier (db : Database) : Type 0 where
   pub first_tables : BeginsOffice db.schema
   pub version : (version : ℤ) → IsNotEarlier version → ¬ HoldsVersion db version
@@ -117,8 +118,9 @@ pub record IsReadAsNone (db : Database) : Type 0 where
   pub known : (version : ℕ) → IsEarlier version → HoldsVersion db (pos version)
       → HasKnownNames version db.schema
 
--- The cause that a migration must have to return this fault, if the schema begins with the first three tables of an
--- office. It does not depend on how the tables after them are declared. `Unavailable` needs no cause.
+-- The cause that a database must have for a migration to return this fault, if the schema begins with the first three
+-- tables of an office. The cause is required however the tables after them are declared. `Unavailable` needs no
+-- cause.
 abbrev pub MayReturn : Database → MigrateFault → Type 0
 MayReturn db Unavailable = ⊤
 MayReturn db (OtherVersion version) = HoldsVersion db version × IsNotEarlier version

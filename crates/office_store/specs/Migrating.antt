@@ -19,9 +19,9 @@ MayNotMigrate db NotAnOffice = (names_round db.schema ≡ false) ⊎ HoldsNoEarl
 MayNotMigrate db (OtherVersion version) = StatesVersion db version × IsNotEarlier version
 MayNotMigrate db AlreadyThere = HasNameTaken db
 
--- The cause that `Desk::migrate` must have to return this fault, if the schema begins with the first three tables of
--- an office. `MayReturn` states it for the fault of the migration that becomes this fault. The cause does not depend
--- on how the tables after the first three are declared.
+-- The cause that a database must have for `Desk::migrate` to return this fault, if the schema begins with the first
+-- three tables of an office. `MayReturn` states it for the fault of the migration that becomes this fault. The cause
+-- is required however the tables after the first three are declared.
 abbrev pub MayReturnFault : Database → DeskFault → Type 0
 MayReturnFault db Unavailable = ⊤
 MayReturnFault db NotAnOffice = MayReturn db migrate.NotAnOffice

@@ -1,4 +1,4 @@
-//! Tests that call each function that reads rows once, with enough memory, on rows that are not in order.
+//! Tests that call each function that reads rows, with enough memory, on rows that are not in order.
 use crate::building::{optional, text};
 use office_schema::rows::{
     ChoiceRecord, OfficeRecords, PersonRecord, RoundRecord, read_choices, read_keys, read_moves,

@@ -16,8 +16,8 @@ use std::test::Fail;
 const QUERIES: &str = "rooms\npeople\nround\norder\nresults\nmoves 1\n";
 
 /// Handles the requests of the lines at a desk in one call. Returns whether the answers are what a rehearsal of the
-/// lines prints, and the desk shows the same office as the rehearsal. A desk that adopts the database has to show
-/// that office too.
+/// lines prints, apart from lines `not understood`, and the desk shows the same office as the rehearsal. A desk that
+/// adopts the database has to show that office too.
 pub fn agrees_in_batch(alloc: Global, lines: &str) -> Result<bool, Fail> {
     let (_, text) = rehearsed(alloc, lines.as_bytes());
     let requests = parse_requests(alloc, lines)?;

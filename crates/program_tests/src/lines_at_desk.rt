@@ -68,8 +68,8 @@ fn handles_words_as_one_line(rt: HostRuntime) -> Result<(), Fail> {
     Ok(())
 }
 
-// A line of 65,536 bytes, here a comment, is skipped, and one with one more byte is refused. With a line feed in it,
-// the line is not understood.
+// A comment of 65,536 bytes is skipped, and a line with one more byte is refused. If that line also has a line feed,
+// it is not understood.
 #[test]
 fn rejects_a_line_over_the_limit(rt: HostRuntime) -> Result<(), Fail> {
     let mut desk = Desk::in_memory(rt.alloc())?;

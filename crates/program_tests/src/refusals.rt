@@ -1,5 +1,5 @@
-//! Scripts that use every command and query and get each refusal that a line can cause, and a test of the number of
-//! rounds.
+//! Scripts in which commands and queries get each refusal that a line can cause, except `LimitReached`, and a test of
+//! the limit of the number of rounds.
 use crate::asserting::assert_same;
 use crate::scripts::rehearsed;
 use office_cli::Ending;

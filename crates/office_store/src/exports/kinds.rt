@@ -159,8 +159,8 @@ impl Exported for GradeRow {
     }
 }
 
-// Returns the grade in a column, or `None` if the cell holds no grade. NULL represents grade 0, which no table
-// records.
+// Returns the grade in a column. NULL represents grade 0, which no table records. Returns `None` if the cell holds
+// neither NULL nor the number of a grade.
 fn grade_in(row: &Row, at: usize) -> Option<Grade>
     ensures { IfSome result (λ grade. grade ≡ u64_in (column row.now at)) }
 {

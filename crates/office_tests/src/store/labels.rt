@@ -10,9 +10,9 @@ use sqlite::MemStore;
 use std::alloc::Global;
 use std::process::Abort;
 
-// Runs the command and asserts that its answer is `done`. Then imports three lists and asserts their answers. The
-// known list gets its first answer again, another list under its label is refused because it differs, and a new list
-// has the answer `late`.
+// Runs the command and asserts that its answer is `done`. Then imports lists and asserts their answers. The known
+// list gets its first answer again. Another list under its label is refused because it differs, and so is the known
+// list as a list of rooms. A new list has the answer `late`.
 fn checks_labels(
     rt: &impl Abort,
     alloc: Global,

@@ -180,7 +180,7 @@ const STORY: [Step; 38] = [
     ),
 ];
 
-// In the first round T2 withdraws twice, and then hands in a list, which is refused as too late.
+// In the first round T2 withdraws twice, and then hands in a list, which is refused because T2 has withdrawn.
 const WITHDRAWALS: [Step; 3] = [
     Step::Exchange(
         "POST /me/withdraw HTTP/1.1\r\nHost: a\r\nRoom-Key: key00000000000t2\r\n\r\n",
@@ -199,8 +199,8 @@ const WITHDRAWALS: [Step; 3] = [
     ),
 ];
 
-// T2, who has a home, leaves the college before the results are published. After that T2 can neither hand in a list
-// nor withdraw. T2 still sees the recorded list, but no result.
+// While the round is open, the office records that T2, who has a home, leaves the college. After that T2 can neither
+// hand in a list nor withdraw. T2 still sees the recorded list, but no result.
 const LEAVING: [Step; 9] = [
     Step::Office("going T2\n"),
     Step::Exchange(
