@@ -6,8 +6,9 @@ use Rattle.office_lists.specs.declared.exports.ExportKind.{ExportKind}
 use Rattle.room_types.specs.Texts.{Text}
 use Rattle.room_types.specs.declared.kinds.ListKind.{ListKind}
 
--- An action at the desk of an office file: `does` handles words as a line, `imports` imports a list from the file at
--- a path, `exports` exports the office, and `serves` serves a number of connections on a port.
+-- An action at the desk of an office file: `does` handles words as a line, `imports` imports a list of a kind under a
+-- label, from the file at a path, `exports` exports the office, and `serves` serves, on a port, a number of
+-- connections.
 pub data Action : Type 0 where
   does : List Text → Action
   imports : ListKind → Text → Text → Action

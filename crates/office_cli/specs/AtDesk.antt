@@ -47,8 +47,8 @@ SendsExport bytes status out out' =
     Prints bytes 0 status out out' ⊎ ((status ≡ 3) × (out'.flushes ≡ out.flushes) × EndsEarly bytes out out')
 
 -- How an export ends, whatever the disk does. Either the program prints a header and records, and the status is 0
--- if printing succeeds. Or the export ends early, no flush follows, and the status is 3. An early end comes after a
--- whole record, unless a write failed.
+-- if printing succeeds. Or the export ends early, no flush follows, and the status is 3. Unless a write failed, only
+-- whole records were written before an early end, or nothing was.
 abbrev pub EndsExport : ExportKind → ℕ → Output → Output → Type 0
 EndsExport kind status out out' =
     ((records : List Record) × Prints (export_bytes (header_of kind ∷ records)) 0 status out out')

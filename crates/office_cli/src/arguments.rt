@@ -77,7 +77,7 @@ fn new_program<'a>(entries: &ArgMatches<'a>) -> Option<Program<'a>>
     Some(Program::New { database })
 }
 
-// Copies the list of words, because `entries` is dropped before the subcommand is carried out.
+// Copies the list of words, because the matches behind `entries` are dropped before the subcommand is carried out.
 fn do_program<'a>(alloc: Global, entries: &ArgMatches<'a>) -> Result<Program<'a>, WordFault>
     ensures { UnderstandsAs line_of (do_program (rows_of (found_of entries.now))) result }
 {

@@ -125,9 +125,8 @@ pub fn carry_out_over<'a, S: Start, R: Read, W: Write, E: Write>(
 
 /// Carries out these words, the arguments after the program's name, with any office files, lists and ports, and
 /// returns the exit status. A subcommand on an office file opens the file once. If the file opens, the subcommand
-/// does its work there. It closes the file in the state in which this work left it, with no transaction open. Only
-/// `import` opens a list, and opens it once. If the list opens, `import` closes it in the state in which the last
-/// read left it.
+/// closes it at the end, in the state in which its work left it, with no transaction open. Only `import` opens a
+/// list, and opens it once. If the list opens, `import` closes it in the state in which the last read left it.
 pub fn carry_out_from<
     'a,
     B: Alter,
@@ -230,10 +229,10 @@ fn rehearse_anew<R: Read, W: Write>(
     }
 }
 
-/// Reads the input line by line, lets the desk handle each line, and writes the response. Returns how the rehearsal
-/// ended, and the exit status. If the disk returned what was written to it, the responses are those of the office
-/// that the desk represents. In this case the desk afterwards represents the office after the handled lines,
-/// however the rehearsal ended.
+/// Handles each line of the input at the desk and writes the responses, like `rehearse` of `office_lines`. Returns
+/// how the rehearsal ended, and the exit status. If the disk returned what was written to it, the responses are those
+/// of the office that the desk represents. In this case the desk afterwards represents the office after the handled
+/// lines, however the rehearsal ended.
 pub fn rehearse<S: Alter, R: Read, W: Write>(
     alloc: Global,
     desk: &mut Desk<S>,
@@ -259,8 +258,8 @@ pub fn rehearse<S: Alter, R: Read, W: Write>(
     rehearse_with(alloc, desk, input, output)
 }
 
-/// Reads the input line by line, lets a desk over a database in memory handle each line, and writes the response.
-/// Returns how the rehearsal ended, and the exit status. The responses are those of the office that the desk shows.
+/// Handles each line of the input at a desk over a database in memory, and writes the responses. Returns how the
+/// rehearsal ended, and the exit status. The responses are those of the office that the desk shows.
 /// Afterwards the desk shows the office after the handled lines. Unlike in `rehearse`, this needs no premise about
 /// a disk, because the database is in memory.
 pub fn rehearse_in_memory<R: Read, W: Write>(

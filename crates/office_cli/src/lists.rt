@@ -40,8 +40,9 @@ pub trait Lists {
         ensures { closes self.old list self.new };
 }
 
-/// The files of the system, as a store of lists. The contracts do not say what the files contain. Code that is
-/// generic in `Lists` reaches files only by the methods of `Lists`, because only this type holds the runtime.
+/// The files of the system, as a store of lists. The contracts do not say what the files contain. Opening a file
+/// needs a `HostRuntime`, and the one that this type holds is private. So code that gets only a `Lists` value can
+/// open files only by `Lists::open`.
 #[derive(Drop)]
 pub struct SystemLists<'a> {
     rt: &'a HostRuntime,

@@ -39,7 +39,7 @@ unended (byte ∷ bytes) = (byte ∷ bytes) ∷ []
 abbrev pub lines_of : List ℕ → List (List ℕ)
 lines_of bytes = ended_lines bytes ++ unended (last_part bytes)
 
--- the greatest length of a line, in bytes without the line feed
+-- the greatest length of a line that is handled, in bytes without the line feed
 abbrev pub line_limit : ℕ
 line_limit = 65536
 

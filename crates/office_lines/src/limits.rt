@@ -1,6 +1,6 @@
 //! Limits on the length of a line and on reads.
 
-/// The greatest length of a line, in bytes without the line feed.
+/// The greatest length of a line that is handled, in bytes without the line feed.
 pub const LINE_LIMIT: usize = 65536;
 
 /// The greatest number of bytes that one read asks for.

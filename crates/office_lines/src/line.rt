@@ -37,7 +37,7 @@ pub enum ParsedLine {
     Ignored,
     /// The line is a request.
     Valid(Request),
-    /// The line is not a comment, and it is not a request: it is not UTF-8, or its words are not a request.
+    /// The line is neither ignored nor a request: it is not UTF-8, or its words are not a request.
     Invalid,
 }
 

@@ -9,7 +9,7 @@ use Rattle.resident_http.specs.declared.served.Served.TheVariants.{Answered, Rea
 
 module _ {T : Type 0} (calls : Calls T) where
   -- The bytes `before`, read so far, were an incomplete request. One more read returned at least one byte. `bytes`
-  -- are all bytes read after it.
+  -- are `before` and then the bytes of this read.
   pub record ReadsOnce (before bytes : List ℕ) (old new : T) : Type 0 where
     pub buffer_before : List ℕ
     pub buffer : List ℕ

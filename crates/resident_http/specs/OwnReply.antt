@@ -27,7 +27,7 @@ pub record AgreeOnKey (a b : Office) (key : Text) : Type 0 where
   pub person : (person : Text) → owner a key ≡ Some person → AgreeOnPerson a b person
 
 -- The offices agree on the rooms, on which rooms are occupied, and on the round and its phase. If the bytes are a
--- request with a key, the offices also agree on the owner of this key.
+-- request with a key, `AgreeOnKey` also holds for this key.
 pub record AgreeFor (bytes : List ℕ) (a b : Office) : Type 0 where
   pub rooms : a.rooms ≡ b.rooms
   pub occupied : (room : Text) → is_taken a room ≡ is_taken b room

@@ -44,8 +44,8 @@ module _ {H : Type 0} (handles : H → Request → DeskAnswer → H → Type 0) 
   abbrev pub Withdraws : Text → H → Answer → H → Type 0
   Withdraws person = Executes (Withdraw person) (compact_text withdrawn_data)
 
-  -- A person hands in a preference list, which the desk records. A body that is not a preference list gets an error
-  -- response, and the desk is not asked.
+  -- A person hands in a preference list: the desk handles the command that records it, as `Executes` describes. A
+  -- body that is not a preference list gets an error response, and the desk is not asked.
   abbrev pub Records : Text → Result (List Text) TypeFault → H → Answer → H → Type 0
   Records person (Ok choices) = Executes (SetChoices person choices) (compact_text (choices_data choices))
   Records person (Err cause) = RespondsDirectly (list_fault cause)

@@ -23,13 +23,14 @@ use resident_requests::{
 use room_types::{Key, Listing, PersonId, RoomRow, TypeFault};
 use std::alloc::Global;
 
-/// Returns the response to `asked`, the parsed bytes of a connection. Lets the handler handle a complete request. An
-/// incomplete request gets status 400, because no more bytes will come.
+/// Returns the response to `asked`, the parsed bytes of a connection. Asks the handler only for a complete request
+/// with a known path, the right method and a key. An incomplete request gets status 400, because no more bytes will
+/// come.
 ///
 /// # Errors
 ///
-/// `ResponseUnavailable` if an allocation fails, if the handler's answer is `Unavailable`, or if the handler gives an
-/// answer that does not belong to the request.
+/// `ResponseUnavailable` if an allocation fails, if the handler's answer is `Unavailable`, if the handler answers a
+/// query with a reply of another kind, or if it gives a refusal that the request never gets.
 pub fn answer_ask<H: Handler>(
     alloc: Global,
     handler: &mut H,
@@ -252,8 +253,8 @@ fn prepare_list_fault(
     }
 }
 
-// Prepares a response for each answer that the command can get. Then lets the desk handle the command, and returns
-// the response for the desk's answer.
+// Prepares a response for each answer that the command can get, except `Unavailable`. Then lets the desk handle the
+// command, and returns the response for the desk's answer.
 fn execute<H: Handler>(
     alloc: Global,
     handler: &mut H,

@@ -57,7 +57,7 @@ fn send_all<T: Stream>(stream: &mut Watched<T>, text: &[u8]) -> Result<(), usize
     ensures ended { watched_ended stream.new ≡ watched_ended stream.old }
     ensures wasted { watched_wasted stream.new ≡ watched_wasted stream.old }
 {
-    // Calling `taken` makes the bound of this counter known to the prover.
+    // Calling `taken` makes the bound of the counter of written bytes known to the prover.
     let _taken = stream.taken();
     let mut sent = 0;
     while sent < text.len() {

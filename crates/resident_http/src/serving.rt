@@ -20,8 +20,9 @@ use std::alloc::Global;
 /// Serves one resident at the desk: reads one request from the stream, lets the desk handle it, writes the response,
 /// and flushes. Returns how serving the resident ended.
 ///
-/// A desk represents an office. If the disk returned what was written to it, the office may serve this response to
-/// the bytes read. The desk then represents the office after the request, even if the response could not be written.
+/// If the desk represents an office, and the disk returned what was written to it, then this office may serve the
+/// response to the bytes read. The desk then represents the office after the request, even if the response could not
+/// be written.
 pub fn serve_one<S: Alter, T: Stream>(
     alloc: Global,
     desk: &mut Desk<S>,
@@ -47,8 +48,8 @@ pub fn serve_one<S: Alter, T: Stream>(
 /// Serves one resident at a desk over a database in memory: reads one request from the stream, lets the desk handle
 /// it, writes the response, and flushes. Returns how serving the resident ended.
 ///
-/// The desk shows an office. This office may serve the response to the bytes read, and the desk then shows the office
-/// after the request. Unlike the contract of `serve_one`, this holds without a premise about a disk.
+/// If the desk shows an office, this office may serve the response to the bytes read, and the desk then shows the
+/// office after the request. Unlike the contract of `serve_one`, this holds without a premise about a disk.
 pub fn serve_one_in_memory<T: Stream>(
     alloc: Global,
     desk: &mut Desk<MemStore>,

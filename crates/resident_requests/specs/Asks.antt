@@ -35,8 +35,8 @@ field_limit = 64
 abbrev pub body_limit : ℕ
 body_limit = 1024
 
--- These values of the fields `Host` are a fault: there are several, or HTTP/1.1 has none. `minor` is the minor
--- version.
+-- These values of the fields `Host` are a fault: there are several, or there is none and the version is HTTP/1.1.
+-- `minor` is the minor version.
 abbrev pub has_bad_host : ℕ → List (List ℕ) → Bool
 has_bad_host minor [] = minor == 1
 has_bad_host minor (host ∷ []) = false

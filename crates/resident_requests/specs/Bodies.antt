@@ -64,7 +64,7 @@ fault_data name = object (member (codes "error") (string name) no_members)
 
 -- ---- requests
 
--- the JSON value that the bytes encode, or `None` if they are not UTF-8 or not JSON
+-- the JSON value that the bytes encode, or `None` if they are not UTF-8 or `serde_json` cannot read them
 abbrev pub json_of : List ℕ → Option Data
 json_of bytes = if is_utf8 bytes then read bytes else None
 

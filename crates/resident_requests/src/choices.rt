@@ -13,7 +13,7 @@ use std::alloc::Global;
 ///
 /// - `BadValue` if the body is not a JSON array of room codes.
 /// - `TooManyChoices` if the array has more than `CHOICE_LIMIT` codes.
-/// - `RoomRepeated` if a code occurs in the array more than once.
+/// - Otherwise, `RoomRepeated` if a code occurs in the array more than once.
 /// - `OutOfMemory` if an allocation fails. This never happens for an empty body, whose error is `BadValue`.
 pub fn choices_of_body(alloc: Global, body: &[u8]) -> Result<Choices, TypeFault>
     ensures value { IfOk result (λ choices. choices_of_body body.now ≡ Ok choices) }
@@ -29,8 +29,8 @@ pub fn choices_of_body(alloc: Global, body: &[u8]) -> Result<Choices, TypeFault>
     Choices::read(codes)
 }
 
-// Parses the bytes as JSON. Fails with `BadValue` if they are not UTF-8 or not JSON, and with `OutOfMemory` if an
-// allocation fails.
+// Parses the bytes as JSON. Fails with `BadValue` if they are not UTF-8 or `serde_json` cannot read them, and with
+// `OutOfMemory` if an allocation fails.
 fn json_value(alloc: Global, bytes: &[u8]) -> Result<Value, TypeFault>
     ensures value { IfOk result (λ value. json_of bytes.now ≡ Some (view value)) }
     ensures fault { IfErr result (λ fault.

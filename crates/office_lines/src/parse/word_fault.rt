@@ -1,9 +1,9 @@
-//! The error of a parser for the words of a line.
+//! The error of a parser for words.
 ghost use Rattle.std.specs.Prelude.{◌≡◌};
 
 use std::alloc::{AllocError, AllocFailed};
 
-/// Why a parser returned no value for words of a line.
+/// Why a parser returned no value for the words of a line or for the program's arguments.
 #[derive(Clone, Copy, Debug, PartialEq, Eq, Drop)]
 pub enum WordFault {
     /// The words do not have the form that the parser expects, for example the form of a request or of a room code.

@@ -57,9 +57,9 @@ module _ {S : Type 0} (g : Ghosts S) where
   module _ {L T : Type 0} (calls : Calls T) (remaining contents : T → Option (List ℕ)) (accepts : L → Output → Option (Watched T) → L → Type 0) (closes : L → Output → Watched T → L → Type 0) where
     -- One of three cases holds. In the first, the line with the port was printed and flushed. Then the listener was
     -- asked for `count` connections, one after another. Each one that it accepted was served, and closed before the
-    -- next was asked for. Nothing was printed meanwhile. At the end, the line with `count` was printed. In the second
-    -- case, the first line could not be printed. In the third, an allocation for the two lines failed. In the second
-    -- and third cases, the listener was asked for no connection.
+    -- next was asked for. Nothing was printed meanwhile. At the end, the line with `count` was printed, or printing it
+    -- failed and the status is 3. In the second case, the first line could not be printed. In the third, an allocation
+    -- for the two lines failed. In the second and third cases, the listener was asked for no connection.
     abbrev pub ServesAll : L → DeskState S → L → DeskState S → ℕ → ℕ → ℕ → Output → Output → Type 0
     ServesAll listener old listener' new port count status out out' =
         ((printed : Output) × Prints (listening_text port) 0 0 out printed × ServesEach calls remaining contents accepts closes printed listener old count listener' new
