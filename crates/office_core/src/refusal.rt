@@ -39,7 +39,7 @@ pub enum Refusal {
     LimitReached,
     /// A different list is stored under this label.
     ListDiffers,
-    /// Record `at` of the list cannot be parsed, or the office refuses its command. The header is record 0.
+    /// Record `at` of the list is bad, and `cause` says why. The header is record 0.
     BadRecord { at: u32, cause: Cause },
     /// The person does not take part in the round, and so has no place in the order.
     NotInRound,

@@ -70,7 +70,8 @@ pub fn optional_room(alloc: Global, text: &str, number: u8) -> Result<Option<Roo
 }
 
 /// Parses the text of field `number` as a preference list: room codes separated by single spaces. An empty text is an
-/// empty list. Fails with `BadField(number)` if the text is not a preference list.
+/// empty list. Fails with `BadField(number)` if the text is not a preference list, or with `OutOfMemory` if an
+/// allocation fails.
 pub fn choices(alloc: Global, text: &str, number: u8) -> Result<Choices, RecordFault>
     ensures value { IfOk result (λ choices. choices ≡ codes_in text.now) }
     ensures in_grammar { IfOk result (λ _. is_choices text.now ≡ true) }

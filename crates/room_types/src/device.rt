@@ -6,8 +6,9 @@ ghost use Rattle.std.specs.declared.io.Error.{Error};
 
 use std::io::{Read, Result, Write};
 
-/// A reader with the relation `reads` between the states before and after a read. The contract of `Read` cannot say
-/// that a read was made. `reads` can, because generic code can establish `reads` only by one call of `read_once`.
+/// A reader whose contract can say that a read was made. The contract of `Read` cannot say that. `Source` has the
+/// relation `reads` between the states before and after a read, and generic code can establish `reads` only by one
+/// call of `read_once`.
 pub trait Source: Read {
     /// The relation that one read establishes. The arguments are the state before the read, the buffer before, the
     /// buffer after, the result, and the state after.
@@ -29,9 +30,9 @@ impl<R: Read> Source for R {
     }
 }
 
-/// A writer with the relations `writes` and `flushes` between the states before and after a write or a flush. The
-/// contract of `Write` cannot say that a call was made. `writes` and `flushes` can, because generic code can
-/// establish them only by one call of `write_once` or `flush_once`.
+/// A writer whose contract can say that a write or a flush was made. The contract of `Write` cannot say that. `Sink`
+/// has the relations `writes` and `flushes` between the states before and after a call, and generic code can establish
+/// them only by one call of `write_once` or `flush_once`.
 pub trait Sink: Write {
     /// The relation that one write establishes. The arguments are the state before the write, the bytes to write, the
     /// result, and the state after.

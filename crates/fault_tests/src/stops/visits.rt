@@ -33,7 +33,7 @@ pub enum Opening {
 pub struct Visit<'a> {
     /// How the desk opens its office.
     pub opening: Opening,
-    /// The requests. The desk handles them up to the first that gets no reply.
+    /// The requests, in order. The desk stops after the first that gets no reply.
     pub requests: &'a [Request],
     /// Whether the desk loads the office at the end.
     pub is_read: bool,

@@ -107,8 +107,8 @@ abbrev pub bad_list : ListFault → Refusal
 bad_list (list.Bad at cause) = BadRecord at cause
 bad_list list.OutOfMemory = OutOfMemory
 
--- the refusal of a list: for the first record that cannot be parsed or, if all can be parsed, for the first record
--- whose command the office refuses
+-- the refusal of a list: for its first bad record (`list_fault`) or, if no record is bad, for the first record whose
+-- command the office refuses
 abbrev pub list_refusal : EntryCommand → Office → List ℕ → Option Refusal
 list_refusal command office bytes =
     option_map_or (λ fault. Some (bad_list fault)) (list_fault command.form (records_of bytes))

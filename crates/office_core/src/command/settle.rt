@@ -27,8 +27,7 @@ use std::alloc::Global;
 /// 4. The moves are recorded.
 /// 5. The round ends.
 ///
-/// So the changes set the home twice for a person who leaves the college or swaps, and once for any other person who
-/// moves.
+/// So the changes set the home of each person who moves once, or twice if the person leaves the college or swaps.
 ///
 /// # Errors
 ///

@@ -32,10 +32,10 @@ pub fn well_traded_results()
         → IsWellTraded office (recorded_result office) }
 {}
 
-/// Strategy-proofness: if all others keep their lists, no participant can gain by handing in another list. By their
-/// recorded list, a participant ranks the recorded result at least as high as what the other list would get them
-/// (Roth 1982; Abdulkadiroglu and Sönmez 1999). The clause `by_another` states what another list would get them: what
-/// the round gives them if that list is recorded.
+/// Strategy-proofness: no participant can gain by handing in another list while all others keep theirs. The recorded
+/// list of a participant ranks the recorded result at least as high as the result that another list would bring them
+/// (Roth 1982; Abdulkadiroglu and Sönmez 1999). The clause `by_another` says which result that is: the round's result
+/// for them if the other list is recorded in place of theirs.
 pub fn strategyproof()
     ensures best { (office : Office) → IsLawful office → has_results office.phase ≡ true
         → IsStrategyproofFor office (recorded_result office) }
