@@ -13,7 +13,7 @@ Prints text wanted status out out' =
     × (out'.failed ≡ out.failed))
     ⊎ ((status ≡ 3) × (out'.failed ≡ true) × (sent : ℕ) × Puts out out' (take sent text))
 
--- prints `unavailable` with status 3, as the program does if an allocation, the database, the list of an import, or
--- listening on a port failed
+-- prints `unavailable` with status 3, as the program does if an allocation, the database, the office's file, the list
+-- of an import, or listening on a port failed
 abbrev pub PrintsUnavailable : ℕ → Output → Output → Type 0
 PrintsUnavailable status out out' = Prints (line_of (codes "unavailable" ∷ [])) 3 status out out'

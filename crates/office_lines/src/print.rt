@@ -24,8 +24,7 @@ pub fn print<W: Write>(output: &mut Watched<W>, text: &str, status: u8) -> u8
 }
 
 /// Prints `unavailable` and returns exit status 3. Callers use this function when an allocation or the database
-/// failed, or when a list to import cannot be opened or read.
-/// failed.
+/// failed, or when the office's file or a list to import cannot be opened or read.
 pub fn print_unavailable<W: Write>(output: &mut Watched<W>) -> u8
     ensures no_wasted_write { StopsAtFailure output.old output.new }
     ensures prints { PrintsUnavailable result (output_of W.contents output.old)

@@ -48,7 +48,7 @@ pub enum Change {
         person: PersonId,
         room: Option<RoomCode>,
     },
-    /// Records a move.
+    /// Records a move. It replaces an earlier move of the same person in the same round.
     AddMove(Move),
     /// Sets the number and the phase of the round.
     PutRound {

@@ -17,7 +17,7 @@ text_of (Answered (Refused refusal)) = refusal_text refusal
 text_of (Answered Unavailable) = line_of (codes "unavailable" ∷ [])
 text_of NotUnderstood = line_of (codes "not understood" ∷ [])
 
--- whether the text of the response is a constant, which needs no allocation
+-- whether the response is neither a reply nor a refusal: then its text is a constant, which needs no allocation
 abbrev pub is_constant : Response → Bool
 is_constant Nothing = true
 is_constant (Answered (Reply reply)) = false

@@ -25,7 +25,7 @@ pub const REFUSED: u8 = 1;
 /// The exit status of a line that is not understood.
 pub const NOT_UNDERSTOOD: u8 = 2;
 
-/// The exit status of a line that failed because memory ran out or a device failed.
+/// The exit status of a line that failed because memory ran out, a device failed, or the line is too long.
 pub const UNAVAILABLE: u8 = 3;
 
 /// Returns the text to print for a response. If the response is a reply with rows, rows of rooms must ascend by code,

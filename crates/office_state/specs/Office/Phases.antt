@@ -9,7 +9,7 @@ abbrev pub is_idle : Phase → Bool
 is_idle Idle = true
 is_idle _ = false
 
--- people may list rooms and withdraw
+-- people may list rooms and withdraw, and the office may record who leaves the college
 abbrev pub is_open : Phase → Bool
 is_open Opened = true
 is_open _ = false
@@ -34,7 +34,7 @@ abbrev pub is_published : Phase → Bool
 is_published Published = true
 is_published _ = false
 
--- the office may add rooms and people, and may shut or reopen rooms
+-- the office may add rooms and people, set grades, and shut or reopen rooms
 abbrev pub is_preparing : Phase → Bool
 is_preparing phase = is_idle phase || is_open phase
 

@@ -12,7 +12,7 @@ pub fn is_idle(phase: Phase) -> bool
     matches!(phase, Phase::Idle)
 }
 
-/// Returns whether people may list rooms and withdraw.
+/// Returns whether people may list rooms and withdraw, and the office may record who leaves the college.
 pub fn is_open(phase: Phase) -> bool
     ensures { result ≡ is_open phase }
 {
@@ -54,7 +54,7 @@ pub fn is_published(phase: Phase) -> bool
     matches!(phase, Phase::Published)
 }
 
-/// Returns whether the office may add rooms and people, and may shut or reopen rooms.
+/// Returns whether the office may add rooms and people, set grades, and shut or reopen rooms.
 pub fn is_preparing(phase: Phase) -> bool
     ensures { result ≡ is_preparing phase }
 {

@@ -15,7 +15,8 @@ use room_types::{Grade, Grammar, Key, OutOfMemory, PersonId, RoomCode, Table, Te
 use std::alloc::Global;
 
 impl Office {
-    /// Returns who lives in a room, or `None` if nobody does. Takes time linear in the number of people.
+    /// Returns who lives in a room, or `None` if nobody does. Takes time linear in the number of people. In an office
+    /// that is not lawful several people may live there; the first by identifier is returned.
     pub fn tenant(&self, room: &RoomCode) -> Option<&PersonId>
         ensures { option_copied result ≡ tenant self.now room.now }
     {
@@ -48,7 +49,8 @@ impl Office {
         Ok(tenants)
     }
 
-    /// Returns the person with this key, or `None` if nobody has it. Takes time linear in the number of people.
+    /// Returns the person with this key, or `None` if nobody has it. Takes time linear in the number of people. In an
+    /// office that is not lawful several people may have it; the first by identifier is returned.
     pub fn owner(&self, key: &Key) -> Option<&PersonId>
         ensures { option_copied result ≡ owner self.now key.now }
     {

@@ -1,5 +1,5 @@
-//! Theorems about the round and its results, for every office. The contract of each function states a theorem, and
-//! the function does nothing.
+//! Theorems about the round and its results. The contract of each function states a theorem, and the function does
+//! nothing.
 ghost use Rattle.std.specs.Prelude.{◌≡◌, None, true, List, map as map_list};
 ghost use Rattle.std.specs.FinMap as map;
 ghost use Rattle.room_types.specs.Choices.{IsChoices};

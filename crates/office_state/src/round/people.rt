@@ -7,9 +7,9 @@ use draw_order::order;
 use room_types::{Grade, OutOfMemory, PersonId, Word};
 use std::alloc::Global;
 
-/// Returns the participants in the drawn order: by grade, then by word, then by identifier. Before the draw each word
-/// counts as 0, so the order is by grade and then by identifier. Takes n log n steps for n people. Does not allocate
-/// if there are no participants.
+/// Returns the participants in the drawn order: by grade, then by word, then by identifier. The word of a participant
+/// without one counts as 0. In a lawful office nobody has a word before the draw, so the order is then by grade and
+/// identifier. Takes n log n steps for n people. Does not allocate if there are no participants.
 ///
 /// # Errors
 ///
