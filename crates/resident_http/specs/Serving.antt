@@ -27,7 +27,7 @@ use Rattle.resident_http.specs.DueResponses.{command_answer, list_fault, status_
 abbrev pub IsDue : Answer → Answer → Type 0
 IsDue due answer = (answer ≡ due) ⊎ (answer ≡ unavailable_answer)
 
--- The response is `due`, or 503 if an allocation failed. The desk is not asked.
+-- The response is `due`, or 503 if an allocation failed. The desk stays as it was.
 abbrev pub RespondsDirectly : {H : Type 0} → Answer → H → Answer → H → Type 0
 RespondsDirectly due old answer new = IsDue due answer × (new ≡ old)
 
