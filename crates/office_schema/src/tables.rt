@@ -2,8 +2,9 @@
 //! `create_tables_from`, `clear_round_tables` and `migrate_tables` run several.
 //!
 //! The contract of a function states the effect of its statements on typed records. A statement fails if the engine
-//! refuses it, or if an allocation or the disk fails. A failed statement changes no row, or the whole transaction is
-//! rolled back. The clause `undone` states this for an intact disk and an open connection. If one of several
+//! refuses it, or if an allocation or the disk fails. No clause says why a statement failed. A failed statement
+//! changes no row, or the whole transaction is rolled back. The clause `undone` states this for an intact disk and an
+//! open connection; `migrate_tables` lacks it, since its caller rolls the transaction back. If one of several
 //! statements fails, the effects of the statements before it may remain inside the transaction. No function commits
 //! anything, as the clause `inside` states.
 

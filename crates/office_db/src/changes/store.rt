@@ -23,8 +23,8 @@ use std::alloc::Global;
 /// Stores all changes in one transaction, or none of them. The tables have to hold the rows of `office`.
 ///
 /// On `Ok` the connection is open. The tables then hold the rows of the office after the changes, if the changes fit
-/// the office. On an error the tables are unchanged, unless a fault closed the connection. These guarantees
-/// presuppose a disk that returns what was written to it.
+/// the office and the tables are in this program's own layout. On an error the tables are unchanged, unless a fault
+/// closed the connection. These guarantees presuppose a disk that returns what was written to it.
 ///
 /// # Errors
 ///

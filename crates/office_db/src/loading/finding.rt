@@ -29,9 +29,9 @@ use std::alloc::Global;
 /// Why no office was found.
 #[derive(Clone, Copy, Debug, PartialEq, Eq)]
 pub enum FindFault {
-    /// The database failed, memory ran out, or the schema is in no known layout. For a schema in no known layout
-    /// there are two exceptions: `find` returns `NotAnOffice` if nothing has the name of table `round`, and
-    /// `OtherVersion` if it reads a version other than this program's from that table.
+    /// The database failed, memory ran out, the rowids of a table do not ascend, or the schema is in no known layout.
+    /// For a schema in no known layout there are two exceptions: `find` returns `NotAnOffice` if nothing has the name
+    /// of table `round`, and `OtherVersion` if it reads a version other than this program's from that table.
     ///
     /// A schema is in a known layout if it has exactly the tables of an office, of this or an earlier version, in a
     /// known order. A missing table, a table that the engine does not understand, another order of creation, or any
@@ -66,8 +66,9 @@ pub struct Found {
 ///   this program. Any tables may follow the first three.
 /// - `NotAnOffice` only if the schema is in a known layout but the tables do not hold the rows of a lawful office. In
 ///   this case the row of table `round` holds no version other than this program's.
-/// - `Unavailable` if the database fails or memory runs out. `find` also returns it if the schema is in no known
-///   layout, unless `find` reads a version other than this program's from table `round`.
+/// - `Unavailable` if the database fails, if memory runs out, or if the rowids of a table do not ascend. `find` also
+///   returns it if the schema is in no known layout, unless `find` reads a version other than this program's from
+///   table `round`.
 ///
 /// `find` runs no statement if there is a view. It runs none either if the first three tables are not `room`,
 /// `person` and `round`, each in the tree that all layouts give it.

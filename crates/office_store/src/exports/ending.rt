@@ -1,6 +1,7 @@
 //! How an export ends early.
 
-/// Why an export ended early. The bytes written are a prefix of the export, and `sent` is their number.
+/// Why an export ended early. `sent` is the number of bytes written. If the disk returned what was written to it, these
+/// bytes are a prefix of the export of the office that the desk represents.
 #[derive(Clone, Copy, Debug, PartialEq, Eq, Drop)]
 pub enum ExportEnd {
     /// A write to the output failed or accepted no bytes.
