@@ -30,7 +30,7 @@ use office_lines::rehearse::rehearse as rehearse_with;
 use office_lines::render::{ACCEPTED, NOT_UNDERSTOOD};
 use office_store::Desk;
 use resident_http::server::{Listener, Loopback, Ports};
-use room_types::{Stream, Watched};
+use room_types::{Source, Stream, Watched};
 use sqlite::{Alter, Connection, FileFrom, FileStore, MemStore, Start, Wary};
 use sqlite_trees::store::Store;
 use std::alloc::Global;
@@ -55,7 +55,7 @@ pub fn carry_out<'a, R: Read, W: Write, E: Write>(
     ensures no_wasted_error { StopsAtFailure error.old error.new }
     ensures carries_out { let list_access = list_access_of
         ⟦<SystemLists<'static> as Lists>⟧.opens ⟦<SystemLists<'static> as Lists>⟧.fails
-        ⟦<SystemLists<'static> as Lists>⟧.closes ⟦<File as Read>⟧.remaining in
+        ⟦<SystemLists<'static> as Lists>⟧.closes ⟦<File as Source>⟧.reads ⟦<File as Read>⟧.remaining in
         let access = file_access ⟦<FileStore<FileFrom<Wary>> as Store>⟧
         ⟦<SystemFiles<'static, Wary> as Files<FileStore<FileFrom<Wary>>>>⟧.opens ⟦<SystemFiles<'static, Wary> as Files<FileStore<FileFrom<Wary>>>>⟧.finds
         ⟦<SystemFiles<'static, Wary> as Files<FileStore<FileFrom<Wary>>>>⟧.fails ⟦<SystemFiles<'static, Wary> as Closes<Connection<FileStore<FileFrom<Wary>>>>>⟧.closes in
@@ -73,8 +73,8 @@ pub fn carry_out<'a, R: Read, W: Write, E: Write>(
     carry_out_over(rt, words, Wary, input, output, error)
 }
 
-/// Carries out these words, the arguments after the program's name, with the system's files and ports, and returns
-/// the exit status. `start` stands for what the office's file and its log contain when they are opened. The
+/// Carries out these words, the arguments after the program's name, with the system's files, lists and ports, and
+/// returns the exit status. `start` stands for what the office's file and its log contain when they are opened. The
 /// contract holds for every type `S` of `start`, and so for any contents.
 pub fn carry_out_over<'a, S: Start, R: Read, W: Write, E: Write>(
     rt: &HostRuntime,
@@ -93,7 +93,7 @@ pub fn carry_out_over<'a, S: Start, R: Read, W: Write, E: Write>(
     ensures no_wasted_error { StopsAtFailure error.old error.new }
     ensures carries_out { let list_access = list_access_of
         ⟦<SystemLists<'static> as Lists>⟧.opens ⟦<SystemLists<'static> as Lists>⟧.fails
-        ⟦<SystemLists<'static> as Lists>⟧.closes ⟦<File as Read>⟧.remaining in
+        ⟦<SystemLists<'static> as Lists>⟧.closes ⟦<File as Source>⟧.reads ⟦<File as Read>⟧.remaining in
         let access = file_access ⟦<FileStore<FileFrom<S>> as Store>⟧
         ⟦<SystemFiles<'static, S> as Files<FileStore<FileFrom<S>>>>⟧.opens ⟦<SystemFiles<'static, S> as Files<FileStore<FileFrom<S>>>>⟧.finds
         ⟦<SystemFiles<'static, S> as Files<FileStore<FileFrom<S>>>>⟧.fails ⟦<SystemFiles<'static, S> as Closes<Connection<FileStore<FileFrom<S>>>>>⟧.closes in
@@ -125,7 +125,7 @@ pub fn carry_out_over<'a, S: Start, R: Read, W: Write, E: Write>(
 
 /// Carries out these words, the arguments after the program's name, with any office files, lists and ports, and
 /// returns the exit status. A subcommand on an office file opens the file once. If the file opens, the subcommand
-/// closes it at the end, in the state in which its work left it, with no transaction open. Only `import` opens a
+/// closes it in the state in which its work left it, with no transaction open. Only `import` opens a
 /// list, and opens it once. If the list opens, `import` closes it in the state in which the last read left it.
 pub fn carry_out_from<
     'a,
@@ -153,7 +153,7 @@ pub fn carry_out_from<
     ensures no_wasted_read { StopsAtEnd input.old input.new }
     ensures no_wasted_write { StopsAtFailure output.old output.new }
     ensures no_wasted_error { StopsAtFailure error.old error.new }
-    ensures carries_out { let list_access = list_access_of L.opens L.fails L.closes L.List.remaining in
+    ensures carries_out { let list_access = list_access_of L.opens L.fails L.closes L.List.reads L.List.remaining in
         let access = file_access B.Store F.opens F.finds F.fails F.closes in
         let network = network_of
         P.Socket.Stream.reads P.Socket.Stream.writes P.Socket.Stream.flushes

@@ -14,7 +14,7 @@ use office_lines::print::print_unavailable;
 use office_lines::render::Response;
 use office_state::BYTE_LIMIT;
 use office_store::{Desk, Handler, Request, Unavailable};
-use room_types::{Label, ListKind, Listing, Watched};
+use room_types::{Label, ListKind, Listing, Source, Watched};
 use sqlite::Alter;
 use std::alloc::Global;
 use std::io::{Read, Write};
@@ -22,9 +22,9 @@ use std::io::{Read, Write};
 /// The greatest number of bytes read from a list: one more than a list may have, to notice a longer list.
 pub const LIST_LIMIT: usize = BYTE_LIMIT + 1;
 
-/// Imports the list at the path `list` under this label, at this desk. Opens the list once. If the list opens, closes
-/// it in the state in which the last read left it. If the list cannot be opened or read, or an allocation for its
-/// bytes fails, prints `unavailable`. Returns the exit status.
+/// Imports the list at the path `list` under this label, at this desk. Opens the list once. If the list opens, makes
+/// no call on it but the reads of `read_bytes`, and closes it in the state in which the last read left it. If the list
+/// cannot be opened or read, or an allocation for its bytes fails, prints `unavailable`. Returns the exit status.
 pub fn import_at<S: Alter, L: Lists, W: Write>(
     alloc: Global,
     desk: &mut Desk<S>,
@@ -36,7 +36,7 @@ pub fn import_at<S: Alter, L: Lists, W: Write>(
 ) -> u8
     requires fresh_output { IsFresh output.old }
     ensures no_wasted_write { StopsAtFailure output.old output.new }
-    ensures imports { let list_access = list_access_of L.opens L.fails L.closes L.List.remaining in
+    ensures imports { let list_access = list_access_of L.opens L.fails L.closes L.List.reads L.List.remaining in
         ImportsDesk S.Store list_access lists.old desk.old lists.new desk.new kind label list.now result
         (output_of W.contents output.old) (output_of W.contents output.new) }
 {
@@ -54,7 +54,7 @@ pub fn import_at<S: Alter, L: Lists, W: Write>(
 /// status of the answer. Returns 3 if the output or an allocation for the answer's text fails; the command has been
 /// handled even then. If the list cannot be read, or an allocation for its bytes fails, prints `unavailable`. Then
 /// the handler gets no command.
-pub fn import_list<H: Handler, R: Read, W: Write>(
+pub fn import_list<H: Handler, R: Source, W: Write>(
     alloc: Global,
     handler: &mut H,
     kind: ListKind,
@@ -68,8 +68,8 @@ pub fn import_list<H: Handler, R: Read, W: Write>(
     ensures few { watched_reads source.new ≤ list_limit }
     ensures no_wasted_read { StopsAtEnd source.old source.new }
     ensures no_wasted_write { StopsAtFailure output.old output.new }
-    ensures imports { ImportsFrom H.handles R.remaining handler.old kind label source.old source.new
-        result handler.new (output_of W.contents output.old) (output_of W.contents output.new) }
+    ensures imports { ImportsFrom H.handles R.reads R.remaining handler.old kind label source.old
+        source.new result handler.new (output_of W.contents output.old) (output_of W.contents output.new) }
     ensures ready { H.is_ready handler.new }
 {
     match read_bytes(alloc, source) {
@@ -83,15 +83,16 @@ pub fn import_list<H: Handler, R: Read, W: Write>(
     }
 }
 
-/// Reads the bytes of a list up to its end, but at most `LIST_LIMIT` of them.
+/// Reads the bytes of a list up to its end, but at most `LIST_LIMIT` of them. Makes no call on the list but these
+/// reads, and none after the first that fails.
 ///
 /// # Errors
 ///
 /// `Unavailable` if a read fails, or if an allocation for the bytes read fails.
-pub fn read_bytes<R: Read>(alloc: Global, source: &mut Watched<R>) -> Result<Vec<u8>, Unavailable>
+pub fn read_bytes<R: Source>(alloc: Global, source: &mut Watched<R>) -> Result<Vec<u8>, Unavailable>
     requires fresh { IsFresh source.old }
-    ensures reads { IfOk result (λ bytes. ReadsList R.remaining source.old source.new bytes.items) }
-    ensures cannot_read { OnErr result (CannotRead R.remaining source.old source.new) }
+    ensures reads { IfOk result (λ bytes. ReadsList R.reads R.remaining source.old source.new bytes.items) }
+    ensures cannot_read { OnErr result (CannotRead R.reads R.remaining source.old source.new) }
     ensures few { watched_reads source.new ≤ list_limit }
     ensures no_wasted_read { StopsAtEnd source.old source.new }
 {

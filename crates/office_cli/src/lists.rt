@@ -2,19 +2,18 @@
 ghost use Rattle.std.specs.Prelude.{⊤};
 
 use office_store::Unavailable;
-use room_types::Watched;
+use room_types::{Source, Watched};
 use std::fs::File;
-use std::io::Read;
 
 /// A store of lists: opens a list by its path, and closes it. The contract of each method is a relation between the
 /// states of the store before and after the call. Generic code can establish this relation only by making the call.
 pub trait Lists {
     ghost use Rattle.std.specs.Prelude.{IfOk, OnErr, ⊤};
-    ghost use Rattle.office_cli.specs.ListAccess.{IsUnread};
+    ghost use Rattle.resident_http.specs.server.Unused.{IsUnused};
     ghost use Rattle.room_types.specs.Texts.{Text};
     ghost use Rattle.room_types.specs.declared.watched.Watched.{Watched};
 
-    type List: Read + Drop;
+    type List: Source + Drop;
 
     /// Opening this path returned this list, and took the store from the first state to the second.
     ghost opens: { Self → Text → Watched Self.List → Self → Type 0 } = { λ _ _ _ _. ⊤ };
@@ -32,7 +31,7 @@ pub trait Lists {
     /// `Unavailable` if the path cannot be opened.
     fn open(&mut self, path: &str) -> Result<Watched<Self::List>, Unavailable>
         ensures opened { IfOk result (λ list. opens self.old path.now list self.new) }
-        ensures unread { IfOk result IsUnread }
+        ensures unused { IfOk result IsUnused }
         ensures failed { OnErr result (fails self.old path.now self.new) };
 
     /// Closes a list.

@@ -1,5 +1,6 @@
 -- Words that a desk handles are handled by the office that it represents, and a list that it imports is imported there.
-use Rattle.std.proofs.Common.{◌≡◌, ℕ, true, List, length, take, Option, inl, inr, refl, sym, subst, arith}
+use Rattle.std.proofs.Common.{◌≡◌, ℕ, true, List, length, take, Option, Result, inl, inr, refl, sym, subst, arith}
+use Rattle.std.specs.declared.io.Error.{Error}
 use Rattle.std.specs.Io.KnownBytes.{Keeps}
 use Rattle.std.proofs.lemmas.List.{take_all}
 use Rattle.sqlite.specs.Held.{state}
@@ -44,36 +45,36 @@ module _ {S : Type 0} (g : Ghosts S) where
   }
 
   -- the state of the database connection after an import follows the one before
-  list_follows : {R : Type 0} (remaining : R → Option (List ℕ)) (old new : DeskState S) (kind : ListKind) (label : Text) (source source' : Watched R) (status : ℕ) (out out' : Output)
-      → ImportsFrom (HandlesAt g) remaining old kind label source source' status new out out' → Follows (state g old.conn) (state g new.conn)
-  list_follows remaining old new kind label source source' status out out' (inl h) = h.2.1.follows
-  list_follows remaining old new kind label source source' status out out' (inr h) =
+  list_follows : {R : Type 0} (reads : R → List ℕ → List ℕ → Result ℕ Error → R → Type 0) (remaining : R → Option (List ℕ)) (old new : DeskState S) (kind : ListKind) (label : Text) (source source' : Watched R) (status : ℕ) (out out' : Output)
+      → ImportsFrom (HandlesAt g) reads remaining old kind label source source' status new out out' → Follows (state g old.conn) (state g new.conn)
+  list_follows reads remaining old new kind label source source' status out out' (inl h) = h.2.1.follows
+  list_follows reads remaining old new kind label source source' status out out' (inr h) =
       subst (λ desk. Follows (state g old.conn) (state g desk.conn)) (sym h.0) (follows-refl (state g old.conn))
 
-  list_represented : {R : Type 0} (remaining : R → Option (List ℕ)) (old new : DeskState S) (kind : ListKind) (label : Text) (source source' : Watched R) (status : ℕ) (out out' : Output)
-      → ImportsFrom (HandlesAt g) remaining old kind label source source' status new out out' → HasCleanDisk (state g new.conn) → (office : Office) → Represents g old office
-      → (next : Office) × ImportsFrom HandlesLawfully remaining office kind label source source' status next out out' × Represents g new next
-  list_represented remaining old new kind label source source' status out out' (inl h) clean office represents =
+  list_represented : {R : Type 0} (reads : R → List ℕ → List ℕ → Result ℕ Error → R → Type 0) (remaining : R → Option (List ℕ)) (old new : DeskState S) (kind : ListKind) (label : Text) (source source' : Watched R) (status : ℕ) (out out' : Output)
+      → ImportsFrom (HandlesAt g) reads remaining old kind label source source' status new out out' → HasCleanDisk (state g new.conn) → (office : Office) → Represents g old office
+      → (next : Office) × ImportsFrom HandlesLawfully reads remaining office kind label source source' status next out out' × Represents g new next
+  list_represented reads remaining old new kind label source source' status out out' (inl h) clean office represents =
       let step = step_represented g old new (import_request kind label h.0) h.2.0 h.2.1 clean office represents in
       (step.0, inl (h.0, h.1, (h.2.0, step.1, h.2.2)), step.2)
-  list_represented remaining old new kind label source source' status out out' (inr h) clean office represents =
+  list_represented reads remaining old new kind label source source' status out out' (inr h) clean office represents =
       (office, inr (refl, h.1, h.2), subst (λ desk. Represents g desk office) (sym h.0) represents)
 
   -- a list that was opened is imported at the desk
   pub opened_list : {L : Type 0} (list_access : ListAccess L) (lists : L) (old : DeskState S) (lists' : L) (new : DeskState S) (kind : ListKind) (label path : Text) (status : ℕ) (out out' : Output)
       → ImportsOpened (HandlesAt g) list_access lists old kind label path status lists' new out out' → ImportsDesk g list_access lists old lists' new kind label path status out out'
   opened_list list_access lists old lists' new kind label path status out out' h = record {
-    follows = list_follows list_access.remaining old new kind label h.source h.source' status out out' h.imports;
+    follows = list_follows list_access.reads list_access.remaining old new kind label h.source h.source' status out out' h.imports;
     handled = inl h;
     done = λ clean office represents.
-        let accepted = list_represented list_access.remaining old new kind label h.source h.source' status out out' h.imports clean office represents in (
+        let accepted = list_represented list_access.reads list_access.remaining old new kind label h.source h.source' status out out' h.imports clean office represents in (
           accepted.0,
           inl (record {
             source = h.source;
             source' = h.source';
             between = h.between;
             opened = h.opened;
-            unread = h.unread;
+            unused = h.unused;
             few = h.few;
             no_wasted_read = h.no_wasted_read;
             imports = accepted.1;

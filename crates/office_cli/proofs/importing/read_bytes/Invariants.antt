@@ -2,6 +2,7 @@ use Rattle.std.proofs.Common.{◌≡◌, ◌≤◌, ◌-◌, length}
 use Rattle.std.specs.Io.KnownBytes.{Consumes}
 use Rattle.room_types.specs.Watched.{StopsAtEnd, watched_ended, watched_failed, watched_inner, watched_reads}
 use Rattle.office_cli.specs.Importing.{list_limit}
+use Rattle.office_cli.specs.ListReads.{Reads}
 use Rattle.office_cli.proofs.importing.read_bytes.Given as goal
 
 -- All bytes read so far are stored, and each read returned at least one.
@@ -9,6 +10,7 @@ abbrev pub invariant-reads : goal.invariant-reads
 invariant-reads g l =
     let remaining = g.R.Read.remaining in
     record {
+      called : Reads g.R.Source.reads l.bytes.items (watched_inner l.fn.source) (watched_inner l.source);
       consumed : Consumes (remaining (watched_inner l.fn.source)) (remaining (watched_inner l.source)) l.bytes.items;
       bounded : length l.bytes.items ≤ list_limit;
       count : watched_reads l.source ≤ length l.bytes.items;
