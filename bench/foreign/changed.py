@@ -9,7 +9,7 @@ from pathlib import Path
 from foreign.constraints import BROKEN, VERSIONS
 from foreign.laws import LAWFUL, LAWS, Changed, Changes
 from foreign.offices import OFFICES
-from foreign.program import NOT_AN_OFFICE, Cases, Program, Surprise, expect, left_alone
+from foreign.program import NOT_AN_OFFICE, UNAVAILABLE, Cases, Program, Surprise, expect, left_alone
 from foreign.tables import WAYS, Rows, expect_rows, killed_with_a_log, opened, rows_in
 
 Attempt = Callable[[Program, Path, Path, Changed], None]
@@ -49,6 +49,9 @@ def refused(program: Program, file: Path, answer: str, log_may_change: bool = Fa
     with left_alone(file.parent, log_may_change):
         program.answers(file, "do round", answer)
         program.answers(file, "export people", answer)
+        if answer == UNAVAILABLE:  # the file is not even opened
+            program.answers(file, "new", answer)
+            program.answers(file, "migrate", answer)
 
 
 def try_refused(program: Program, folder: Path, source: Path, changed: Changed) -> None:
