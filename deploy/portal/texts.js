@@ -90,8 +90,8 @@ export const TEXTS = {
       homeless: "You never lose by asking. You get a room from your list, or none: so list every room that you would "
         + "take.",
     },
-    trueList: "A true list is a best list. Put the rooms in the order in which you want them: no other list gets you a "
-      + "room that you want more.",
+    trueList: "A true list is a best list. Put the rooms in the order in which you want them: no other list gets you "
+      + "one of these rooms that you want more.",
     handsInNothing: "If you hand in nothing, {outcome}.",
 
     roomsHeading: "Rooms",
@@ -305,7 +305,7 @@ export const TEXTS = {
         + "Zimmer, das Sie nehmen würden.",
     },
     trueList: "Eine ehrliche Liste ist die beste. Ordnen Sie die Zimmer so, wie Sie sie wirklich haben möchten: Mit "
-      + "keiner anderen Liste bekommen Sie ein Zimmer, das Sie lieber hätten.",
+      + "keiner anderen Liste bekommen Sie eines davon, das Sie lieber hätten.",
     handsInNothing: "Wenn Sie nichts abgeben, heißt das: {outcome}.",
 
     roomsHeading: "Zimmer",
