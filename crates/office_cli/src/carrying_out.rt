@@ -153,7 +153,8 @@ pub fn carry_out_from<
     ensures no_wasted_read { StopsAtEnd input.old input.new }
     ensures no_wasted_write { StopsAtFailure output.old output.new }
     ensures no_wasted_error { StopsAtFailure error.old error.new }
-    ensures carries_out { let list_access = list_access_of L.opens L.fails L.closes L.List.reads L.List.remaining in
+    ensures carries_out { let list_access = list_access_of
+        L.opens L.fails L.closes L.List.reads L.List.remaining in
         let access = file_access B.Store F.opens F.finds F.fails F.closes in
         let network = network_of
         P.Socket.Stream.reads P.Socket.Stream.writes P.Socket.Stream.flushes

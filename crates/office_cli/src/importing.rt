@@ -36,7 +36,8 @@ pub fn import_at<S: Alter, L: Lists, W: Write>(
 ) -> u8
     requires fresh_output { IsFresh output.old }
     ensures no_wasted_write { StopsAtFailure output.old output.new }
-    ensures imports { let list_access = list_access_of L.opens L.fails L.closes L.List.reads L.List.remaining in
+    ensures imports { let list_access = list_access_of
+        L.opens L.fails L.closes L.List.reads L.List.remaining in
         ImportsDesk S.Store list_access lists.old desk.old lists.new desk.new kind label list.now result
         (output_of W.contents output.old) (output_of W.contents output.new) }
 {
@@ -91,7 +92,8 @@ pub fn import_list<H: Handler, R: Source, W: Write>(
 /// `Unavailable` if a read fails, or if an allocation for the bytes read fails.
 pub fn read_bytes<R: Source>(alloc: Global, source: &mut Watched<R>) -> Result<Vec<u8>, Unavailable>
     requires fresh { IsFresh source.old }
-    ensures reads { IfOk result (λ bytes. ReadsList R.reads R.remaining source.old source.new bytes.items) }
+    ensures reads { IfOk result (λ bytes.
+        ReadsList R.reads R.remaining source.old source.new bytes.items) }
     ensures cannot_read { OnErr result (CannotRead R.reads R.remaining source.old source.new) }
     ensures few { watched_reads source.new ≤ list_limit }
     ensures no_wasted_read { StopsAtEnd source.old source.new }

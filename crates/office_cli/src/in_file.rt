@@ -129,7 +129,8 @@ pub fn perform<S: Alter, L: Lists, P: Ports, W: Write>(
 ) -> u8
     requires fresh_output { IsFresh output.old }
     ensures no_wasted_write { StopsAtFailure output.old output.new }
-    ensures performs { let list_access = list_access_of L.opens L.fails L.closes L.List.reads L.List.remaining in
+    ensures performs { let list_access = list_access_of
+        L.opens L.fails L.closes L.List.reads L.List.remaining in
         let network = network_of
         P.Socket.Stream.reads P.Socket.Stream.writes P.Socket.Stream.flushes
         P.Socket.Stream.remaining P.Socket.Stream.contents

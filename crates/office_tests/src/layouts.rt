@@ -30,8 +30,9 @@ const MOVE: &str = "CREATE TABLE move(round INTEGER NOT NULL, person TEXT NOT NU
 const LIST: &str = "CREATE TABLE list(label TEXT PRIMARY KEY NOT NULL, kind TEXT NOT NULL,
   body BLOB NOT NULL, added INTEGER NOT NULL) STRICT;";
 
-const GRADE: &str = "CREATE TABLE grade(person TEXT PRIMARY KEY NOT NULL REFERENCES person(id),
-  value INTEGER NOT NULL CHECK(value IN (1,2,3,4,5,6,7,8,9))) STRICT;";
+// The program breaks this statement into two lines. White space makes no difference to what it declares.
+const GRADE: &str =
+    "CREATE TABLE grade(person TEXT PRIMARY KEY NOT NULL REFERENCES person(id), value INTEGER NOT NULL CHECK(value IN (1,2,3,4,5,6,7,8,9))) STRICT;";
 
 const GOING: &str =
     "CREATE TABLE going(person TEXT PRIMARY KEY NOT NULL REFERENCES person(id)) STRICT;";

@@ -103,7 +103,7 @@ pub const REFUSALS: [(&str, &str); 72] = [
 
 /// A script of commands and queries about grades and leavers, some of which the office refuses. The people are two
 /// tenants and a newcomer.
-pub const GRADES_AND_LEAVERS: [(&str, &str); 60] = [
+pub const GRADES_AND_LEAVERS: [(&str, &str); 63] = [
     ("room H1", "ok\n"),
     ("room H2", "ok\n"),
     ("person T key000000000000t Tim", "ok\n"),
@@ -179,6 +179,10 @@ pub const GRADES_AND_LEAVERS: [(&str, &str); 60] = [
     ("remove N", "ok\n"),
     ("person N key000000000000n Nia", "ok\n"),
     ("round", "round 2 idle people 3 withdrawn 0\n"),
+    // A tenant who has withdrawn cannot leave.
+    ("open", "round 3 open\n"),
+    ("withdraw U", "withdrawn\n"),
+    ("going U", "refused 11 Withdrawn\n"),
 ];
 
 #[test]

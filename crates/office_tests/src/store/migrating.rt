@@ -124,7 +124,7 @@ const FAULTS: [(&str, &str, DeskFault); 7] = [
     ),
 ];
 
-const FIRST_FAULTS: [(&str, &str, DeskFault); 6] = [
+const FIRST_FAULTS: [(&str, &str, DeskFault); 8] = [
     (
         "UPDATE round SET version = 9",
         "UPDATE round SET version = 1",
@@ -154,6 +154,17 @@ const FIRST_FAULTS: [(&str, &str, DeskFault); 6] = [
         "CREATE TABLE grade(text TEXT); DELETE FROM word WHERE person = 'N'",
         "DROP TABLE grade; INSERT INTO word VALUES ('N', '0000000000000003')",
         DeskFault::NotAnOffice,
+    ),
+    // The version comes before the taken name and before the rows.
+    (
+        "CREATE TABLE grade(text TEXT); UPDATE round SET version = 9",
+        "DROP TABLE grade; UPDATE round SET version = 1",
+        DeskFault::OtherVersion(9),
+    ),
+    (
+        "DELETE FROM word WHERE person = 'N'; UPDATE round SET version = 9",
+        "INSERT INTO word VALUES ('N', '0000000000000003'); UPDATE round SET version = 1",
+        DeskFault::OtherVersion(9),
     ),
 ];
 

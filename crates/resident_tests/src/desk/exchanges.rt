@@ -199,9 +199,14 @@ const WITHDRAWALS: [Step; 3] = [
     ),
 ];
 
-// While the round is open, the office records that T2, who has a home, leaves the college. After that T2 can neither
-// hand in a list nor withdraw. T2 still sees the recorded list, but no result.
-const LEAVING: [Step; 9] = [
+// While the round is open, the office records that T2, who has a home, leaves the college. T2 has no request for this.
+// After that T2 can neither hand in a list nor withdraw. T2 still sees the recorded list, but no result.
+const LEAVING: [Step; 10] = [
+    Step::Exchange(
+        "POST /me/going HTTP/1.1\r\nHost: a\r\nRoom-Key: key00000000000t2\r\n\r\n",
+        404,
+        "{\"error\":\"NotFound\"}",
+    ),
     Step::Office("going T2\n"),
     Step::Exchange(
         "PUT /me/choices HTTP/1.1\r\nHost: a\r\nRoom-Key: key00000000000t2\r\nContent-Length: 5\r\n\r\n[\"V\"]",
