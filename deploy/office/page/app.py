@@ -27,6 +27,7 @@ from office_view import Office
 HERE = Path(__file__).resolve().parent
 LONGEST_LIST = 262_144
 LONGEST_FORM = 400_000
+UNAVAILABLE = 3  # the program's status if the file, the disk or the memory failed
 HEADERS = {
     "Content-Security-Policy": "default-src 'none'; style-src 'self'; img-src data:; form-action 'self'; "
                                "base-uri 'none'; frame-ancestors 'none'",
@@ -146,10 +147,13 @@ def change(question: str, **fields: Any) -> bool:
         tell("bad", f"This could not be done. {fault}")
         return False
     answers = keeper_client.answers_of(reply)
+    last = answers[-1]
     if not reply["done"]:
-        tell("bad", f"Nothing was changed. {plain.meaning(answers[-1].text)}")
+        # If the file, the disk or the memory failed, the change may have been made: then `meaning` says to look.
+        unchanged = "" if last.status == UNAVAILABLE else "Nothing was changed. "
+        tell("bad", f"{unchanged}{plain.meaning(last.text)}")
         return False
-    tell("good", plain.done(answers[-1].text))
+    tell("good", plain.done(last.text))
     return True
 
 
