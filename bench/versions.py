@@ -9,6 +9,7 @@ import sys
 import tempfile
 from pathlib import Path
 
+from growth import instructions
 from lists import COUNT, PART, Office, name_of, person_of, room_of, write_choices, write_list
 
 LISTED = 40
@@ -29,7 +30,7 @@ def timed(line, given=b""):
 
 
 def compare(what, lines, given=b"", prepare=lambda: None):
-    """Times the programs by turns, and prints the medians."""
+    """Times the programs by turns, and prints the medians. With valgrind it also counts the instructions of one run each."""
     took = [[], []]
     for _ in range(TURNS):
         answers = []
@@ -41,6 +42,13 @@ def compare(what, lines, given=b"", prepare=lambda: None):
         assert answers[0] == answers[1], what
     this, earlier = map(statistics.median, took)
     print(f"{what:20} this {this:6.3f} s, the earlier {earlier:6.3f} s, {this / earlier:4.2f} times", flush=True)
+    if shutil.which("valgrind"):
+        counts = []
+        for line in lines:
+            prepare()
+            counts.append(instructions(line, given.decode()))
+        this, earlier = counts
+        print(f"{'':20} this {this:6.2f} G, the earlier {earlier:6.2f} G instructions, {this / earlier:5.3f} times", flush=True)
 
 
 def filled(program, folder):
