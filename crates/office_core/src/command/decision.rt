@@ -37,8 +37,6 @@ pub(crate) fn decision_of_two(
     ensures ok { IfOk result (λ d. (d.reply ≡ reply) × (d.changes.items ≡ first ∷ second ∷ [])) }
     ensures err { IfErr result (λ refusal. refusal ≡ Refusal.OutOfMemory) }
 {
-    let mut changes = Vec::new(alloc);
-    changes.push(first)?;
-    changes.push(second)?;
+    let changes = vec![in alloc; first, second]?;
     Ok(Decision { reply, changes })
 }

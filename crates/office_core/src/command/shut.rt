@@ -27,19 +27,24 @@ pub fn shut(alloc: Global, office: &Office, room: &RoomCode) -> Result<Decision,
         return Err(Refusal::BadPhase(office.phase));
     }
     may_list(office, room)?;
-    let closed = Change::PutRoom {
-        room: room.copy()?,
-        shut: true,
-    };
+    let code = room.copy()?;
     match office.tenant(room) {
         Some(tenant) => {
-            let left = Change::PutHome {
-                person: tenant.copy()?,
-                home: None,
-            };
+            let person = tenant.copy()?;
             let displaced = Some(tenant.copy()?);
+            let left = Change::PutHome { person, home: None };
+            let closed = Change::PutRoom {
+                room: code,
+                shut: true,
+            };
             decision_of_two(alloc, Reply::Shut { displaced }, left, closed)
         }
-        None => decision_of_one(alloc, Reply::Shut { displaced: None }, closed),
+        None => {
+            let closed = Change::PutRoom {
+                room: code,
+                shut: true,
+            };
+            decision_of_one(alloc, Reply::Shut { displaced: None }, closed)
+        }
     }
 }
