@@ -1,4 +1,6 @@
 //! Adds a person, perhaps with a home.
+ghost use Rattle.std.specs.Prelude.{◌≡◌, IfOk};
+ghost use Rattle.office_state.specs.declared.change.Change.TheVariants.{PutPerson};
 ghost use Rattle.office_core.specs.Command.Decision.{IsDecided};
 ghost use Rattle.office_core.specs.Command.AddPerson.{checks, reply_to, changes_of};
 
@@ -9,7 +11,7 @@ use crate::reply::Reply;
 use office_state::phases::is_preparing;
 use office_state::{Change, Office, PEOPLE_LIMIT};
 use room_types::rows::copy_optional;
-use room_types::{Key, Name, PersonId, RoomCode};
+use room_types::{Key, Name, OutOfMemory, PersonId, RoomCode};
 use std::alloc::Global;
 
 /// Decides to add a person, with the home if there is one. Scans the people.
@@ -45,11 +47,24 @@ pub fn add_person(
     if office.people.len() >= PEOPLE_LIMIT {
         return Err(Refusal::LimitReached);
     }
-    let change = Change::PutPerson {
+    let change = person_change(person, name, key, home)?;
+    decision_of_one(alloc, Reply::Done, change)
+}
+
+// Returns the change that adds a person. Fails only if an allocation fails.
+pub(crate) fn person_change(
+    person: &PersonId,
+    name: &Name,
+    key: &Key,
+    home: &Option<RoomCode>,
+) -> Result<Change, OutOfMemory>
+    ensures { IfOk result (λ change.
+        change ≡ PutPerson person.now name.now key.now home.now) }
+{
+    Ok(Change::PutPerson {
         person: person.copy()?,
         name: name.copy()?,
         key: key.copy()?,
         home: copy_optional(home)?,
-    };
-    decision_of_one(alloc, Reply::Done, change)
+    })
 }

@@ -13,7 +13,7 @@ use office_state::round::round_results;
 use office_state::{Assigned, Change, Office};
 use room_types::grammars::PersonIds;
 use room_types::rows::copy_optional;
-use room_types::{OutOfMemory, Phase, Table};
+use room_types::{OutOfMemory, PersonId, Phase, Table};
 use std::alloc::Global;
 
 /// Decides to run the exchange. Each participant's result is the room that top trading cycles assign to them in the
@@ -53,10 +53,17 @@ fn result_changes(
 {
     let mut changes = Vec::new(alloc);
     for (id, given) in results.iter() {
-        changes.push(Change::PutResult {
-            person: id.copy()?,
-            room: copy_optional(&given.room)?,
-        })?;
+        changes.push(result_change(id, given)?)?;
     }
     Ok(changes)
+}
+
+// Returns the change that records a result. Fails only if an allocation fails.
+fn result_change(person: &PersonId, given: &Assigned) -> Result<Change, OutOfMemory>
+    ensures { IfOk result (λ change. change ≡ result_change (person.now, given.now)) }
+{
+    Ok(Change::PutResult {
+        person: person.copy()?,
+        room: copy_optional(&given.room)?,
+    })
 }

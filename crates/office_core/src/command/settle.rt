@@ -87,15 +87,28 @@ fn moves_with(
 {
     let mut moves = Vec::new(alloc);
     for (i, relocation) in relocations.iter().enumerate() {
-        moves.push(Move {
-            round,
-            person: relocation.0.copy()?,
-            from: copy_optional(&relocation.1)?,
-            to: copy_optional(&relocation.2)?,
-            wave: waves[i],
-        })?;
+        moves.push(move_of(round, relocation, waves[i])?)?;
     }
     Ok(moves)
+}
+
+// Returns the move of a relocation in this wave. Fails only if an allocation fails.
+fn move_of(round: u16, relocation: &Relocation, wave: Wave) -> Result<Move, OutOfMemory>
+    ensures { IfOk result (λ moved. moved ≡ record {
+      round = round;
+      person = relocation.now.0;
+      from = relocation.now.1;
+      to = relocation.now.2;
+      wave = wave;
+    }) }
+{
+    Ok(Move {
+        round,
+        person: relocation.0.copy()?,
+        from: copy_optional(&relocation.1)?,
+        to: copy_optional(&relocation.2)?,
+        wave,
+    })
 }
 
 // Appends the changes by which people leave their old rooms before anybody arrives. Those who move into no room come

@@ -2,13 +2,13 @@
 ghost use Rattle.std.specs.Prelude.{◌≡◌, IfOk, OnErr, false};
 ghost use Rattle.office_state.specs.Empty.{is_empty};
 ghost use Rattle.office_core.specs.Query.Answer.{IsAnswered};
-ghost use Rattle.office_core.specs.Query.Moves.{returned, move_rows};
+ghost use Rattle.office_core.specs.Query.Moves.{returned, move_row, move_rows};
 
 use crate::refusal::Refusal;
 use crate::reply::Reply;
-use office_state::Office;
+use office_state::{Moved, Office};
 use room_types::rows::copy_optional;
-use room_types::{Listing, Move, OutOfMemory};
+use room_types::{Listing, Move, OutOfMemory, PersonId};
 use std::alloc::Global;
 
 /// Returns the moves of this round, sorted by the person's identifier. A cancelled round has no moves.
@@ -37,13 +37,20 @@ fn move_rows(alloc: Global, office: &Office, round: u16) -> Result<Vec<Move>, Ou
         return Ok(rows);
     };
     for (id, moved) in moves.by_person.iter() {
-        rows.push(Move {
-            round,
-            person: id.copy()?,
-            from: copy_optional(&moved.from)?,
-            to: copy_optional(&moved.to)?,
-            wave: moved.wave,
-        })?;
+        rows.push(move_row(round, id, moved)?)?;
     }
     Ok(rows)
+}
+
+// Returns the row of a move. Fails only if an allocation fails.
+fn move_row(round: u16, id: &PersonId, moved: &Moved) -> Result<Move, OutOfMemory>
+    ensures { IfOk result (λ row. row ≡ move_row round (id.now, moved.now)) }
+{
+    Ok(Move {
+        round,
+        person: id.copy()?,
+        from: copy_optional(&moved.from)?,
+        to: copy_optional(&moved.to)?,
+        wave: moved.wave,
+    })
 }

@@ -6,6 +6,7 @@ ghost use Rattle.office_core.specs.Inner.Passes.{Passes};
 ghost use Rattle.office_core.specs.Inner.Tries.{AreAdded, AreAllowed, IsIndexed, IsOrOutOfMemory};
 ghost use Rattle.office_core.specs.Refusal.Checks.{home_checks_if_any};
 
+use crate::command::add_person::person_change;
 use crate::command::import::denial::denial_of;
 use crate::command::import::register::Register;
 use crate::refusal::Refusal;
@@ -13,8 +14,7 @@ use crate::refusal::rooms::may_list;
 use office_lists::{PersonEntry, read_people};
 use office_state::phases::is_preparing;
 use office_state::{Change, Office, PEOPLE_LIMIT};
-use room_types::rows::copy_optional;
-use room_types::{OutOfMemory, RoomCode};
+use room_types::RoomCode;
 use std::alloc::Global;
 
 /// Parses and checks a list of people. Does not change the office. Returns one change for each record; the change
@@ -55,7 +55,7 @@ fn each_person_added(
             return Err(denial_of(i, &refusal));
         }
         register.add(entry)?;
-        let change = imported_person_change(entry)?;
+        let change = person_change(&entry.person, &entry.name, &entry.key, &entry.home)?;
         changes.push(change)?;
     }
     Ok(changes)
@@ -104,16 +104,4 @@ fn may_have_home(
         return Err(Refusal::RoomTaken);
     }
     Ok(())
-}
-
-// Returns the change that adds the person of this entry.
-fn imported_person_change(entry: &PersonEntry) -> Result<Change, OutOfMemory>
-    ensures { IfOk result (λ change. change ≡ person_command.change entry.now) }
-{
-    Ok(Change::PutPerson {
-        person: entry.person.copy()?,
-        name: entry.name.copy()?,
-        key: entry.key.copy()?,
-        home: copy_optional(&entry.home)?,
-    })
 }
