@@ -176,13 +176,26 @@ def take_over(crate):
         # A check that works there may remove some files meanwhile. The others serve: no file is used before it is compared.
         with suppress(OSError):
             shutil.copytree(crate.folder / KEPT, crate.room / KEPT, copy_function=link_kept)
-        if is_free:
-            with suppress(OSError):
-                shutil.copytree(crate.folder / BUILT, crate.room / BUILT, copy_function=link)
+        if not link_built(crate, is_free):
+            remove(crate.room / BUILT)
     for name in PROGRAM_FILES:
         # A copy: the linker may write into the file.
         with suppress(OSError):
             shutil.copy2(crate.folder / name, crate.room / name)
+
+
+def link_built(crate, is_free):
+    """Gives a crate's place the library that the checkout has, and returns whether all of it came. A build, if one may be under
+    way, removes the stamp soon after it begins, and writes another one last."""
+    stamp = crate.folder / BUILT / "stamp"
+    with suppress(OSError):
+        was = os.stat(stamp)
+        shutil.copytree(crate.folder / BUILT, crate.room / BUILT, copy_function=link)
+        if not is_free:
+            time.sleep(0.5)
+        now = os.stat(stamp)
+        return (was.st_ino, was.st_mtime_ns) == (now.st_ino, now.st_mtime_ns)
+    return False
 
 
 def put(new, crate, part):
