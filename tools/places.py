@@ -209,6 +209,15 @@ def put(new, crate, part):
     remove(aside)
 
 
+def is_new(crate):
+    """Whether the crate's library in its place is another one than that of the checkout; for the program, always."""
+    stamp = f"{BUILT}/stamp"
+    try:
+        return not os.path.samefile(crate.room / stamp, crate.folder / stamp)
+    except OSError:
+        return True
+
+
 def hand_over(crate):
     """Gives the checkout what was proved and built of a crate, and returns whether that could be."""
     with locked(crate) as is_free:
