@@ -29,7 +29,7 @@ def work_folder():
     git = TOP / ".git"
     if git.is_file():
         git = TOP / git.read_text(encoding="utf-8").strip().removeprefix("gitdir: ")
-    return (git if git.is_dir() else LOGS) / "launch"
+    return git / "launch" if git.is_dir() else LOGS
 
 
 SOURCES = work_folder() / "sources"
