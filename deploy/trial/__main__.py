@@ -16,9 +16,11 @@ from burst import try_burst
 from copying import try_copying
 from earlier import try_earlier
 from full import try_full
+from guessing import try_guessing
 from keeping import try_keeping
 from kills import try_kills
 from limits import try_limits
+from memory import try_memory
 from office_doors import try_office_doors
 from office_page import try_office_page
 from page import try_page
@@ -39,11 +41,13 @@ if __name__ == "__main__":
     try_copying(sys.argv[1])
     try_full(sys.argv[1])
     try_signing(sys.argv[1])
+    try_guessing(sys.argv[1])
     try_page(sys.argv[1], folder)
     try_office_page(sys.argv[1], folder)
     try_office_doors(sys.argv[1])
     try_burst(sys.argv[1])
     try_limits(sys.argv[1])
+    try_memory(sys.argv[1])
     try_stall(sys.argv[1])
     try_waits(sys.argv[1])
     print("all is as it should be")

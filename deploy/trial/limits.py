@@ -12,6 +12,7 @@ import tempfile
 import time
 from pathlib import Path
 
+from http2 import Http2
 from stand import DEPLOY, HOST, Stand, check, key_of, unchecked
 
 FIELDS = f"Host: {HOST}\r\nRoom-Key: {key_of('T1')}\r\n"
@@ -21,7 +22,7 @@ LIMIT = 1500
 MORE = 700
 WINDOW = 10
 # So many connections one address may have.
-OPEN = 400
+OPEN = 250
 
 
 def connected(stand, source="127.0.0.1"):
@@ -56,7 +57,7 @@ def slow_ones(stand):
             first_line(other) == "HTTP/1.1 200 OK" and time.monotonic() - began < 2,
         )
     slow = first_line(held[0]), first_line(held[-1])
-    check("they are dropped after ten seconds", time.monotonic() - began < 15 and "200" not in "".join(slow), slow)
+    check("they are dropped after five seconds", time.monotonic() - began < 15 and "200" not in "".join(slow), slow)
     for connection in held:
         connection.close()
 
@@ -71,6 +72,21 @@ def sizes(stand):
             )
             told = first_line(connection)
             check(f"a body of {length} bytes is answered {wanted[-3:]}", told.startswith(wanted), told)
+    for length, wanted in ((2, "HTTP/1.1 200"), (1025, "HTTP/1.1 413")):
+        with connected(stand) as connection:
+            body = b"[" + b" " * (length - 2) + b"]"
+            chunks = b"1\r\n[\r\n%x\r\n%s\r\n0\r\n\r\n" % (length - 1, body[1:])
+            connection.sendall(f"PUT /me/choices HTTP/1.1\r\n{FIELDS}Transfer-Encoding: chunked\r\n\r\n".encode() + chunks)
+            told = first_line(connection)
+            check(f"{length} bytes in chunks are answered {wanted[-3:]}", told.startswith(wanted), told)
+        with Http2(stand) as connection:
+            stream = connection.ask("PUT", "/me/choices", ("room-key", key_of("T1")), body=body)
+            connection.take(20, until=stream)
+            told = connection.statuses.get(stream)
+            check(f"{length} bytes without their length over HTTP/2, too", told == int(wanted[-3:]), told)
+    with connected(stand) as connection:
+        connection.sendall(f"GET /me HTTP/1.1\r\n{FIELDS}X-Long: {'x' * 8192}\r\n\r\n".encode())
+        check("a head of more than 8,192 bytes is answered 431", " 431 " in first_line(connection))
     with connected(stand) as connection:
         connection.sendall(f"GET /other HTTP/1.1\r\n{FIELDS}\r\n".encode())
         check("no other path comes to the server", first_line(connection) == "HTTP/1.1 404 Not Found")

@@ -1,5 +1,5 @@
 """How clerks sign in at the proxy, and what of it comes to the office's page. A stub replaces the page, and reports
-what it was sent.
+what it was sent. guessing.py tries passwords that are guessed.
 
 This run alone: /usr/bin/python3 deploy/trial/signing.py PROGRAM
 """
@@ -12,6 +12,7 @@ import socketserver
 import sys
 import threading
 
+from http2 import Http2
 from stand import CLERKS, HOST, Stand, check, has_ipv6, unchecked
 
 
@@ -77,14 +78,26 @@ def doors(stand):
         "Content-Security-Policy" not in fields and fields["Cache-Control"] == "no-store",
     )
     check("what only begins so is no page of the office", asked(stand, "/officer", clerk="anna")[0] == 404)
-    status, _, text = asked(stand, "/office/lists", method="POST", clerk="bert", body=b"x" * 250_000)
-    check("a list of 250,000 bytes comes through", status == 200 and json.loads(text)["length"] == 250_000, status)
+    check("residents are asked for no password", asked(stand, "/", X_Office_User="root")[0] == 200)
+
+
+def long_lists(stand):
+    """Lists that are too long for an office come to the page, which tells the clerk so."""
+    for length in (250_000, 1_000_000):
+        status, _, text = asked(stand, "/office/lists", method="POST", clerk="bert", body=b"x" * length)
+        check(f"{length} bytes come through", status == 200 and json.loads(text)["length"] == length, status)
+        with Http2(stand) as connection:
+            word = base64.b64encode(f"bert:{CLERKS['bert']}".encode()).decode()
+            fields = ("authorization", f"Basic {word}"), ("content-length", str(length))
+            stream = connection.upload("/office/lists", *fields, body=b"x" * length)
+            connection.take(20, until=stream)
+        told = connection.statuses.get(stream), json.loads(connection.bodies.get(stream, b"{}"))
+        check("also over HTTP/2", told[0] == 200 and told[1].get("length") == length, (told, connection.reset))
     # Only the beginning is sent: the proxy answers, and closes the connection.
     status, _, _ = asked(
-        stand, "/office/lists", method="POST", clerk="bert", body=b"x" * 140_000, Content_Length="300001"
+        stand, "/office/lists", method="POST", clerk="bert", body=b"x" * 1000, Content_Length="5000001"
     )
-    check("and one of more than 300,000 does not", status == 413, status)
-    check("residents are asked for no password", asked(stand, "/", X_Office_User="root")[0] == 200)
+    check("and more than 5,000,000 do not", status == 413, status)
 
 
 def over_ipv6(stand):
@@ -95,25 +108,10 @@ def over_ipv6(stand):
     check("the residents' page comes over IPv6", asked(stand, "/", source="::1")[0] == 200)
     check("the office's page asks for a password", asked(stand, "/office/", source="::1")[0] == 401)
     check("and takes it", asked(stand, "/office/", clerk="anna", source="::1")[0] == 200)
-    tries = [asked(stand, "/office/", clerk="anna", password="guess", source="::1")[0] for _ in range(25)]
-    check("an address of IPv6 has to wait after 20 wrong ones", tries[:15] == [401] * 15 and tries[-1] == 429, tries)
-    check("but no address of IPv4", asked(stand, "/office/", clerk="anna")[0] == 200)
-
-
-def guesses(stand):
-    """Many wrong passwords from one address."""
-    statuses = [
-        asked(stand, "/office/", clerk="anna", password=f"guess {number}", source="127.0.0.7")[0]
-        for number in range(25)
-    ]
-    check(
-        "after 20 wrong passwords an address has to wait",
-        statuses[:15] == [401] * 15 and statuses[-1] == 429,
-        statuses,
-    )
-    check("also with the right one", asked(stand, "/office/", clerk="anna", source="127.0.0.7")[0] == 429)
-    check("but no other address has to", asked(stand, "/office/", clerk="anna")[0] == 200)
-    check("and residents of this address go on", asked(stand, "/", source="127.0.0.7")[0] == 200)
+    tries = [asked(stand, "/office/", clerk="anna", password="guess", source="::1")[0] for _ in range(15)]
+    check("an address of IPv6 has a limit on passwords", tries[:5] == [401] * 5 and tries[-1] == 429, tries)
+    tries = [asked(stand, "/office/", clerk="anna", password="guess")[0] for _ in range(2)]
+    check("of its own", tries == [401] * 2, tries)
 
 
 def try_signing(program):
@@ -123,8 +121,8 @@ def try_signing(program):
         page = Page(stand.environment["ROOMS_PAGE_SOCKET"], Stub)
         threading.Thread(target=page.serve_forever, daemon=True).start()
         doors(stand)
+        long_lists(stand)
         over_ipv6(stand)
-        guesses(stand)
         page.shutdown()
         page.server_close()
         log = stand.proxy_log()

@@ -231,7 +231,8 @@ class Stand:  # pylint: disable=too-many-instance-attributes,too-many-public-met
         self.make_certificate()
         text = (DEPLOY / "haproxy.cfg").read_text(encoding="utf-8")
         for old, new in [
-            ("    log /dev/log local0\n    user haproxy\n    group haproxy\n", "    log stdout format raw local0\n"),
+            ("    log /dev/log local0 ", "    log stdout format raw local0 "),
+            ("    user haproxy\n    group haproxy\n", ""),
             ("bind :::80 v4v6\n", f"bind 127.0.0.1:{self.plain_port}\n"),
             ("bind :::443 v4v6 ", f"bind {self.addresses()} "),
             ("/etc/haproxy/rooms.pem", str(self.folder / "rooms.pem")),
