@@ -24,7 +24,7 @@ class Settings:  # pylint: disable=too-many-instance-attributes  # each is a set
 
     file: Path                # the office's file
     program: str              # the program `rooms`
-    port: int                 # the port of `rooms serve` on 127.0.0.1
+    port: int                 # the port of `rooms serve` on 127.0.0.1, below those that any account may have
     socket: Path              # the keeper's socket, if systemd does not open it
     scratch: Path             # a folder in memory for copies: they have everybody's key
     speakers: frozenset[str]  # accounts that may say for whom they act; every other account acts for itself
@@ -53,7 +53,7 @@ def from_environment() -> Settings:
     return Settings(
         file=Path(variables.get("ROOMS_FILE", "/var/lib/rooms/rooms.db")),
         program=variables.get("ROOMS_PROGRAM", found),
-        port=int(variables.get("ROOMS_PORT", "8080")),
+        port=int(variables.get("ROOMS_PORT", "290")),
         socket=Path(variables.get("ROOMS_SOCKET", "/run/rooms-keeper.sock")),
         scratch=Path(variables.get("ROOMS_SCRATCH", "/run/rooms/copies")),
         speakers=frozenset(variables.get("ROOMS_SPEAKERS", "rooms-page").split()),

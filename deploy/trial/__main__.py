@@ -25,6 +25,7 @@ from office_doors import try_office_doors
 from office_page import try_office_page
 from page import try_page
 from parts import try_parts
+from port import try_port
 from signing import try_signing
 from stall import try_stall
 from waits import try_waits
@@ -48,6 +49,7 @@ if __name__ == "__main__":
     try_burst(sys.argv[1])
     try_limits(sys.argv[1])
     try_memory(sys.argv[1])
+    try_port(sys.argv[1])
     try_stall(sys.argv[1])
     try_waits(sys.argv[1])
     print("all is as it should be")

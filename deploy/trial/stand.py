@@ -169,6 +169,10 @@ class Stand:  # pylint: disable=too-many-instance-attributes,too-many-public-met
     def start_keeper(self):
         """Starts the keeper, and waits until it answers."""
         self.keeper = self.launch("keeper", PYTHON, str(OFFICE / "keeper.py"))
+        self.wait_for_keeper()
+
+    def wait_for_keeper(self):
+        """Waits until the keeper answers."""
         until(self.keeper_answers, 30, "the keeper")
 
     def keeper_answers(self):
@@ -236,7 +240,7 @@ class Stand:  # pylint: disable=too-many-instance-attributes,too-many-public-met
             ("bind :::80 v4v6\n", f"bind 127.0.0.1:{self.plain_port}\n"),
             ("bind :::443 v4v6 ", f"bind {self.addresses()} "),
             ("/etc/haproxy/rooms.pem", str(self.folder / "rooms.pem")),
-            ("127.0.0.1:8080", f"127.0.0.1:{self.server_port}"),
+            ("127.0.0.1:290 ", f"127.0.0.1:{self.server_port} "),
             ("/run/rooms-page.sock", self.environment["ROOMS_PAGE_SOCKET"]),
             ("    # user anna password $6$..\n", self.userlist()),
             *changes,

@@ -25,7 +25,7 @@ must() {
 # The resident T1 hands in a list, to the server itself, which may not have begun yet after a line of the office.
 hand_in() {
     [ "$(curl -s -o /dev/null -w '%{http_code}' --max-time 60 -X PUT -H "Room-Key: $key" -d "$1" \
-        http://127.0.0.1:8080/me/choices)" = 200 ]
+        http://127.0.0.1:290/me/choices)" = 200 ]
 }
 
 install_office() {
@@ -42,7 +42,7 @@ install_office() {
 
 # The resident's record.
 ask_me() {
-    curl -sf --max-time 60 -H "Room-Key: $key" http://127.0.0.1:8080/me
+    curl -sf --max-time 60 -H "Room-Key: $key" http://127.0.0.1:290/me
 }
 
 # Rooms as A,B, then what T1 has on their list as A-B, and whether sqlite3 finds the file and the last copy whole.

@@ -60,7 +60,12 @@ start_office() {
     same "rooms new" "ok" "$(runuser -u rooms -- rooms new --db $file)"
     try "start" systemctl start "${units[@]}"
     same "all are active" "active active active active" "$(systemctl is-active "${units[@]}" | xargs)"
-    try "the server listens" within 60 sh -c 'ss -ltn | grep -q 127.0.0.1:8080'
+    try "the server listens" within 60 sh -c 'ss -ltn | grep -q 127.0.0.1:290'
+    same "no other account can have its port" 1024 "$(cat /proc/sys/net/ipv4/ip_unprivileged_port_start)"
+    like "nor can one try" "*Permission denied*" "$(runuser -u nobody -- /usr/bin/python3 -c \
+        'import socket; socket.socket().bind(("127.0.0.1", 290))' 2>&1)"
+    same "the keeper has this one capability" 0000000000000400 "$(awk '/^CapEff/ { print $2 }' \
+        "/proc/$(systemctl show -p MainPID --value rooms-keeper.service)/status")"
     for unit in rooms-keeper rooms-page; do
         local process
         process=$(systemctl show -p MainPID --value "$unit.service")
