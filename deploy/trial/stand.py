@@ -118,7 +118,7 @@ class Stand:  # pylint: disable=too-many-instance-attributes,too-many-public-met
             "ROOMS_PROGRAM": self.program,
             "ROOMS_PORT": str(self.server_port),
             "ROOMS_SOCKET": str(self.folder / "keeper.sock"),
-            "ROOMS_PAGE_SOCKET": str(self.folder / "page.sock"),
+            "ROOMS_PAGE_SOCKET": str(self.folder / "proxy" / "page.sock"),
             "ROOMS_SCRATCH": str(self.scratch / "copies"),
             "ROOMS_SPEAKERS": "root",
             **settings,
@@ -127,6 +127,7 @@ class Stand:  # pylint: disable=too-many-instance-attributes,too-many-public-met
     def __enter__(self):
         try:
             self.data.mkdir(exist_ok=True)
+            (self.folder / "proxy").mkdir()
             subprocess.run([self.program, "new", "--db", self.file], check=True, stdout=subprocess.DEVNULL)
         except BaseException:
             self.__exit__()
@@ -236,12 +237,12 @@ class Stand:  # pylint: disable=too-many-instance-attributes,too-many-public-met
         text = (DEPLOY / "haproxy.cfg").read_text(encoding="utf-8")
         for old, new in [
             ("    log /dev/log local0 ", "    log stdout format raw local0 "),
-            ("    user haproxy\n    group haproxy\n", ""),
+            ("    chroot /var/lib/haproxy\n    user haproxy\n    group haproxy\n", self.chroot()),
             ("bind :::80 v4v6\n", f"bind 127.0.0.1:{self.plain_port}\n"),
             ("bind :::443 v4v6 ", f"bind {self.addresses()} "),
             ("/etc/haproxy/rooms.pem", str(self.folder / "rooms.pem")),
             ("127.0.0.1:290 ", f"127.0.0.1:{self.server_port} "),
-            ("/run/rooms-page.sock", self.environment["ROOMS_PAGE_SOCKET"]),
+            ("unix@/rooms-page.sock", f"unix@{'/page.sock' if self.chroot() else self.environment['ROOMS_PAGE_SOCKET']}"),
             ("    # user anna password $6$..\n", self.userlist()),
             *changes,
         ]:
@@ -254,6 +255,10 @@ class Stand:  # pylint: disable=too-many-instance-attributes,too-many-public-met
         subprocess.run(["haproxy", "-q", "-c", "-f", settings], check=True)
         self.proxy = self.launch("proxy", "haproxy", "-db", "-f", str(settings))
         self.until_listening(self.port)
+
+    def chroot(self):
+        """The folder that the proxy sees once it has started: only root can have it so."""
+        return f"    chroot {self.folder / 'proxy'}\n" if os.geteuid() == 0 else ""
 
     def addresses(self):
         """This machine's own addresses. That of IPv4 comes as a part of IPv6, as it does by `bind :::443 v4v6`."""
@@ -268,11 +273,11 @@ class Stand:  # pylint: disable=too-many-instance-attributes,too-many-public-met
                                        capture_output=True).stdout.strip() for name, password in CLERKS.items()}
         return "".join(f"    user {name} password {one}\n" for name, one in hashed.items())
 
-    def make_certificate(self):
-        """A certificate of the trial's own, with its key."""
+    def make_certificate(self, *kind):
+        """A certificate of the trial's own, with its key of this kind, which is an elliptic curve if none is given."""
         key, certificate = self.folder / "key.pem", self.folder / "certificate.pem"
         subprocess.run(
-            ["openssl", "req", "-x509", "-newkey", "ec", "-pkeyopt", "ec_paramgen_curve:prime256v1", "-nodes",
+            ["openssl", "req", "-x509", "-newkey", *(kind or ("ec", "-pkeyopt", "ec_paramgen_curve:prime256v1")), "-nodes",
              "-days", "2", "-subj", f"/CN={HOST}", "-addext", f"subjectAltName=DNS:{HOST}", "-keyout", key,
              "-out", certificate], check=True, stderr=subprocess.DEVNULL)
         (self.folder / "rooms.pem").write_text(certificate.read_text() + key.read_text())

@@ -24,7 +24,7 @@ import room_pages  # noqa: F401  # pylint: disable=unused-import
 import round_pages  # noqa: F401  # pylint: disable=unused-import
 from app import LONGEST_FORM, Guarded, app
 
-PLACE = os.environ.get("ROOMS_PAGE_SOCKET", "/run/rooms-page.sock")
+PLACE = os.environ.get("ROOMS_PAGE_SOCKET", "/var/lib/haproxy/rooms-page.sock")
 # Bodies and answers stay in memory: waitress writes what is longer into a file.
 IN_MEMORY = 16_000_000
 

@@ -75,7 +75,7 @@ start_office() {
         echo "       $(systemd-analyze security --no-pager "$unit.service" | tail -n 1)"
     done
     same "the sockets" "rooms rooms-office 660 root haproxy 660" \
-        "$(stat -c '%U %G %a' /run/rooms-keeper.sock /run/rooms-page.sock | xargs)"
+        "$(stat -c '%U %G %a' /run/rooms-keeper.sock /var/lib/haproxy/rooms-page.sock | xargs)"
     same "the file, for its account alone" "rooms 600 rooms 700" "$(stat -c '%U %a' $file /var/lib/rooms | xargs)"
 }
 
@@ -336,7 +336,7 @@ remove() {
     part "Remove and purge"
     try "remove" dpkg -r rooms
     same "nothing of it runs" "" "$(pgrep -u rooms,rooms-page -a)"
-    same "no socket is left" "" "$(find /run -name 'rooms*')"
+    same "no socket is left" "" "$(find /run /var/lib/haproxy -name 'rooms*')"
     try "purge" dpkg -P rooms
     try "the office is kept" test -e $file
     rm -r /etc/systemd/system/rooms-keeper.service.d
