@@ -13,6 +13,7 @@ sys.dont_write_bytecode = True
 
 # pylint: disable=wrong-import-position  # not before the line above
 from burst import try_burst
+from ciphers import try_ciphers
 from copying import try_copying
 from earlier import try_earlier
 from full import try_full
@@ -48,6 +49,7 @@ if __name__ == "__main__":
     try_office_doors(sys.argv[1])
     try_burst(sys.argv[1])
     try_limits(sys.argv[1])
+    try_ciphers(sys.argv[1])
     try_memory(sys.argv[1])
     try_port(sys.argv[1])
     try_stall(sys.argv[1])
