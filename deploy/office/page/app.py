@@ -27,7 +27,7 @@ from office_view import Office
 HERE = Path(__file__).resolve().parent
 LONGEST_LIST = 262_144
 # As in haproxy.cfg. A list that is too long comes as far as this page, which says so: where the proxy answers before all
-# of a body is there, browsers show a failure of HTTP/2 in place of the answer.
+# of a body is there, some clients of HTTP/2, such as curl, report a failure in place of the answer.
 LONGEST_FORM = 5_000_000
 UNAVAILABLE = 3  # the program's status if the file, the disk or the memory failed
 HEADERS = {

@@ -87,7 +87,10 @@ start_proxy() {
     sed "/^userlist office$/a user clerk password $(openssl passwd -6 secret)" \
         /usr/share/doc/rooms/deploy/haproxy.cfg >/etc/haproxy/haproxy.cfg
     try "its configuration" haproxy -c -f /etc/haproxy/haproxy.cfg
+    cp /usr/share/doc/rooms/deploy/rooms-rsyslog.conf /etc/rsyslog.d/48-rooms.conf
+    try "the log's bound" systemctl restart rsyslog
     try "start" systemctl restart haproxy
+    same "its memory has a bound" $((768 * 1024 * 1024)) "$(systemctl show -p MemoryMax --value haproxy)"
 }
 
 use_command() {
@@ -119,6 +122,8 @@ use_site() {
     same "with the right one" 200 "$(ask -u clerk:secret $site/office/)"
     like "its text" "*Room office*" "$(cat body)"
     same "http leads to https" 301 "$(ask -H 'Host: rooms.example.org' http://127.0.0.1/)"
+    try "HAProxy's log comes out of its chroot" within 30 grep -q 'PUT /me/choices HTTP' /var/log/haproxy.log
+    same "HAProxy sees its folder alone" /var/lib/haproxy "$(readlink "/proc/$(pgrep -n -u haproxy haproxy)/root")"
 }
 
 keep_copies() {
