@@ -17,7 +17,8 @@ import time
 from pathlib import Path
 from typing import Any
 
-from copies import ENDS, Copies, beside, make_whole, to_disk
+from copies import ENDS, Copies, make_whole
+from placing import beside, to_disk
 from settings import Fault, Settings, unwritten
 
 NAME = re.compile(r"[0-9]{8}T[0-9]{6}Z(-[0-9]{2})?")

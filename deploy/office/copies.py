@@ -1,4 +1,4 @@
-"""Copies the office's file while the server runs, and puts a file in the office's place.
+"""Copies the office's file while the server runs.
 
 SQLite cannot read the file while the server holds it; but file and log can be copied meanwhile. A copy is the office
 of one moment if neither the file nor the head of its log has changed in between. For the server only adds to the log,
@@ -15,13 +15,13 @@ import os
 import shutil
 import sqlite3
 import tempfile
-import threading
 import time
 from collections.abc import Iterator
 from pathlib import Path
 from typing import NamedTuple
 
-from settings import Fault, Settings, unwritten
+from placing import Place, beside
+from settings import Fault, Settings
 
 ENDS = ("", "-wal")
 HEAD = 32             # bytes: the head of a log, with what is drawn anew whenever the log begins anew
@@ -47,21 +47,6 @@ class State(NamedTuple):
         return time.time_ns() - max(self.file_time, self.log_time) >= COARSE
 
 
-def beside(file: Path, end: str) -> Path:
-    """The file with something behind its name, as its log."""
-    return file.with_name(file.name + end)
-
-
-def to_disk(*paths: Path) -> None:
-    """Has files, or the names in folders, on the disk before it returns."""
-    for path in paths:
-        held = os.open(path, os.O_RDONLY)
-        try:
-            os.fsync(held)
-        finally:
-            os.close(held)
-
-
 def is_whole(database: sqlite3.Connection) -> bool:
     """Whether a database is whole."""
     return (database.execute("PRAGMA integrity_check").fetchall() == [("ok",)]
@@ -80,12 +65,11 @@ def make_whole(file: Path, look: bool = True) -> bool:
 
 
 class Copies:
-    """Makes copies of the office in memory, and puts a file into the office's place."""
+    """Makes copies of the office in memory."""
 
     def __init__(self, settings: Settings) -> None:
         self.file, self.scratch = settings.file, settings.scratch
-        self.next = beside(self.file, ".next")
-        self.lock = threading.Lock()  # between the old log's end and the new file nobody may copy
+        self.place = Place(settings.file)
 
     def state(self) -> State:
         """What the file is known by at this moment."""
@@ -96,7 +80,7 @@ class Copies:
         return State(found.st_mtime_ns, found.st_size, b"", 0, 0)
 
     def copy_to(self, folder: Path, still: bool = False) -> Path:
-        """Copies file and log into a folder. With `still` nobody writes: the server is stopped."""
+        """Copies file and log into a folder. With `still` nobody writes: the file is held."""
         for _ in range(TRIES):
             if self.copy_once(folder, still):
                 return folder / self.file.name
@@ -105,7 +89,7 @@ class Copies:
 
     def copy_once(self, folder: Path, still: bool) -> bool:
         """Copies the log, and then the file. Whether the copy is sure to be that of one moment."""
-        with self.lock:
+        with self.place.lock:
             before = self.state()
             if not still and time.time_ns() - before.file_time < COARSE:
                 return False
@@ -121,31 +105,6 @@ class Copies:
         """A copy of the office, for as long as the block runs."""
         with tempfile.TemporaryDirectory(dir=self.scratch) as folder:
             yield self.copy_to(Path(folder), still)
-
-    def put_in_place(self, copy: Path) -> None:
-        """Makes a whole copy the office, while nothing else has it. A kill at any point leaves the one or the other."""
-        part = beside(self.file, ".part")
-        try:
-            shutil.copyfile(copy, part)
-            to_disk(part)
-        except OSError as fault:
-            part.unlink(missing_ok=True)
-            raise unwritten("the office", fault) from fault
-        part.rename(self.next)
-        to_disk(self.file.parent)
-        self.finish()
-
-    def finish(self) -> None:
-        """Ends what `put_in_place` has begun. The old log goes first: its lines would be added to the new file."""
-        with self.lock:
-            beside(self.file, ".part").unlink(missing_ok=True)
-            if not self.next.exists():
-                return
-            for end in ("-wal", "-shm", "-journal"):
-                beside(self.file, end).unlink(missing_ok=True)
-            to_disk(self.file.parent)
-            self.next.rename(self.file)
-            to_disk(self.file.parent)
 
     def clear(self) -> None:
         """Makes the folder for copies, and empties it of what a keeper left that was killed."""

@@ -4,6 +4,7 @@ Changes wait in a queue. The server is stopped once for all that wait, and start
 in the main thread: what it starts ends with this thread, even if the keeper is killed.
 """
 
+import contextlib
 import queue
 import sqlite3
 import subprocess
@@ -85,7 +86,8 @@ class Hand:  # pylint: disable=too-many-instance-attributes  # the parts of the 
     """Owns the server, and carries out one change after the other."""
 
     def __init__(self, office: Office) -> None:
-        self.settings, self.program, self.copies = office.settings, office.program, office.copies
+        self.settings, self.program = office.settings, office.program
+        self.copies, self.place = office.copies, office.copies.place
         self.backups, self.journal, self.view = office.backups, office.journal, View(office.copies)
         self.work: queue.Queue[Change | Ended | None] = queue.Queue()
         self.server: Server | None = None
@@ -174,23 +176,32 @@ class Hand:  # pylint: disable=too-many-instance-attributes  # the parts of the 
             change.done.set()
 
     def make(self, change: Change) -> None:
-        """Makes a change, if the office is as its sender saw it, with the copy before it and the journal."""
+        """Makes a change, if the office is as its sender saw it, with the copy before it and the journal.
+
+        The hand has the file for itself meanwhile, but for the time in which the program carries out a line on it.
+        """
         began = time.monotonic()
-        self.copies.finish()
-        if change.seen is not None and change.seen != (now := stamp(self.view.rows(still=True))):
-            raise Fault(f"the office has gone on: it is at {now} now. Nothing was changed. Look before you go on.")
-        if change.kind:
-            change.copy = self.backups.keep(change.kind, change.why, still=True, damaged=change.damaged)
-        number = self.journal.begin(change.who, change.line, change.copy)
-        try:
-            change.answers = self.replaced(change) if change.whole else change.carry_out(self.copies.file)
-        except (Fault, OSError, sqlite3.Error) as fault:
-            self.journal.end(number, f"fault: {fault}", 3, self.since(began))
-            raise
+        self.place.finish()
+        with contextlib.ExitStack() as holding:
+            held = holding.enter_context(self.place.held())
+            if change.seen is not None and change.seen != (now := stamp(self.view.rows(still=True))):
+                raise Fault(f"the office has gone on: it is at {now} now. Nothing was changed. Look before you go on.")
+            if change.kind:
+                change.copy = self.backups.keep(change.kind, change.why, still=True, damaged=change.damaged)
+            number = self.journal.begin(change.who, change.line, change.copy)
+            try:
+                if change.whole:
+                    change.answers = self.replaced(change, held)
+                else:
+                    holding.close()
+                    change.answers = change.carry_out(self.copies.file)
+            except (Fault, OSError, sqlite3.Error) as fault:
+                self.journal.end(number, f"fault: {fault}", 3, self.since(began))
+                raise
         change.took = self.since(began)
         self.journal.end(number, change.answers[-1].text, change.answers[-1].status, change.took)
 
-    def replaced(self, change: Change) -> list[Answer]:
+    def replaced(self, change: Change, held: int) -> list[Answer]:
         """Carries out a change on a copy, which then takes the office's place, if the program takes it as an office."""
         with self.copies.copied(still=True) as copy:
             answers = change.carry_out(copy)
@@ -199,7 +210,7 @@ class Hand:  # pylint: disable=too-many-instance-attributes  # the parts of the 
             looked = self.program.look(copy)
             if looked.status != 0 or not make_whole(copy):
                 raise Fault(f"the office that comes of this is none ({looked.text.strip()}). Nothing was changed.")
-            self.copies.put_in_place(copy)
+            self.place.put(copy, held)
             return answers
 
     @staticmethod
@@ -215,7 +226,7 @@ class Hand:  # pylint: disable=too-many-instance-attributes  # the parts of the 
         if self.over:
             return
         try:
-            self.copies.finish()
+            self.place.finish()
             self.server = Server(self.program.serve_words())
         except OSError as fault:
             print(f"rooms serve could not be started: {fault}", flush=True)

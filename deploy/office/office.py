@@ -17,6 +17,6 @@ class Office:  # pylint: disable=too-few-public-methods  # a place for the parts
     def clear(self) -> None:
         """Puts away what a killed keeper left, and notes of its unfinished changes that their answers are not known."""
         self.copies.clear()
-        self.copies.finish()
+        self.copies.place.finish()
         self.backups.clear()
         self.journal.end_unfinished()

@@ -14,6 +14,7 @@ sys.dont_write_bytecode = True
 # pylint: disable=wrong-import-position  # not before the line above
 from burst import try_burst
 from ciphers import try_ciphers
+from byhand import try_byhand
 from copying import try_copying
 from earlier import try_earlier
 from full import try_full
@@ -27,6 +28,8 @@ from office_page import try_office_page
 from page import try_page
 from parts import try_parts
 from port import try_port
+from replacing import try_replacing
+from restoring import try_restoring
 from signing import try_signing
 from stall import try_stall
 from waits import try_waits
@@ -37,7 +40,10 @@ if __name__ == "__main__":
     folder = Path(sys.argv[2])
     folder.mkdir(parents=True, exist_ok=True)
     try_parts()
+    try_replacing()
     try_keeping(sys.argv[1])
+    try_byhand(sys.argv[1])
+    try_restoring(sys.argv[1])
     try_earlier(sys.argv[1])
     try_kills(sys.argv[1])
     try_copying(sys.argv[1])

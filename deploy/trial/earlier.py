@@ -9,10 +9,10 @@ import re
 import sqlite3
 import subprocess
 import sys
-from pathlib import Path
 
 from office_requests import Page
-from stand import DEPLOY, PYTHON, Stand, check, until
+from restoring import KEPT_OFFICE, can_restore, restore
+from stand import DEPLOY, Stand, check, until
 
 TABLE = re.compile(r"CREATE TABLE (\w+)\(.*?\) STRICT;", re.DOTALL)
 VERSION = 3
@@ -100,20 +100,12 @@ def put_back_later(stand):
     check("and the office is as before", stand.office("rooms") == before)
 
 
-def restore(stand, *words):
-    """Runs rooms-restore, and returns its status, its output, and its standard error."""
-    environment = {**stand.environment, "ROOMS_ACCOUNT": "root"}
-    words = [PYTHON, str(DEPLOY / "rooms-restore"), *map(str, words)]
-    done = subprocess.run(words, env=environment, capture_output=True, text=True, check=False)
-    return done.returncode, done.stdout, done.stderr
-
-
 def restored(stand):
     """The same by rooms-restore, while no keeper runs."""
     for number, (version, order) in enumerate([(1, None), (1, KEPT_FIRST), (2, None)]):
         folder = stand.folder / f"copy-{number}"
         make_earlier(folder / stand.file.name, version, order)
-        (folder / "why").write_text('{"kind": "backup", "why": "", "whole": true}\n', encoding="utf-8")
+        (folder / "why").write_text(KEPT_OFFICE, encoding="utf-8")
         before = rows_of(folder / stand.file.name)
         stand.stop_keeper()
         told = restore(stand, folder)
@@ -181,7 +173,7 @@ def put_back_in_earlier(stand):
 
 
 def try_earlier(program):
-    """All of it. rooms-restore stops the units of a machine with systemd, so there it is left out."""
+    """All of it."""
     with Stand(program) as stand:
         stand.start()
         stand.office("room NOW")
@@ -191,9 +183,7 @@ def try_earlier(program):
         put_back_later(stand)
         not_migrated(stand)
         put_back_in_earlier(stand)
-        if Path("/run/systemd/system").exists():
-            print("      rooms-restore is left out: this machine has units")
-        else:
+        if can_restore():
             restored(stand)
             refuse_link(stand)
         check("no trace of a fault is in the log", "Traceback" not in stand.log("keeper"), stand.log("keeper"))

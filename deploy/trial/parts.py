@@ -1,5 +1,4 @@
-"""The keeper's parts by themselves: what the journal hides, a file that takes the office's place, copies that are
-kept.
+"""The keeper's parts by themselves: what the journal hides, and copies that are kept.
 
 No program is needed. This run alone: /usr/bin/python3 deploy/trial/parts.py
 """
@@ -36,13 +35,16 @@ KEY = "0123456789abcdef0123456789abcdef"
 def an_office():
     """The settings of an office with one room, whose log is not yet in its file."""
     with tempfile.TemporaryDirectory(prefix="rooms-parts-") as folder:
-        file = Path(folder) / "rooms.db"
-        database = sqlite3.connect(file, isolation_level=None)
-        database.execute("PRAGMA journal_mode = WAL")
-        database.execute("CREATE TABLE room(code TEXT PRIMARY KEY NOT NULL) STRICT")
-        database.execute("PRAGMA wal_checkpoint(TRUNCATE)")
-        database.execute("INSERT INTO room VALUES ('OLD')")
-        (Path(folder) / "scratch").mkdir()
+        file, made = Path(folder) / "rooms.db", Path(folder) / "scratch" / "rooms.db"
+        made.parent.mkdir()
+        with contextlib.closing(sqlite3.connect(made, isolation_level=None)) as database:
+            database.execute("PRAGMA journal_mode = WAL")
+            database.execute("CREATE TABLE room(code TEXT PRIMARY KEY NOT NULL) STRICT")
+            database.execute("PRAGMA wal_checkpoint(TRUNCATE)")
+            database.execute("INSERT INTO room VALUES ('OLD')")
+            for end in ("", "-wal"):
+                shutil.copyfile(f"{made}{end}", f"{file}{end}")
+        made.unlink()
         yield Settings(
             file=file,
             program="/bin/false",
@@ -53,7 +55,6 @@ def an_office():
             line_seconds=1,
             turn_seconds=1,
         )
-        database.close()
 
 
 def rooms_of(file):
@@ -160,63 +161,6 @@ def noting(settings):
     )
 
 
-class Cut(BaseException):
-    """Stands for a kill: nothing catches it."""
-
-
-def cut_at(calls):
-    """Each call that changes the disk may be the last: these many are made."""
-    made = [0]
-
-    def counted(real):
-        def call(*words, **more):
-            made[0] += 1
-            if made[0] > calls:
-                raise Cut()
-            return real(*words, **more)
-
-        return call
-
-    return [
-        mock.patch("copies.shutil.copyfile", counted(shutil.copyfile)),
-        mock.patch("copies.to_disk", counted(lambda *_: None)),
-        mock.patch.object(Path, "rename", counted(Path.rename)),
-        mock.patch.object(Path, "unlink", counted(Path.unlink)),
-    ]
-
-
-def in_place():
-    """A file takes the office's place; a kill at each point leaves the one office or the other, never a mixture."""
-    seen = set()
-    for calls in range(20):
-        with an_office() as settings:
-            copies = Copies(settings)
-            new = settings.scratch / "new.db"
-            with contextlib.closing(sqlite3.connect(new, isolation_level=None)) as database:
-                database.execute("CREATE TABLE room(code TEXT PRIMARY KEY NOT NULL) STRICT")
-                database.execute("INSERT INTO room VALUES ('NEW')")
-            with contextlib.ExitStack() as stack:
-                for patch in cut_at(calls):
-                    stack.enter_context(patch)
-                with contextlib.suppress(Cut):
-                    copies.put_in_place(new)
-            Copies(settings).finish()
-            found = tuple(rooms_of(settings.file))
-            seen.add(found)
-            left = {one.name for one in settings.file.parent.iterdir()} - {
-                "rooms.db",
-                "rooms.db-wal",
-                "rooms.db-shm",
-                "scratch",
-            }
-            check(
-                f"cut off after {calls} calls: {' '.join(found)}",
-                found in (("OLD",), ("NEW",)) and not left,
-                (found, left),
-            )
-    check("both were seen", seen == {("OLD",), ("NEW",)}, seen)
-
-
 def keeping(settings):
     """Kept copies: what is in them, how many stay, and one that is damaged."""
     copies = Copies(settings)
@@ -295,7 +239,6 @@ def try_parts():
     with an_office() as settings:
         noting(settings)
         failing(settings)
-    in_place()
     with an_office() as settings:
         keeping(settings)
     with an_office() as settings:

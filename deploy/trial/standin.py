@@ -6,11 +6,13 @@ statuses, a list that is known again by its label and bytes, and a server that h
 """
 
 import contextlib
+import os
 import re
 import signal
 import socket
 import sqlite3
 import sys
+from pathlib import Path
 
 TABLES = """
 CREATE TABLE room(code TEXT PRIMARY KEY NOT NULL, shut INTEGER NOT NULL) STRICT;
@@ -162,9 +164,21 @@ def answer(database, words):
         return "not understood", 2
 
 
+def open_alone(file):
+    """Opens a file as the program does: it has to have its only name, and nobody else may have its lock."""
+    database = sqlite3.connect(f"file:{file}?mode=rw", uri=True, timeout=0)
+    named = os.stat(file)
+    opened = [os.stat(held) for held in Path("/proc/self/fd").iterdir() if held.exists()]
+    if named.st_nlink != 1 or not any(os.path.samestat(named, one) for one in opened):
+        raise sqlite3.OperationalError("the file has another name")
+    database.execute("PRAGMA locking_mode = EXCLUSIVE")
+    tell_round(database)
+    return database
+
+
 def serve(port, file):
     """Has the file, and answers nothing but that it is there."""
-    with contextlib.closing(sqlite3.connect(file)) as database, socket.socket() as door:
+    with contextlib.closing(open_alone(file)) as database, socket.socket() as door:
         if database.execute("PRAGMA integrity_check").fetchall() != [("ok",)] or not tell_round(database):
             return 3
         door.setsockopt(socket.SOL_SOCKET, socket.SO_REUSEADDR, 1)
@@ -185,9 +199,7 @@ def main(words):
     command, file, more = words[0], words[2], [word for word in words[3:] if word != "--"]
     if command == "serve":
         return serve(more[1], file)
-    with contextlib.closing(
-        sqlite3.connect(file if command == "new" else f"file:{file}?mode=rw", uri=command != "new")
-    ) as database:
+    with contextlib.closing(sqlite3.connect(file) if command == "new" else open_alone(file)) as database:
         if command == "new":
             database.execute("PRAGMA journal_mode = WAL")
             database.executescript(TABLES)

@@ -1,0 +1,101 @@
+"""Lines by hand beside the keeper: `rooms do --db` over the keeper's own file, while the keeper carries out bundles,
+each of which replaces the file.
+
+If another program has the file, the program answers `unavailable`. What it accepts has to be in the office afterwards,
+and so has what the keeper accepts; and the file has to be whole. This run alone, also over standin.py: /usr/bin/python3
+deploy/trial/byhand.py PROGRAM [BUNDLES]
+"""
+
+import contextlib
+import sqlite3
+import subprocess
+import sys
+import threading
+import time
+
+from kills import KNOWN
+from stand import Stand, check
+
+BUNDLES = 20
+HANDS = ((1, 0.02), (6, 0.0))  # how many lines at a time, and the pause after each, in seconds
+
+
+class Hands:
+    """People who write lines by hand, each one line after the other."""
+
+    def __init__(self, stand, count, pause):
+        self.stand, self.pause, self.over = stand, pause, threading.Event()
+        self.tried, self.accepted = [0] * count, [[] for _ in range(count)]
+        self.threads = [threading.Thread(target=self.write, args=(number,)) for number in range(count)]
+
+    def __enter__(self):
+        for thread in self.threads:
+            thread.start()
+        return self
+
+    def __exit__(self, *_):
+        self.over.set()
+        for thread in self.threads:
+            thread.join()
+
+    def write(self, number):
+        """One of them."""
+        while not self.over.wait(self.pause):
+            code = f"H{number}-{self.tried[number]}"
+            words = [self.stand.program, "do", "--db", self.stand.file, "room", code]
+            said = subprocess.run(words, capture_output=True, text=True, check=False).stdout
+            self.tried[number] += 1
+            if said == "ok\n":
+                self.accepted[number].append(code)
+
+
+def bundles(stand, count):
+    """Has the keeper carry out bundles of two rooms, and gives the rooms of those that it accepted."""
+    accepted = []
+    for number in range(count):
+        codes = [f"K{number}-1", f"K{number}-2"]
+        if stand.ask(ask="do", lines=[f"room {code}" for code in codes]).get("done"):
+            accepted += codes
+    return accepted
+
+
+def rooms_on_record(stand):
+    """The rooms of the office, or nothing if its file is damaged."""
+    with contextlib.suppress(sqlite3.DatabaseError), contextlib.closing(sqlite3.connect(stand.file)) as database:
+        if database.execute("PRAGMA integrity_check").fetchall() == [("ok",)]:
+            return {code for code, in database.execute("SELECT code FROM room")}
+    return None
+
+
+def try_hands(program, count, pause, many):
+    """So many lines at a time by hand, beside so many bundles."""
+    with Stand(program) as stand:
+        stand.start()
+        began = time.monotonic()
+        with Hands(stand, count, pause) as hands:
+            bundled = bundles(stand, many)
+        took = time.monotonic() - began
+        stand.stop_keeper()
+        found = rooms_on_record(stand)
+        accepted = [code for codes in hands.accepted for code in codes]
+        whole = found is not None and "round 0 idle" in stand.tell("round")
+        lost = [len(set(codes) - (found or set())) for codes in (accepted, bundled)]
+        what = (
+            f"{count} at a time by hand, {1000 * pause:.0f} ms after each, beside {many} bundles in {took:.0f} s: "
+            f"{sum(hands.tried)} tried, {len(accepted)} accepted, {lost[0]} lost; "
+            f"{len(bundled) // 2} bundles accepted, {lost[1]} of their rooms lost"
+        )
+        left = {one.name for one in stand.data.iterdir()} - set(KNOWN)
+        check(what, whole and accepted and bundled and lost == [0, 0] and not left, (whole, left))
+
+
+def try_byhand(program, many=BUNDLES):
+    """One with a pause, and several without."""
+    for count, pause in HANDS:
+        try_hands(program, count, pause, many)
+
+
+if __name__ == "__main__":
+    if not 2 <= len(sys.argv) <= 3:
+        sys.exit("usage: /usr/bin/python3 deploy/trial/byhand.py PROGRAM [BUNDLES]")
+    try_byhand(sys.argv[1], *map(int, sys.argv[2:]))
