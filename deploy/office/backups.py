@@ -13,7 +13,6 @@ import re
 import shutil
 import sqlite3
 import tempfile
-import time
 from pathlib import Path
 from typing import Any
 
@@ -22,6 +21,7 @@ from placing import beside, to_disk
 from settings import Fault, Settings, unwritten
 
 NAME = re.compile(r"[0-9]{8}T[0-9]{6}Z(-[0-9]{2})?")
+TIME = "%Y%m%dT%H%M%SZ"
 ASKED_FOR = "backup"
 
 
@@ -69,16 +69,17 @@ class Backups:
         return name
 
     def free_name(self) -> str:
-        """The time as a name, followed by a number if there are copies of this second: names are in order."""
-        while True:
-            now = datetime.datetime.now(datetime.timezone.utc).strftime("%Y%m%dT%H%M%SZ")
-            same = [name for name in self.names() if name.startswith(now)]
-            if not same:
-                return now
-            number = int(same[-1][len(now) + 1:] or 1) + 1
-            if number < 100:
-                return f"{now}-{number:02}"
-            time.sleep(0.1)
+        """The time as a name. Names are in order: if the last copy has this time, or a later one since the clock was set
+        back, its name is counted on."""
+        now = datetime.datetime.now(datetime.timezone.utc).strftime(TIME)
+        last = (self.names() or [""])[-1]
+        if last[:len(now)] < now:
+            return now
+        number = int(last[len(now) + 1:] or 1) + 1
+        if number < 100:
+            return f"{last[:len(now)]}-{number:02}"
+        following = datetime.datetime.strptime(last[:len(now)], TIME) + datetime.timedelta(seconds=1)
+        return following.strftime(TIME)
 
     def names(self) -> list[str]:
         """The names of the kept copies, the oldest first."""

@@ -29,6 +29,11 @@ COARSE = 50_000_000   # nanoseconds: two changes within one tick of the clock of
 TRIES = 100
 
 
+def is_recent(moment: int) -> bool:
+    """Whether a file was changed just now. A time to come is none of now: the clock was set back since."""
+    return abs(time.time_ns() - moment) < COARSE
+
+
 class State(NamedTuple):
     """What the system says of the file and its log."""
 
@@ -44,7 +49,7 @@ class State(NamedTuple):
 
     def is_settled(self) -> bool:
         """Whether the last change is so long ago that one more would be seen by its time."""
-        return time.time_ns() - max(self.file_time, self.log_time) >= COARSE
+        return not is_recent(self.file_time) and not is_recent(self.log_time)
 
 
 def is_whole(database: sqlite3.Connection) -> bool:
@@ -91,7 +96,7 @@ class Copies:
         """Copies the log, and then the file. Whether the copy is sure to be that of one moment."""
         with self.place.lock:
             before = self.state()
-            if not still and time.time_ns() - before.file_time < COARSE:
+            if not still and is_recent(before.file_time):
                 return False
             for end in reversed(ENDS):
                 target = beside(folder / self.file.name, end)

@@ -15,6 +15,7 @@ sys.dont_write_bytecode = True
 from burst import try_burst
 from ciphers import try_ciphers
 from byhand import try_byhand
+from clock import try_clock
 from copying import try_copying
 from earlier import try_earlier
 from full import try_full
@@ -42,6 +43,7 @@ if __name__ == "__main__":
     try_parts()
     try_replacing()
     try_keeping(sys.argv[1])
+    try_clock(sys.argv[1])
     try_byhand(sys.argv[1])
     try_restoring(sys.argv[1])
     try_earlier(sys.argv[1])

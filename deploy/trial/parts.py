@@ -11,6 +11,7 @@ import shutil
 import sqlite3
 import sys
 import tempfile
+import time
 from pathlib import Path
 from unittest import mock
 
@@ -198,6 +199,20 @@ def keeping(settings):
         check("a damaged copy is not taken", "damaged" in str(fault), fault)
 
 
+def keeping_ahead(settings):
+    """After the clock was set back, kept copies have names of times to come. A new one comes behind them, and stays."""
+    backups = Backups(settings, Copies(settings))
+    os.utime(settings.file, (time.time() + 3600,) * 2)
+    for number in range(20):
+        (settings.backups / f"29990101T000059Z-{number + 80:02}").mkdir(parents=True)
+        (settings.backups / f"29990101T000059Z-{number + 80:02}" / "why").write_text('{"kind": "close", "why": ""}')
+    began = time.monotonic()
+    made = [backups.keep("close", "before close") for _ in range(2)]
+    check("a file whose time is to come is copied at once", time.monotonic() - began < 3)
+    wanted = ["29990101T000100Z", "29990101T000100Z-02"]
+    check("a copy comes behind those of times to come, and stays", backups.names()[-2:] == made == wanted, made)
+
+
 def keeping_damaged(settings):
     """A damaged office is kept as it is, where that is asked for."""
     backups = Backups(settings, Copies(settings))
@@ -241,6 +256,8 @@ def try_parts():
         failing(settings)
     with an_office() as settings:
         keeping(settings)
+    with an_office() as settings:
+        keeping_ahead(settings)
     with an_office() as settings:
         keeping_damaged(settings)
 
