@@ -11,6 +11,7 @@ A request is one line of JSON on a connection of its own, and so is its answer. 
 act for the office.
 """
 
+import collections
 import contextlib
 import json
 import os
@@ -32,29 +33,45 @@ from office import Office
 from settings import Fault, Settings, from_environment
 
 LONGEST_REQUEST = 1 << 20  # bytes: a list of 262,145 bytes in base 64, or thousands of lines
-TALKS = 16                 # requests at a time; others wait for their turn
+TALKS = 16                 # requests that are answered at a time; others wait for their turn
+OPEN, ALL_OPEN = 12, 64    # connections of one account, and of all, at a time; further ones are told to try again
+REQUEST_SECONDS = 3.0      # within which a request has to be here, from its connection on
+ANSWER_SECONDS = 20.0      # within which an answer has to be taken
 LAST_WORDS = 2.0           # seconds for the answers that are on their way when the keeper ends
+
+
+def user_of(connection: socket.socket) -> int:
+    """The account at the other end, by its number."""
+    return int(struct.unpack("3i", connection.getsockopt(socket.SOL_SOCKET, socket.SO_PEERCRED, 12))[1])
 
 
 def account_of(connection: socket.socket) -> str:
     """The account at the other end."""
-    user = struct.unpack("3i", connection.getsockopt(socket.SOL_SOCKET, socket.SO_PEERCRED, 12))[1]
+    user = user_of(connection)
     try:
         return pwd.getpwuid(user).pw_name
     except KeyError:
         return str(user)
 
 
+def send(connection: socket.socket, answer: dict[str, Any]) -> None:
+    """Sends an answer, to whoever still waits for it."""
+    connection.settimeout(ANSWER_SECONDS)
+    with contextlib.suppress(OSError):
+        connection.sendall(json.dumps(answer).encode() + b"\n")
+
+
 class Talk(socketserver.StreamRequestHandler):
     """One request, on its connection."""
 
-    timeout = 20
     server: "Door"
 
     def handle(self) -> None:
         """Reads the request and answers it."""
         try:
-            answer = self.answer()
+            request = self.request_line()
+            with self.server.talks:
+                answer = self.answer(request)
         except Fault as why:
             answer = {"fault": str(why)}
         except FileNotFoundError as why:
@@ -63,12 +80,24 @@ class Talk(socketserver.StreamRequestHandler):
             answer = {"fault": f"the file, the disk or the memory did not serve ({why})"}
         except (ValueError, TypeError, RecursionError) as why:
             answer = {"fault": f"not understood: {type(why).__name__}"}
-        with contextlib.suppress(OSError):
-            self.wfile.write(json.dumps(answer).encode() + b"\n")
+        send(self.connection, answer)
 
-    def answer(self) -> dict[str, Any]:
+    def request_line(self) -> bytes:
+        """The bytes of the request. A connection that is silent, or slow, is given up."""
+        end, parts = time.monotonic() + REQUEST_SECONDS, [b""]
+        while parts[-1][-1:] != b"\n" and sum(map(len, parts)) < LONGEST_REQUEST:
+            self.connection.settimeout(max(0.001, end - time.monotonic()))
+            try:
+                parts.append(self.connection.recv(LONGEST_REQUEST))
+            except TimeoutError as late:
+                raise Fault(f"not understood: the request was not here within {REQUEST_SECONDS:g} seconds") from late
+            if not parts[-1]:
+                break
+        return b"".join(parts)[:LONGEST_REQUEST]
+
+    def answer(self, request: bytes) -> dict[str, Any]:
         """The answer to the request, with the name of its sender."""
-        job = json.loads(self.rfile.readline(LONGEST_REQUEST))
+        job = json.loads(request.partition(b"\n")[0])
         if not isinstance(job, dict):
             raise Fault("not understood: a request is an object")
         who = account_of(self.connection)
@@ -85,6 +114,8 @@ class Door(socketserver.ThreadingUnixStreamServer):
 
     def __init__(self, settings: Settings, asks: Asks) -> None:
         self.speakers, self.asks, self.talks = settings.speakers, asks, threading.BoundedSemaphore(TALKS)
+        self.open: collections.Counter[int] = collections.Counter()  # connections by account
+        self.counting = threading.Lock()
         super().__init__(str(settings.socket), Talk, bind_and_activate=False)
         if os.environ.get("LISTEN_PID") == str(os.getpid()):  # rooms-keeper.socket
             self.socket.close()
@@ -95,23 +126,29 @@ class Door(socketserver.ThreadingUnixStreamServer):
             self.server_activate()
 
     def process_request(self, request: Any, client_address: Any) -> None:
-        """Begins a thread, as soon as there are not too many."""
-        self.talks.acquire()  # pylint: disable=consider-using-with
-        super().process_request(request, client_address)
+        """Begins a thread, if its account has not too many. So no account keeps another one from the keeper."""
+        user = user_of(request)
+        with self.counting:
+            self.open[user] += 1
+            full = self.open[user] > OPEN or self.open.total() > ALL_OPEN
+        if full:
+            send(request, {"fault": "too many requests are open at a time. Nothing was done: try again."})
+            self.shutdown_request(request)
+        else:
+            super().process_request(request, client_address)
 
-    def process_request_thread(self, request: Any, client_address: Any) -> None:
-        """The thread of one request."""
-        try:
-            super().process_request_thread(request, client_address)
-        finally:
-            self.talks.release()
+    def shutdown_request(self, request: Any) -> None:
+        """Ends a connection."""
+        with self.counting:
+            self.open[user_of(request)] -= 1
+        super().shutdown_request(request)
 
     def wait_for_talks(self) -> None:
         """Takes no more requests, and waits for the answers that are on their way, for a moment."""
         self.shutdown()
         end = time.monotonic() + LAST_WORDS
-        for _ in range(TALKS):
-            self.talks.acquire(timeout=max(0.0, end - time.monotonic()))  # pylint: disable=consider-using-with
+        while self.open.total() and time.monotonic() < end:
+            time.sleep(0.01)
 
 
 def main() -> int:

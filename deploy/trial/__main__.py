@@ -32,6 +32,7 @@ from port import try_port
 from replacing import try_replacing
 from restoring import try_restoring
 from signing import try_signing
+from silent import try_silent
 from stall import try_stall
 from waits import try_waits
 
@@ -44,6 +45,7 @@ if __name__ == "__main__":
     try_replacing()
     try_keeping(sys.argv[1])
     try_clock(sys.argv[1])
+    try_silent(sys.argv[1])
     try_byhand(sys.argv[1])
     try_restoring(sys.argv[1])
     try_earlier(sys.argv[1])

@@ -216,7 +216,8 @@ class Stand:  # pylint: disable=too-many-instance-attributes,too-many-public-met
         with socket.socket(socket.AF_UNIX) as door:
             door.settimeout(150)
             door.connect(self.environment["ROOMS_SOCKET"])
-            door.sendall(json.dumps(job).encode() + b"\n")
+            with contextlib.suppress(BrokenPipeError):  # the keeper has said why it takes no more requests
+                door.sendall(json.dumps(job).encode() + b"\n")
             return json.loads(door.makefile().readline())
 
     # --- the office's page
