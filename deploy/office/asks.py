@@ -8,13 +8,13 @@
 | draw | seed, seen | as `do` |
 | import | kind, label, body, only_try, seen | as `do`; known: whether its label was taken; `body` in base 64 |
 | export | kind | answers |
-| copy | | body: the office without keys and names, a database in base 64 |
 | record | | body: the public record of the round |
 | backup, backups | | name; backups: name, bytes and reason of each |
 | back | name, seen | name: of the copy that was taken of the present office before |
 | blank | label, seen | blanked: the label |
 | correct | person, name or key or both, seen | corrected: the person; copy |
 | note, journal | line; last | nothing; journal: the last entries |
+| blank-journal | | blanked: how many answers, which may have had names, were taken out of the journal |
 
 An answer is a text and a status of the program. What cannot be done is answered `fault`, with the reason.
 """
@@ -94,7 +94,7 @@ class Asks:
             "view": self.view, "try": self.try_out, "do": self.do_lines, "draw": self.draw, "import": self.bring_in,
             "export": self.export, "record": self.record, "backup": self.backup,
             "backups": self.list_backups, "back": self.put_back, "blank": self.blank, "note": self.note,
-            "journal": self.show_journal, "correct": self.correct,
+            "journal": self.show_journal, "blank-journal": self.blank_journal, "correct": self.correct,
         }
 
     def answer(self, job: Job) -> Job:
@@ -249,9 +249,18 @@ class Asks:
 
     def note(self, job: Job) -> Job:
         """Notes what a clerk does, as a seed before the draw."""
-        self.journal.note(who=job["who"], line=masked_note(text(job, "line")))
+        self.journal.note(who=job["who"], note=masked_note(text(job, "line")))
         return {}
 
     def show_journal(self, job: Job) -> Job:
         """The last entries."""
-        return {"journal": list(self.journal.entries())[-int(job.get("last", 200)):]}
+        last = job.get("last", 200)
+        if not isinstance(last, int) or last < 1:
+            raise Fault("not understood: last is no number of entries")
+        return {"journal": list(self.journal.entries())[-last:]}
+
+    def blank_journal(self, job: Job) -> Job:
+        """Takes out of the journal what earlier versions noted of names."""
+        count = self.journal.blank()
+        self.journal.note(who=job["who"], line="blank-journal", answer=f"{count} answers")
+        return {"blanked": count}

@@ -1,8 +1,9 @@
-"""The journal: who changed what, when, and with what answer. It never has a key, nor the name of a person.
+"""The journal: who changed what, when, and with what answer. It never has a key, nor the name of a person, unless a clerk
+writes one into a note.
 
 Each entry is a line of JSON, and on the disk before the keeper goes on. A change has two: one before it begins,
 with `n`, `at`, `who` and `line` (and `copy`, if the office was copied first), and one after it has ended, with
-the same `n`, `answer`, `status` and `ms`.
+the same `n`, `answer`, `status` and `ms`. What a clerk notes is under `note`, so it is never taken for a change.
 """
 
 import contextlib
@@ -18,8 +19,15 @@ from pathlib import Path
 from typing import Any
 
 from lines import LIKE_A_KEY
+from placing import beside, to_disk
 from settings import Fault, unwritten
 
+# What the program answers to a line that changes the office. Other answers, as to `people` or `me`, may have names.
+WITHOUT_NAMES = re.compile(
+    r"ok|not understood|unavailable|withdrawn|going|cancelled|(?:refused|round|chosen|shut|added|closed|drawn|ran|published"
+    r"|settled|would get)\b.*")
+NOT_NOTED = "(an answer that is not noted)"
+OWN = ("fault: ", "not known: ")  # the keeper's own answers begin so
 SEED = re.compile(r"seed [0-9A-Fa-f]{64}\b")
 SEEDS = re.compile(r"^(?:seed|draw \$\(rooms words --seed) ([0-9A-Fa-f]{64})\b")
 TAIL = 4 << 20   # bytes: so much of the end of the journal is read
@@ -47,11 +55,30 @@ def masked_note(text: str) -> str:
     return seed[0] + masked(text[seed.end():]) if seed else masked(text)
 
 
+def without_names(answer: str) -> str:
+    """An answer as the journal has it."""
+    if answer.startswith(OWN):
+        return masked(answer[:ANSWER]).strip()
+    first = answer.strip().partition("\n")[0]
+    return masked(first[:ANSWER]) if WITHOUT_NAMES.fullmatch(first) else NOT_NOTED
+
+
+def blanked(line: bytes) -> bytes:
+    """A line of the journal, without an answer that may have a name. One that is cut off may end with a part of that."""
+    try:
+        entry = json.loads(line)
+    except ValueError:
+        entry = {"line": "(an entry that was cut off)"}
+    if isinstance(entry, dict) and "n" in entry and "answer" in entry:
+        entry["answer"] = without_names(str(entry["answer"]))
+    return json.dumps(entry, ensure_ascii=False).encode("utf-8", "replace")
+
+
 class Journal:
     """The journal's file."""
 
     def __init__(self, path: Path) -> None:
-        self.path, self.lock = path, threading.Lock()
+        self.path, self.part, self.lock = path, beside(path, ".part"), threading.Lock()
         self.numbers = itertools.count(1)
         self.late: list[dict[str, Any]] = []  # ends of changes that could not be written down yet
 
@@ -89,7 +116,7 @@ class Journal:
 
     def end(self, number: str, answer: str, status: int, milliseconds: int) -> None:
         """Notes how a change ended. It has happened: if it cannot be noted now, it is noted with the next entry."""
-        values = {"n": number, "answer": masked(answer[:ANSWER]).strip(), "status": status, "ms": milliseconds}
+        values = {"n": number, "answer": without_names(answer), "status": status, "ms": milliseconds}
         try:
             self.note(**values)
         except (Fault, OSError):
@@ -111,11 +138,28 @@ class Journal:
 
     def seeds(self) -> list[str]:
         """The seeds that were noted or drawn by, the last one first."""
-        found = [SEEDS.search(str(entry.get("line", ""))) for entry in self.entries()]
+        found = [SEEDS.search(str(entry.get("note", entry.get("line", "")))) for entry in self.entries()]
         return [seed[1].lower() for seed in reversed(found) if seed]
+
+    def blank(self) -> int:
+        """Takes answers that may have names out of the whole journal, and gives their number. Versions up to 3.1.0
+        noted the answer of the last of several lines, even if that line asked for names."""
+        with self.lock:
+            old = [line for line in self.path.read_bytes().split(b"\n") if line] if self.path.exists() else []
+            new = [blanked(line) for line in old]
+            try:
+                self.part.write_bytes(b"".join(line + b"\n" for line in new))
+                to_disk(self.part)
+                self.part.rename(self.path)
+                to_disk(self.path.parent)
+            except OSError as fault:
+                self.part.unlink(missing_ok=True)
+                raise unwritten("the journal", fault) from fault
+            return sum(NOT_NOTED.encode() in after and after != before for before, after in zip(old, new))
 
     def end_unfinished(self) -> None:
         """Notes of each change in which a keeper was ended that its answer is not known."""
+        self.part.unlink(missing_ok=True)
         entries = list(self.entries())
         ended = {entry["n"] for entry in entries if "n" in entry and "answer" in entry}
         for entry in entries:

@@ -143,6 +143,25 @@ def bundles(stand):
     )
     again = stand.script("rooms-office", "do", "-", given=f"me {OTHER}\n")
     check("and the key is the person's own", again.startswith("person R7\n"), again)
+    told = stand.command("lines", given="room L7\npeople\n")
+    check("many lines may end with a question", told[0] == 0 and "Cy Fu" in told[1], told)
+    journal = stand.file.with_name("journal").read_text(encoding="utf-8")
+    check("the journal has none of these names", "room L7; people" in journal and not re.search("Cy Fu|Ann Li", journal))
+
+
+def journal(stand):
+    """What a clerk notes is told from what the keeper did, and names of an earlier journal are blanked."""
+    stand.ask(ask="note", line="close")
+    stand.ask(ask="note", line=f"draw $(rooms words --seed {KEY}{KEY})")
+    last = stand.ask(ask="journal", last=2)["journal"]
+    check("what a clerk notes is no line", all("note" in entry and "line" not in entry for entry in last), last)
+    check("and is shown as noted", "noted: close\n" in stand.script("rooms-office", "journal", "2"))
+    with open(stand.file.with_name("journal"), "a", encoding="utf-8") as held:
+        held.write('{"n": "0-0-1", "answer": "person home name\\nP0 none Ann Li", "status": 0}\n')
+    check("an earlier journal is blanked", stand.script("rooms-office", "blank-journal") == "blanked 1\n")
+    now = stand.file.with_name("journal").read_text(encoding="utf-8")
+    check("and has no name", "Ann Li" not in now and "noted: close" in stand.script("rooms-office", "journal"))
+    check("which is in the journal", stand.ask(ask="journal", last=1)["journal"][0].get("answer") == "1 answers")
 
 
 def tried(stand):
@@ -291,7 +310,8 @@ NONSENSE = [
     b"\n", b"null\n", b"[]\n", b"{}\n", b"\xff\xfe\n", b'{"ask": 7}\n', b'{"ask": []}\n', b'{"ask": "do"}\n',
     b'{"ask": "do", "lines": "room X"}\n', b'{"ask": "do", "lines": [1]}\n', b'{"ask": "do", "lines": []}\n',
     b'{"ask": "do", "lines": ["room X"], "seen": 5}\n', b'{"ask": "journal", "last": "many"}\n',
-    b'{"ask": "journal", "last": null}\n', b'{"ask": "back", "name": "../../etc"}\n', b'{"ask": "blank", "label": 1}\n',
+    b'{"ask": "journal", "last": null}\n', b'{"ask": "journal", "last": 1e999}\n', b'{"ask": "copy"}\n',
+    b'{"ask": "journal", "last": -1}\n', b'{"ask": "back", "name": "../../etc"}\n', b'{"ask": "blank", "label": 1}\n',
     b'{"ask": "import", "kind": "rooms", "label": "l-9", "body": "?"}\n', b'{"ask": "draw", "seed": "0"}\n',
     b"[" * 200_000 + b"\n", b'{"ask": "' + b"x" * 2_000_000 + b'"}\n',
 ]
@@ -331,6 +351,7 @@ def try_keeping(program):
         quiet_lines(stand)
         hidden_keys(stand)
         bundles(stand)
+        journal(stand)
         tried(stand)
         ways_back(stand)
         blanked(stand)

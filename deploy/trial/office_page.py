@@ -140,7 +140,7 @@ def draw_and_run(clerk, stand):
     entries = stand.ask(ask="journal", last=3)["journal"]
     check(
         "the seed is in the journal before the draw",
-        any(entry.get("line", "").startswith(f"seed {sums}") for entry in entries),
+        any(entry.get("note", "").startswith(f"seed {sums}") for entry in entries),
         entries,
     )
     clerk.shot("17-seed")

@@ -23,7 +23,7 @@ sys.path.append(str(OFFICE))
 from backups import ASKED_FOR, Backups
 from copies import Copies, make_whole
 from hand import Change, Hand
-from journal import Journal, masked_line, masked_note
+from journal import NOT_NOTED, Journal, masked_line, masked_note, without_names
 from lines import only_reads, reason_to_copy, shows_a_key
 from office import Office
 from program import Answer
@@ -127,6 +127,39 @@ def copied_before():
     )
 
 
+def answering():
+    """Of answers, those of lines that change the office. Any other may have a name."""
+    for answer, wanted in (
+        ("ok\n", "ok"),
+        ("refused 15 BadRecord 2 refusal 4\n", "refused 15 BadRecord 2 refusal 4"),
+        ("unavailable\nrooms: the disk of /x is full\n", "unavailable"),
+        ("fault: the disk did not serve\n", "fault: the disk did not serve"),
+        ("person home name\nT1     A-1  Ann Li\n", NOT_NOTED),
+        ("person T1\nname Ann Li\n", NOT_NOTED),
+        ("okay Ann Li\n", NOT_NOTED),
+        ("", NOT_NOTED),
+    ):
+        check(f"of the answer {answer!r} the journal has {wanted!r}", without_names(answer) == wanted)
+
+
+def blanking(settings):
+    """An earlier journal is blanked: who did what, and when, stays, and no name."""
+    journal = Journal(settings.journal)
+    old = [
+        {"at": "2026-11-01", "n": "1", "who": "anna", "line": "room J1; people"},
+        {"at": "2026-11-01", "n": "1", "answer": "person home name\nP0 none Ann Li", "status": 0, "ms": 3},
+        {"at": "2026-11-02", "n": "2", "who": "bert", "line": "close"},
+        {"at": "2026-11-02", "n": "2", "answer": "closed 3", "status": 0, "ms": 3},
+    ]
+    settings.journal.write_text("".join(json.dumps(one) + "\n" for one in old) + '{"n": "3", "answer": "me Ann L')
+    check("one answer and the cut-off entry are blanked", journal.blank() == 1 and journal.blank() == 0)
+    found = list(journal.entries())
+    old[1]["answer"] = NOT_NOTED
+    check("all else stays", found[:4] == old and len(found) == 5, found)
+    check("and no name is left", "Ann" not in settings.journal.read_text("utf-8"))
+    check("it is for its owner alone", settings.journal.stat().st_mode & 0o77 == 0)
+
+
 def noting(settings):
     """The journal as a file."""
     journal = Journal(settings.journal)
@@ -153,12 +186,12 @@ def noting(settings):
             check("a journal that cannot be written is a fault", False)
         except Fault as fault:
             check("a journal that cannot be written is a fault", "No space" in str(fault), fault)
-        again.end("n-1", "late", 0, 1)
+        again.end("n-1", "closed 3\n", 0, 1)
     check("and it is as it was before", settings.journal.read_bytes() == before)
     again.note(who="anna", line="backup")
     check(
         "an end that could not be noted comes with the next entry",
-        [one.get("answer") for one in list(again.entries())[-2:]] == ["late", None],
+        [one.get("answer") for one in list(again.entries())[-2:]] == ["closed 3", None],
     )
 
 
@@ -249,8 +282,11 @@ def try_parts():
     """Tries them all."""
     os.umask(0o077)
     hiding()
+    answering()
     slips()
     copied_before()
+    with an_office() as settings:
+        blanking(settings)
     with an_office() as settings:
         noting(settings)
         failing(settings)

@@ -83,10 +83,11 @@ def noted_seeds(office: Office) -> tuple[list[Noted], str]:
     drawn = ""
     entries: list[dict[str, Any]] = ask("journal", last=1000)["journal"]
     for entry in entries:
-        line = str(entry.get("line", ""))
+        # A change of the keeper's has a number. Whatever a clerk notes has none, and begins no new list.
+        line = str(entry.get("line", "")) if "n" in entry else ""
         if line == "close":
             found, drawn = [], ""
-        elif match := NOTED.fullmatch(line):
+        elif match := NOTED.fullmatch(str(entry.get("note", entry.get("line", "")))):
             seed, source = match.groups()
             text = source.removeprefix(OF_TEXT)
             check = f"printf %s {shlex.quote(text)} | sha256sum" if text != source else ""
