@@ -233,6 +233,8 @@ class Asks:
         values = {name: text(job, name) for name in ("name", "key") if name in job}
         if not values:
             raise Fault("not understood: neither name nor key")
+        if told.name_shows_a_key(values.get("name", "")):
+            raise Fault("the name has a word that may be a key. Nothing was changed.")
 
         def carry_out(copy: Path) -> list[Answer]:
             correct(person, values, copy)

@@ -5,6 +5,7 @@ from typing import Any
 
 # What may be a key: identifiers have at most 12 signs, and codes 8. In capitals it may be a key too that was typed so.
 LIKE_A_KEY = re.compile(r"[A-Za-z0-9]{16,}")
+DRAWN = re.compile(r"[A-Fa-f0-9]{16}")  # a word of a draw
 
 # What only reads is asked of a copy. Every other line may change the office.
 READS = frozenset({"rooms", "people", "round", "order", "results", "moves", "whatif", "me"})
@@ -47,7 +48,15 @@ def shows_a_key(line: str) -> bool:
 
     The program understands no such line. Only the words of a draw look like keys.
     """
-    return verb_of(line) != "draw" and LIKE_A_KEY.search(line) is not None
+    words = line.split()
+    if words[:1] == ["draw"]:
+        words = [word for word in words if not DRAWN.fullmatch(word)]
+    return any(map(LIKE_A_KEY.search, words))
+
+
+def name_shows_a_key(name: str) -> bool:
+    """Whether a name has a word that may be a key. Long words of letters alone are names."""
+    return any(re.search("[0-9]", found) for found in LIKE_A_KEY.findall(name))
 
 
 def reason_to_copy(lines: list[str], choices: dict[str, Any]) -> str:

@@ -1,8 +1,9 @@
 """Runs the program `rooms`, and gives its answers.
 
 The program takes a key only as a word of its command line, and every account of the machine can read the command
-lines of all processes. So no key is ever such a word here: on a copy of the office a stand-in replaces the key,
-and afterwards the key replaces the stand-in (`add_person`, `ask_me`).
+lines of all processes. So no word that may be a key is ever such a word here, but for the words of a draw and
+its seed. On a copy of the office a stand-in replaces the key, and afterwards the key replaces the stand-in
+(`add_person`, `ask_me`).
 """
 
 import contextlib
@@ -16,7 +17,7 @@ import time
 from pathlib import Path
 from typing import NamedTuple
 
-from lines import shows_a_key, verb_of
+from lines import LIKE_A_KEY, name_shows_a_key, shows_a_key, verb_of
 from settings import Fault, Settings
 
 KEY = re.compile(r"[a-z0-9]{16,64}")
@@ -125,13 +126,15 @@ class Program:
 
     def add_person(self, line: str, copy: Path) -> Answer:
         """`person ID KEY NAME..` on a copy. The person is added with a stand-in, which the key then replaces."""
-        words = line.split()
-        if len(words) < 4 or shows_a_key(words[1]) or not KEY.fullmatch(words[2]):
+        words, name = line.split(), " ".join(line.split()[3:])
+        if not name or shows_a_key(words[1]) or not KEY.fullmatch(words[2]) or name_shows_a_key(name):
             return NOT_UNDERSTOOD
         stand_in = secrets.token_hex(16)
-        answer = self.hand_over(" ".join(["person", words[1], stand_in, *words[3:]]), copy)
+        hidden = LIKE_A_KEY.sub(lambda found: "x" * len(found[0]), name)  # a long word of the name may be a key
+        answer = self.hand_over(f"person {words[1]} {stand_in} {hidden}", copy)
         if answer.status == 0:
             try:
+                correct(words[1], {"name": name}, copy)
                 change_key(stand_in, words[2], copy)
             except sqlite3.IntegrityError:
                 return KEY_IN_USE
@@ -149,6 +152,9 @@ class Program:
 
     def bring_in(self, kind: str, label: str, body: bytes, file: Path) -> Answer:
         """Imports a list. The program reads it from a file in memory, which is gone afterwards."""
+        if shows_a_key(f"import {kind} {label}"):
+            raise Fault("a kind or a label with 16 letters and digits in a row may be a key, so nothing was done. Put a "
+                        "hyphen into the label.")
         with tempfile.NamedTemporaryFile(dir=self.settings.scratch) as held:
             held.write(body)
             held.flush()
@@ -156,7 +162,7 @@ class Program:
 
     def export(self, kind: str, file: Path) -> Answer:
         """An export, as CSV."""
-        return self.run("export", "--db", str(file), "--", kind)
+        return NOT_UNDERSTOOD if shows_a_key(kind) else self.run("export", "--db", str(file), "--", kind)
 
     def words(self, seed: str, count: int) -> list[str]:
         """The words of a seed."""

@@ -18,6 +18,26 @@ from stand import Stand, check, command_of, until
 
 KEY = "abcdefabcdefabcdefabcdefabcdef99"
 OTHER = "0011223344556677889900aabbccddee"
+LONG_NAME = "Papadimitrakopoulos Maria"
+# What the command refuses on its own command line.
+ON_COMMAND_LINES = (
+    ("do", "person", "R9", KEY, "Ann Li"),
+    ("do", f" person R9 {KEY} Ann Li"),
+    ("do", "me", KEY),
+    ("do", "persn", "R9", KEY),
+    ("do", "home", "R9", KEY.upper()),
+    ("do", "draw", KEY),
+    ("import", KEY, "l-1", "-"),
+    ("import", "people", KEY, "-"),
+    ("export", KEY),
+    ("view", KEY),
+    ("key", KEY),
+    ("blank", KEY),
+    ("journal", KEY),
+    ("name", "R9", "Ann", KEY),
+    ("name", KEY, "Ann"),
+    (KEY,),
+)
 
 
 class Watcher:
@@ -83,10 +103,10 @@ def quiet_lines(stand):
 
 def hidden_keys(stand):
     """A key is refused on the command line, taken on standard input, and seen in no process and no other file."""
-    for words in (("do", "person", "R9", KEY, "Ann Li"), ("do", f" person R9 {KEY} Ann Li"), ("do", "me", KEY)):
+    for words in ON_COMMAND_LINES:
         told = stand.command(*words)
         check("a line with a key is not taken from the command line", told[0] == 2 and "do -" in told[2], told)
-    with Watcher(KEY, OTHER) as watcher:
+    with Watcher(KEY, OTHER, LONG_NAME.split()[0]) as watcher:
         check(
             "a person is added by standard input",
             stand.script("rooms-office", "do", "-", given=f"person R9 {KEY} Ann Li\n") == "ok\n",
@@ -97,10 +117,22 @@ def hidden_keys(stand):
         check("the answer is about the key's owner", told.startswith("person R9\nname Ann Li\n"), told)
         told = stand.command("do", "-", given=f"me {OTHER}\n")
         check("and of a key of nobody that it is unknown", told[:2] == (1, "refused 2 UnknownPerson\n"), told)
-        slips = f"person R8 {KEY.upper()} Bea", f"persn R8 {KEY} Bea", f"home R8 {KEY}", f"person {KEY} R8 Bea"
+        slips = [f"person R8 {KEY.upper()} Bea", f"persn R8 {KEY} Bea", f"home R8 {KEY}", f"person {KEY} R8 Bea"]
+        slips += [f"person R8 {KEY} {KEY}", f"person R8 {OTHER} Bea {KEY}", f"draw {KEY}", f"import rooms {KEY}"]
         for line in slips:
             told = stand.command("do", "-", given=f"{line}\n")
             check("a line with a slip is not understood", told[:2] == (2, "not understood\n"), told)
+        for job in (
+            {"ask": "import", "kind": KEY, "label": "l-1", "body": ""},
+            {"ask": "import", "kind": "rooms", "label": KEY, "body": ""},
+            {"ask": "correct", "person": "R9", "name": f"Ann {KEY}"},
+        ):
+            answer = stand.ask(**job)
+            check(f"a key is refused as {list(job)[-2]} of {job['ask']}", "may be a key" in answer["fault"], answer)
+        answer = stand.ask(ask="export", kind=KEY)
+        check("and as the kind of an export", answer["answers"] == [["not understood\n", 2]], answer)
+        told = stand.command("do", "-", given=f"person R6 {'b' * 16} {LONG_NAME}\n")
+        check("a long word of a name is none, but hidden as if it were", told[:2] == (0, "ok\n"), told)
     check(
         f"no process had a key, seen at {watcher.looks} looks", watcher.looks > 20 and not watcher.seen, watcher.seen
     )
@@ -112,6 +144,7 @@ def hidden_keys(stand):
             f"{place.name} has no key and no name",
             not re.search(f"{KEY}|Ann Li", place.read_text(encoding="utf-8"), re.I),
         )
+    check("the name is whole", LONG_NAME in stand.office("people"))
     check("the journal says who was added", "person R9 (key) (name)  ->  ok" in stand.script("rooms-office", "journal"))
     left = list((stand.scratch / "copies").iterdir())
     check("no copy is left in memory", not left, left)
