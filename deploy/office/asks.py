@@ -2,7 +2,8 @@
 
 | ask | fields | answer |
 |---|---|---|
-| view | | the rows of the office (rows.py); server: whether it runs; status: of the last one that ended by itself |
+| view | | the rows of the office (rows.py); server: whether it runs; status: of the last one that ended by itself; ended: times, at, ago, status |
+| watch | | faults: what is wrong with the server, the disk and the copies; age: of the newest copy, in seconds |
 | try | lines | answers: of a copy, which is thrown away |
 | do | lines, seen | answers, done, took, copy |
 | draw | seed, seen | as `do` |
@@ -34,6 +35,7 @@ from office import Office
 from program import NOT_UNDERSTOOD, Answer, correct, is_of_earlier_version, is_refused
 from rows import Rows, rows_of
 from settings import Fault
+from watching import watch
 
 Job = dict[str, Any]
 SPOKEN = 400  # signs of a line, or of several, that the journal keeps
@@ -88,10 +90,10 @@ class Asks:
     """Answers what is asked of the keeper."""
 
     def __init__(self, office: Office, hand: Hand) -> None:
-        self.program, self.copies, self.hand = office.program, office.copies, hand
+        self.office, self.program, self.copies, self.hand = office, office.program, office.copies, hand
         self.backups, self.journal = office.backups, office.journal
         self.known: dict[str, Callable[[Job], Job]] = {
-            "view": self.view, "try": self.try_out, "do": self.do_lines, "draw": self.draw, "import": self.bring_in,
+            "view": self.view, "watch": lambda _: watch(self.office, self.hand), "try": self.try_out, "do": self.do_lines, "draw": self.draw, "import": self.bring_in,
             "export": self.export, "record": self.record, "backup": self.backup,
             "backups": self.list_backups, "back": self.put_back, "blank": self.blank, "note": self.note,
             "journal": self.show_journal, "blank-journal": self.blank_journal, "correct": self.correct,
@@ -110,7 +112,8 @@ class Asks:
 
     def view(self, _: Job) -> Job:
         """The office as it is now."""
-        return {**self.hand.view.rows(), "server": self.hand.server is not None, "status": self.hand.status}
+        return {**self.hand.view.rows(), "server": self.hand.server is not None, "status": self.hand.status,
+                "ended": self.hand.ended()}
 
     def try_out(self, job: Job) -> Job:
         """Questions, and what lines would do."""

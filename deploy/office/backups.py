@@ -13,6 +13,7 @@ import re
 import shutil
 import sqlite3
 import tempfile
+import time
 from pathlib import Path
 from typing import Any
 
@@ -86,6 +87,11 @@ class Backups:
         if not self.folder.exists():
             return []
         return sorted(one.name for one in self.folder.iterdir() if NAME.fullmatch(one.name) and one.is_dir())
+
+    def age(self) -> float | None:
+        """How old the newest copy is, in seconds."""
+        names = self.names()
+        return max(0.0, time.time() - (self.folder / names[-1]).stat().st_mtime) if names else None
 
     def entry(self, name: str) -> dict[str, str]:
         """Why a copy was taken. One that was put there by hand counts as asked for."""

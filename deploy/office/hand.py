@@ -5,6 +5,7 @@ in the main thread: what it starts ends with this thread, even if the keeper is 
 """
 
 import contextlib
+import datetime
 import queue
 import sqlite3
 import subprocess
@@ -13,6 +14,7 @@ import time
 from collections.abc import Callable
 from dataclasses import dataclass, field
 from pathlib import Path
+from typing import Any
 
 from copies import make_whole
 from office import Office
@@ -92,6 +94,7 @@ class Hand:  # pylint: disable=too-many-instance-attributes  # the parts of the 
         self.work: queue.Queue[Change | Ended | None] = queue.Queue()
         self.server: Server | None = None
         self.status: int | None = None       # of the last server that ended by itself
+        self.ends, self.ended_at = 0, 0.0    # how many have done so since the keeper began, and when the last one did
         self.due: float | None = None        # when the server is to be started again
         self.pause, self.over = FIRST_PAUSE, False
 
@@ -110,6 +113,13 @@ class Hand:  # pylint: disable=too-many-instance-attributes  # the parts of the 
         if change.fault:
             raise Fault(change.fault)
         return change
+
+    def ended(self) -> dict[str, Any] | None:
+        """How many servers have ended by themselves, when the last one did, how many seconds ago, and with what status."""
+        if not self.ends:
+            return None
+        at = datetime.datetime.fromtimestamp(self.ended_at).astimezone().isoformat(timespec="seconds")
+        return {"times": self.ends, "at": at, "ago": round(abs(time.time() - self.ended_at)), "status": self.status}
 
     def end(self) -> None:
         """Ends the hand after the change that it is carrying out."""
@@ -258,6 +268,7 @@ class Hand:  # pylint: disable=too-many-instance-attributes  # the parts of the 
         if served or ended.status != self.status:
             print(f"rooms serve has ended with status {ended.status}", flush=True)
         self.server, self.status = None, ended.status
+        self.ends, self.ended_at = self.ends + 1, time.time()
         if served:
             self.pause = FIRST_PAUSE
         if ended.status not in REFUSED:

@@ -3,6 +3,7 @@
 from backups import Backups
 from copies import Copies
 from journal import Journal
+from placing import beside
 from program import Program
 from settings import Settings
 
@@ -17,6 +18,7 @@ class Office:  # pylint: disable=too-few-public-methods  # a place for the parts
     def clear(self) -> None:
         """Puts away what a killed keeper left, and notes of its unfinished changes that their answers are not known."""
         self.copies.clear()
+        beside(self.settings.file, ".watch").unlink(missing_ok=True)
         self.copies.place.finish()
         self.backups.clear()
         self.journal.end_unfinished()

@@ -18,6 +18,7 @@ from byhand import try_byhand
 from clock import try_clock
 from copying import try_copying
 from earlier import try_earlier
+from flush import try_flush
 from full import try_full
 from guessing import try_guessing
 from keeping import try_keeping
@@ -35,6 +36,7 @@ from signing import try_signing
 from silent import try_silent
 from stall import try_stall
 from waits import try_waits
+from watch import try_watch
 
 if __name__ == "__main__":
     if len(sys.argv) != 3:
@@ -46,6 +48,8 @@ if __name__ == "__main__":
     try_keeping(sys.argv[1])
     try_clock(sys.argv[1])
     try_silent(sys.argv[1])
+    try_watch(sys.argv[1])
+    try_flush(sys.argv[1])
     try_byhand(sys.argv[1])
     try_restoring(sys.argv[1])
     try_earlier(sys.argv[1])

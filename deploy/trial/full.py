@@ -80,6 +80,8 @@ def while_full(stand, name, before, is_program):
         told, said = refused(stand, **job)
         check(f"full disk: {job} is refused", told, said)
         print(f"      {said}")
+    told = stand.command("watch")
+    check("full disk: the watch says so", told[0] == 1 and "takes no writes" in told[1], told)
     if is_program:
         check("full disk: a resident's list is answered 503", hand_in(stand) == 503)
 

@@ -177,7 +177,7 @@ def open_alone(file):
 
 
 def serve(port, file):
-    """Has the file, and answers nothing but that it is there."""
+    """Has the file, and answers as to a key that nobody has."""
     with contextlib.closing(open_alone(file)) as database, socket.socket() as door:
         if database.execute("PRAGMA integrity_check").fetchall() != [("ok",)] or not tell_round(database):
             return 3
@@ -186,7 +186,9 @@ def serve(port, file):
         door.listen()
         print(f"listening on 127.0.0.1:{port}", flush=True)
         while True:
-            door.accept()[0].close()
+            with door.accept()[0] as talk, contextlib.suppress(OSError):
+                if talk.recv(9216):
+                    talk.sendall(b"HTTP/1.1 403 Forbidden\r\nContent-Length: 0\r\nConnection: close\r\n\r\n")
 
 
 def main(words):

@@ -1,0 +1,72 @@
+"""Whether the office works, as far as the keeper can see: for a monitor that asks again and again (`rooms-office
+watch`)."""
+
+import contextlib
+import http.client
+import os
+import time
+from pathlib import Path
+from typing import Any
+
+from hand import Hand
+from office import Office
+from placing import beside
+
+NOBODY = "0" * 16           # a key that nobody has: the server refuses it, and so has read the office
+ANSWER_SECONDS = 10.0       # so long the server may be away for a change
+OLDEST_COPY = 26 * 3600     # seconds: there is a copy each night
+SHOWN = 3600                # seconds for which a server that ended by itself is a fault
+
+
+def fault_of_server(port: int) -> str:
+    """What is wrong with the server, if anything."""
+    end = time.monotonic() + ANSWER_SECONDS
+    while True:
+        left = end - time.monotonic()
+        connection = http.client.HTTPConnection("127.0.0.1", port, timeout=max(0.1, left))
+        try:
+            with contextlib.closing(connection):
+                connection.request("GET", "/me", headers={"Room-Key": NOBODY})
+                status = connection.getresponse().status
+            return "" if status == http.HTTPStatus.FORBIDDEN else f"the server answers {status} to a key of nobody"
+        except (OSError, http.client.HTTPException) as why:
+            if left < 0:
+                return f"the server does not answer ({why})"
+            time.sleep(0.2)
+
+
+def fault_of_disk(probe: Path) -> str:
+    """What is wrong with the disk of the office's file, if anything: a small file is written, flushed and removed."""
+    try:
+        with open(probe, "wb") as held:
+            held.write(bytes(4096))
+            held.flush()
+            os.fsync(held.fileno())
+        return ""
+    except OSError as why:
+        return f"the disk of {probe.parent} takes no writes ({why.strerror})"
+    finally:
+        with contextlib.suppress(OSError):
+            probe.unlink()
+
+
+def fault_of_copies(age: float | None) -> str:
+    """What is wrong with the newest copy, if anything."""
+    if age is None:
+        return "there is no copy of the office"
+    return f"the newest copy is {age / 3600:.0f} hours old" if age > OLDEST_COPY else ""
+
+
+def fault_of_past(ended: dict[str, Any] | None) -> str:
+    """Whether the server has ended by itself within the last hour: it runs again, but something may be wrong."""
+    if ended is None or ended["status"] == 0 or ended["ago"] > SHOWN:
+        return ""
+    return f"the server ended by itself with status {ended['status']} at {ended['at']} (so far {ended['times']})"
+
+
+def watch(office: Office, hand: Hand) -> dict[str, Any]:
+    """What is wrong, and the age of the newest copy in seconds."""
+    age = office.backups.age()
+    found = [fault_of_server(office.settings.port), fault_of_disk(beside(office.settings.file, ".watch")),
+             fault_of_copies(age), fault_of_past(hand.ended())]
+    return {"faults": [fault for fault in found if fault], "age": age}
