@@ -2,7 +2,7 @@
 
 The folder gets the photographs of both pages. It ends at the first thing that is not as it should be, and leaves
 nothing running. Debian: apt-get install haproxy chromium chromium-driver python3-selenium python3-bottle
-python3-waitress sqlite3 openssl. Selenium, Bottle and waitress are there for Debian's own Python.
+python3-waitress sqlite3 openssl strace. Selenium, Bottle and waitress are there for Debian's own Python.
 """
 
 import sys
@@ -25,6 +25,7 @@ from keeping import try_keeping
 from kills import try_kills
 from limits import try_limits
 from memory import try_memory
+from noted import try_noted
 from office_doors import try_office_doors
 from office_page import try_office_page
 from page import try_page
@@ -60,6 +61,7 @@ if __name__ == "__main__":
     try_guessing(sys.argv[1])
     try_page(sys.argv[1], folder)
     try_office_page(sys.argv[1], folder)
+    try_noted(sys.argv[1])
     try_office_doors(sys.argv[1])
     try_burst(sys.argv[1])
     try_limits(sys.argv[1])
