@@ -1,5 +1,5 @@
 """Lines by hand beside the keeper: `rooms do --db` over the keeper's own file, while the keeper carries out bundles,
-each of which replaces the file.
+each of which replaces the file, also if the keeper is killed.
 
 If another program has the file, the program answers `unavailable`. What it accepts has to be in the office afterwards,
 and so has what the keeper accepts; and the file has to be whole. This run alone, also over standin.py: /usr/bin/python3
@@ -7,13 +7,14 @@ deploy/trial/byhand.py PROGRAM [BUNDLES]
 """
 
 import contextlib
+import random
 import sqlite3
 import subprocess
 import sys
 import threading
 import time
 
-from kills import KNOWN
+from kills import KNOWN, killed
 from stand import Stand, check
 
 BUNDLES = 20
@@ -59,6 +60,17 @@ def bundles(stand, count):
     return accepted
 
 
+def bundles_and_kills(stand, count):
+    """The same, but the keeper is killed at some moment of each bundle, and started again."""
+    accepted, longest, drawn = [], 1.0, random.Random(count)
+    for number in range(count):
+        codes = [f"K{number}-1", f"K{number}-2"]
+        answer = killed(stand, {"ask": "do", "lines": [f"room {code}" for code in codes]}, longest * drawn.random())
+        accepted += codes if answer.get("done") else []
+        longest = max(0.2, longest * (0.9 if answer else 1.2))  # about half of them are answered
+    return accepted
+
+
 def rooms_on_record(stand):
     """The rooms of the office, or nothing if its file is damaged."""
     with contextlib.suppress(sqlite3.DatabaseError), contextlib.closing(sqlite3.connect(stand.file)) as database:
@@ -67,32 +79,34 @@ def rooms_on_record(stand):
     return None
 
 
-def try_hands(program, count, pause, many):
+def try_hands(program, count, pause, many, clerk=bundles):
     """So many lines at a time by hand, beside so many bundles."""
     with Stand(program) as stand:
         stand.start()
         began = time.monotonic()
         with Hands(stand, count, pause) as hands:
-            bundled = bundles(stand, many)
+            bundled = clerk(stand, many)
         took = time.monotonic() - began
         stand.stop_keeper()
         found = rooms_on_record(stand)
         accepted = [code for codes in hands.accepted for code in codes]
-        whole = found is not None and "round 0 idle" in stand.tell("round")
         lost = [len(set(codes) - (found or set())) for codes in (accepted, bundled)]
         what = (
-            f"{count} at a time by hand, {1000 * pause:.0f} ms after each, beside {many} bundles in {took:.0f} s: "
+            f"{count} at a time by hand, {1000 * pause:.0f} ms after each, beside {many} "
+            f"{clerk.__name__.replace('_', ' ')} in {took:.0f} s: "
             f"{sum(hands.tried)} tried, {len(accepted)} accepted, {lost[0]} lost; "
             f"{len(bundled) // 2} bundles accepted, {lost[1]} of their rooms lost"
         )
-        left = {one.name for one in stand.data.iterdir()} - set(KNOWN)
-        check(what, whole and accepted and bundled and lost == [0, 0] and not left, (whole, left))
+        check(what, accepted and bundled and lost == [0, 0], lost)
+        left = [one.name for one in stand.data.iterdir() if one.name not in KNOWN]
+        check("the file is whole, and none is left over", found and "idle" in stand.tell("round") and not left, left)
 
 
 def try_byhand(program, many=BUNDLES):
-    """One with a pause, and several without."""
+    """One with a pause, and several without; and beside a keeper that is killed."""
     for count, pause in HANDS:
         try_hands(program, count, pause, many)
+    try_hands(program, 2, 0.01, many, bundles_and_kills)
 
 
 if __name__ == "__main__":

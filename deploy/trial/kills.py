@@ -79,8 +79,9 @@ def content(stand):
 
 
 def servers_of(stand):
-    """The servers and other programs that work on the office's file."""
-    return [process.name for process in Path("/proc").glob("[0-9]*") if str(stand.file) in command_of(process.name)]
+    """The servers and other programs of the keeper's that work on the office's file. A line by hand has no `--`."""
+    lines = [command_of(process.name) for process in Path("/proc").glob("[0-9]*")]
+    return [line for line in lines if str(stand.file) in line and ("serve" in line or "--" in line)]
 
 
 def killed(stand, job, delay):
