@@ -32,6 +32,7 @@ SEED = re.compile(r"seed [0-9A-Fa-f]{64}\b")
 SEEDS = re.compile(r"^(?:seed|draw \$\(rooms words --seed) ([0-9A-Fa-f]{64})\b")
 TAIL = 4 << 20   # bytes: so much of the end of the journal is read
 ANSWER = 300     # signs of an answer that are kept
+NOTE = 600       # signs of a note that are kept: a seed, and up to 400 of what the witnesses saw
 
 
 def masked(text: str) -> str:
@@ -50,8 +51,8 @@ def masked_line(line: str) -> str:
 
 
 def masked_note(text: str) -> str:
-    """A note as the journal has it. It has a seed as it is: a seed is public."""
-    seed = SEED.match(text)
+    """A note as the journal has it. It has a seed as it is: a seed is public. No note fills the journal."""
+    seed, text = SEED.match(text), text[:NOTE]
     return seed[0] + masked(text[seed.end():]) if seed else masked(text)
 
 

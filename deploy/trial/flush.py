@@ -1,5 +1,5 @@
-"""A flush of the server's fails once: the list that came is answered 503, and a moment later all lists are taken again, by
-a server that was started anew. What was answered before is on record, and the watch says what happened.
+"""A flush of the server's fails once: the list that came is answered 503, and a moment later all lists are taken again,
+by a server that was started anew. What was answered before is on record, and the watch says what happened.
 
 It needs strace, and the right to trace the server. This run alone: /usr/bin/python3 deploy/trial/flush.py PROGRAM
 """

@@ -82,6 +82,7 @@ def hiding():
         check(f"the journal has {wanted!r}", masked_line(line) == wanted, masked_line(line))
     seed = KEY + KEY
     check("a seed is public", masked_note(f"seed {seed} rolled") == f"seed {seed} rolled")
+    check("a long note is cut", len(masked_note(f"seed {seed} " + "6 " * 10_000)) == 600)
     check(
         "and nothing else behind that word",
         masked_note(f"seed {KEY}") == "seed (key)" and masked_note(f"seed {seed} {KEY}") == f"seed {seed} (key)",

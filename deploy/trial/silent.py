@@ -1,5 +1,5 @@
-"""Silent connections to the keeper's socket, as any account of the group may open them: they hold up nobody else, and their
-own account for three seconds.
+"""Silent connections to the keeper's socket, as any account of the group may open them: they hold up nobody else, and
+their own account for three seconds.
 
 Root can try it with a second account. This run alone, also over standin.py: /usr/bin/python3 deploy/trial/silent.py
 PROGRAM
@@ -39,7 +39,8 @@ def of_one_account(stand):
         for _ in range(SILENT):
             doors.enter_context(socket.socket(socket.AF_UNIX)).connect(stand.environment["ROOMS_SOCKET"])
         answer, took = timed(stand, ask="journal")
-        check(f"beside {SILENT} silent connections their own account is told so", "try again" in answer["fault"], answer)
+        told = "try again" in answer.get("fault", "")
+        check(f"beside {SILENT} silent connections their own account is told so", told, answer)
         check(f"after {took:.2f} s", took < 2)
         began = time.monotonic()
         while "journal" not in stand.ask(ask="journal"):

@@ -8,6 +8,7 @@ import signal
 import sys
 import time
 
+from office_requests import Page
 from stand import Stand, check, until
 
 DAY = 24 * 3600
@@ -37,7 +38,7 @@ def copies(stand):
 
 
 def disk(stand):
-    """A disk that takes no writes. A folder in the place of the small file stands for it, since root may write all."""
+    """A disk that takes no writes. A folder in the place of the small file stands for it, since root may write."""
     probe = stand.data / "rooms.db.watch"
     probe.mkdir()
     watched(stand, "takes no writes")
@@ -59,6 +60,10 @@ def server(stand):
     stand.until_listening(stand.server_port)
     watched(stand, "ended by itself with status -15", "(so far 1)")
     said = stand.script("rooms-office", "view")
+    stand.start_page()
+    stand.start_proxy()
+    text = Page(stand).get("/office/")[2]
+    check("and so does the overview of the page", "has ended by itself (so far 1, last on" in text, text)
     check("view says that it runs, and that it ended", "server running\nserver ended by itself: 1, last at " in said, said)
 
 
