@@ -85,7 +85,8 @@ def try_stall(program, threads=1):
             stand.tell(line)
         stand.start()
         stand.start_proxy(("\nglobal\n", f"\nglobal\n    stats socket {control_socket(stand)}\n"),
-                          ("gt 1500", "gt 10000000"), ("    nbthread 1\n", f"    nbthread {threads}\n"))
+                          ("(portal) gt 1500\n", "(portal) gt 10000000\n"), ("(addresses) gt 5000\n", "(addresses) gt 10000000\n"),
+                          ("    nbthread 1\n", f"    nbthread {threads}\n"))
         check(f"threads of the proxy: {threads}", len(threads_of(stand.proxy)) == threads, threads_of(stand.proxy))
         with sharing_a_processor(stand.proxy), Residents(stand, ["T1"], RESIDENTS, 0.0005, 2 * STALLED) as residents:
             stalled = find_stall(stand, residents)
