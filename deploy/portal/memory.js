@@ -1,7 +1,13 @@
 // What this tab remembers until it is closed: the key, a list that was begun, and the language. It stands in
 // sessionStorage, and beside it in variables, for browsers that keep nothing.
+//
+// The key has a time beside it, after which it counts no more: a browser opens a closed tab again with all that was in
+// it, and on a computer that others use the next person can do so.
 
-const KEY = "room-key", DRAFT = "rooms-draft", LANGUAGE = "rooms-language";
+// How long the key outlives the page, in milliseconds. A browser may have a page in the background work once a minute.
+const GONE = 2 * 60 * 1000;
+
+const KEY = "room-key", UNTIL = "room-key-until", DRAFT = "rooms-draft", LANGUAGE = "rooms-language";
 
 const kept = new Map();
 
@@ -28,9 +34,27 @@ function drop(name) {
   } catch { /* nothing was kept there */ }
 }
 
-export const rememberKey = key => write(KEY, key);
-export const recallKey = () => read(KEY);
-export const forgetKey = () => drop(KEY);
+// To be called again and again while the page is there. What is written when a page ends may be lost.
+export const keepKey = () => write(UNTIL, String(Date.now() + GONE));
+
+export function rememberKey(key) {
+  write(KEY, key);
+  keepKey();
+}
+
+export const hasKey = () => read(KEY) !== "";
+
+// The key, if its time is not over. It is over, too, if the clock was set back.
+export function recallKey() {
+  const left = Number(read(UNTIL)) - Date.now();
+  return left > 0 && left < 2 * GONE ? read(KEY) : "";
+}
+
+export function forgetKey() {
+  drop(KEY);
+  drop(UNTIL);
+}
+
 export const rememberLanguage = language => write(LANGUAGE, language);
 export const recallLanguage = () => read(LANGUAGE);
 

@@ -6,7 +6,7 @@ import {
   backToRecord, changeList, desk, isChanged, isChangedElsewhere, mayEdit, rememberList, ROOMS_AT_ONCE, takeRecord,
 } from "./desk.js";
 import { firstLanguage, setLanguage, text } from "./language.js";
-import { forgetDraft, forgetKey, recallKey, rememberKey, rememberLanguage } from "./memory.js";
+import { forgetDraft, forgetKey, hasKey, keepKey, recallKey, rememberKey, rememberLanguage } from "./memory.js";
 import { inOrder, readDescriptions } from "./rooms.js";
 import { call, Fault, roomsFile } from "./server.js";
 import {
@@ -104,6 +104,53 @@ async function signOut() {
   leave();
   say("signedOut");
   byId("key").focus();
+}
+
+// --- Signing out by time
+
+// In milliseconds: how long a person stays signed in without using the page, how long before its end the page says so,
+// and how often it looks.
+const UNUSED = 10 * 60 * 1000, NOTICE = 60 * 1000, OFTEN = 5000;
+
+let used = Date.now(), isWarned = false;
+
+// A clock that was set back ends the time.
+function timeLeft() {
+  const unused = Date.now() - used;
+  return unused > -NOTICE ? UNUSED - unused : 0;
+}
+
+// A list that was begun stays in this tab, for the same person.
+function endByTime() {
+  isWarned = false;
+  leave();
+  sayFault("timedOut");
+  byId("key").focus();
+}
+
+// A question that is open would cover the notice, and is answered by no.
+function lookAtTime() {
+  if (!hasKey() || desk.isBusy) return;
+  const left = timeLeft();
+  if (left > 0) keepKey();
+  if (left > NOTICE) return;
+  if (byId("question").open) byId("question").close();
+  else if (left <= 0) endByTime();
+  else if (!isWarned) {
+    isWarned = true;
+    sayFault("timeEnds");
+  }
+}
+
+// A key, a finger or the mouse. It does not come in time if the computer has slept.
+function onUse() {
+  if (hasKey() && timeLeft() <= 0) {
+    lookAtTime();
+    return;
+  }
+  used = Date.now();
+  if (isWarned) say("stillSignedIn");
+  isWarned = false;
 }
 
 // --- Handing in a list
@@ -235,6 +282,12 @@ function listen() {
   byId("find").addEventListener("input", onFind);
   const presses = { "sign-out": signOut, "ask-again": askAgain, "hand-in": handIn, more: showMore, undo, withdraw };
   for (const [id, act] of Object.entries(presses)) byId(id).addEventListener("click", act);
+  for (const use of ["keydown", "pointerdown", "pointermove", "wheel"]) {
+    addEventListener(use, onUse, { capture: true, passive: true });
+  }
+  setInterval(lookAtTime, OFTEN);
+  // A page that the browser has kept whole would still be signed in.
+  addEventListener("pageshow", event => { if (event.persisted) location.reload(); });
   addEventListener("beforeunload", event => { if (isChanged()) event.preventDefault(); });
 }
 
@@ -251,6 +304,8 @@ describeRooms();
 desk.key = recallKey();
 if (desk.key) {
   during(async () => sayTaken(await load(), ""));
+} else if (hasKey()) {
+  endByTime();
 } else {
   byId("key").focus();
 }

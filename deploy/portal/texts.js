@@ -22,6 +22,11 @@ export const TEXTS = {
     badKey: "A key has 16 to 64 letters (a to z) and digits. Please look at it again.",
     signedIn: "Signed in.",
     signedOut: "Signed out.",
+    timeEnds: "You have not used this page for nine minutes. In one minute it signs you out. Press a key or touch the "
+      + "page to stay signed in.",
+    stillSignedIn: "You are still signed in.",
+    timedOut: "You are signed out, because this page was not used for a while. A list that you had begun is still in "
+      + "this tab: sign in again to hand it in.",
 
     roundHeading: "Your round",
     facts: {
@@ -192,8 +197,10 @@ export const TEXTS = {
       ["You see your result here.", "The office shows all results at the same time, and then says who moves when."],
       ["What others see.", "This page shows you your own list and your own result. The accommodation office sees all "
         + "lists."],
-      ["Your key.", "With your key others can act in your name, so keep it to yourself. This page keeps it, and a list "
-        + "that you have begun, only in this tab of your browser, until you sign out or close the tab."],
+      ["Your key.", "With your key others can act in your name, and nobody can see afterwards who handed in a list. So "
+        + "keep it to yourself, and ask the office for another key if somebody may have read it. This page keeps it, and "
+        + "a list that you have begun, only in this tab of your browser, until you sign out or close the tab. If you do "
+        + "not use the page for ten minutes, it forgets the key. On a computer that others use, sign out."],
     ],
 
     // What is said of a fault: by the name that the server gives it, or else by its status.
@@ -237,6 +244,11 @@ export const TEXTS = {
     badKey: "Ein Zugangscode besteht aus 16 bis 64 Buchstaben (a bis z) und Ziffern. Bitte prüfen Sie Ihre Eingabe.",
     signedIn: "Sie sind angemeldet.",
     signedOut: "Sie sind abgemeldet.",
+    timeEnds: "Sie haben diese Seite seit neun Minuten nicht benutzt. In einer Minute meldet sie Sie ab. Drücken Sie "
+      + "eine Taste, oder berühren Sie die Seite, um angemeldet zu bleiben.",
+    stillSignedIn: "Sie sind weiterhin angemeldet.",
+    timedOut: "Sie sind abgemeldet, weil diese Seite eine Weile nicht benutzt wurde. Eine begonnene Liste ist noch in "
+      + "diesem Tab: Melden Sie sich wieder an, um sie abzugeben.",
 
     roundHeading: "Ihre Runde",
     facts: { name: "Name", person: "Kennung", home: "Ihr Zimmer", round: "Runde", phase: "Stand", part: "Teilnahme" },
@@ -413,9 +425,12 @@ export const TEXTS = {
         + "wer wann umzieht."],
       ["Was andere sehen.", "Diese Seite zeigt Ihnen Ihre eigene Liste und Ihr eigenes Ergebnis. Die "
         + "Wohnheimverwaltung sieht alle Listen."],
-      ["Ihr Zugangscode.", "Mit Ihrem Zugangscode können andere in Ihrem Namen handeln; behalten Sie ihn also für "
-        + "sich. Diese Seite merkt sich ihn und eine begonnene Liste nur in diesem Tab Ihres Browsers, bis Sie sich "
-        + "abmelden oder den Tab schließen."],
+      ["Ihr Zugangscode.", "Mit Ihrem Zugangscode können andere in Ihrem Namen handeln, und später lässt sich nicht "
+        + "sehen, wer eine Liste abgegeben hat. Behalten Sie ihn also für sich, und bitten Sie die Wohnheimverwaltung "
+        + "um einen neuen, wenn ihn jemand gelesen haben könnte. Diese Seite merkt sich ihn und eine begonnene Liste "
+        + "nur in diesem Tab Ihres Browsers, bis Sie sich abmelden oder den Tab schließen. Wenn Sie die Seite zehn "
+        + "Minuten lang nicht benutzen, vergisst sie den Zugangscode. Melden Sie sich an einem Computer, den auch "
+        + "andere benutzen, ab."],
     ],
 
     faults: {

@@ -68,6 +68,12 @@ function drawMessages() {
 
 // --- The whole page
 
+// What is shown of a person. Once signed out, the page has none of it, not even hidden.
+const PERSONAL = [
+  "facts", "result", "next", "record", "promises", "count", "rooms", "state", "list", "withdraw-text",
+  "question-text", "question-lists",
+];
+
 export function draw() {
   const { me } = desk;
   drawMessages();
@@ -75,7 +81,10 @@ export function draw() {
   byId("unready").hidden = true;
   byId("sign-in").hidden = me !== null;
   byId("desk").hidden = byId("sign-out").hidden = me === null;
-  if (me === null) return;
+  if (me === null) {
+    for (const id of PERSONAL) byId(id).replaceChildren();
+    return;
+  }
   byId("facts").replaceChildren(...pairs(facts()));
   [byId("result").textContent, byId("next").textContent] = resultTexts();
   byId("recorded").hidden = me.phase === "idle";

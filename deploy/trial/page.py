@@ -12,6 +12,7 @@ from selenium.webdriver.common.action_chains import ActionChains
 from selenium.webdriver.common.keys import Keys
 
 from page_browser import DESK, Page
+from page_idle import try_idle
 from page_lists import Device, try_lists
 from page_looks import try_looks
 from stand import DEPLOY, Stand, check, key_of
@@ -335,6 +336,7 @@ def try_page(program: str, shots: Path) -> None:
             handing_in(page)
             try_lists(page, stand)
             try_looks(page)
+            try_idle(page)
             withdrawal_refused(page)
             forced_faults(page)
             real_faults(page, stand)
