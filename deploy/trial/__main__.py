@@ -28,6 +28,7 @@ from memory import try_memory
 from noted import try_noted
 from office_doors import try_office_doors
 from office_page import try_office_page
+from office_sheets import try_office_sheets
 from page import try_page
 from parts import try_parts
 from port import try_port
@@ -63,6 +64,7 @@ if __name__ == "__main__":
     try_office_page(sys.argv[1], folder)
     try_noted(sys.argv[1])
     try_office_doors(sys.argv[1])
+    try_office_sheets(sys.argv[1])
     try_burst(sys.argv[1])
     try_limits(sys.argv[1])
     try_ciphers(sys.argv[1])

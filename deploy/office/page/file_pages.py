@@ -2,6 +2,7 @@
 
 import csv
 import io
+import re
 from collections.abc import Iterable
 from pathlib import Path
 from typing import Any, NamedTuple
@@ -16,6 +17,9 @@ from office_view import Office
 from questions import Question, put_question
 
 SHOWN_ENTRIES = 1000
+# Where a spreadsheet begins a formula: at the start of a field. It may read a comma or a semicolon in a name as the end
+# of a field, if it expects other separators than the file has.
+FORMULA = re.compile(r"(?:^|(?<=[,;\t]))(?=\s*[=+\-@＝＋－＠]|[\t\r\n])")
 
 
 @app.get("/office/office.css")
@@ -33,14 +37,22 @@ def print_page() -> str:
 
 
 def csv_of(header: list[str], rows: Iterable[list[Any]]) -> str:
-    """A list in CSV, as the program writes its own."""
+    """A list in CSV for a spreadsheet: an apostrophe comes before what would be a formula. No identifier, code or grade
+    is one."""
     text = io.StringIO(newline="")
-    csv.writer(text, lineterminator="\n").writerows([header, *rows])
+    guarded = ([FORMULA.sub("'", str(value)) for value in row] for row in rows)
+    csv.writer(text, lineterminator="\n").writerows([header, *guarded])
     return text.getvalue()
 
 
 def own_export(office: Office, name: str) -> str | None:
-    """The exports that the program does not have, made of the rows that the page shows."""
+    """The exports that the program does not have, made of the rows that the page shows.
+
+    No list of people has this first line: a name with an apostrophe before it cannot come in again by mistake.
+    """
+    if name == "register":
+        return csv_of(["person", "name", "room", "grade"], (
+            [one.ident, one.name, one.home or "", one.grade] for one in office.people.values()))
     if name == "results":
         return csv_of(["person", "name", "old", "new", "outcome"], (
             [ident, office.people[ident].name, office.people[ident].home or "", room or "", office.outcome(ident)]
@@ -62,7 +74,7 @@ def own_export(office: Office, name: str) -> str | None:
 @app.get("/office/export/<name>.csv")
 def export(name: str) -> bottle.HTTPResponse:
     """One export."""
-    if name in plain.EXPORTS:
+    if name in (*plain.EXPORTS, plain.PEOPLE):
         text, status = answers_of(ask("export", kind=name))[0]
         if status == 0:
             return download(text, f"{name}.csv")

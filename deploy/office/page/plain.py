@@ -103,8 +103,9 @@ KINDS = {
 # The phases in which there is a drawn order.
 DRAWN = ("drawn", "ran", "published")
 
-EXPORTS = {"rooms": "Rooms", "people": "People, without keys", "grades": "Grades",
-           "moves": "Moves of all settled rounds"}
+# What the program exports for a spreadsheet. Its list of people is apart: it has each name as it is, also a formula.
+EXPORTS = {"rooms": "Rooms", "grades": "Grades, as they can come in again", "moves": "Moves of all settled rounds"}
+PEOPLE = "people"
 
 # By the number of a refusal.
 REFUSALS = {
