@@ -14,7 +14,7 @@
 | back | name, seen | name: of the copy that was taken of the present office before |
 | blank | label, seen | blanked: the label |
 | correct | person, name or key or both, seen | corrected: the person; copy |
-| note, journal | line; last | nothing; journal: the last entries |
+| note, journal | line; last | nothing; journal: the last entries; whole: whether no entry is too old to be had |
 | blank-journal | | blanked: how many answers, which may have had names, were taken out of the journal |
 
 An answer is a text and a status of the program. What cannot be done is answered `fault`, with the reason.
@@ -262,7 +262,7 @@ class Asks:
         last = job.get("last", 200)
         if not isinstance(last, int) or last < 1:
             raise Fault("not understood: last is no number of entries")
-        return {"journal": list(self.journal.entries())[-last:]}
+        return {"journal": list(self.journal.entries())[-last:], "whole": self.journal.is_whole()}
 
     def blank_journal(self, job: Job) -> Job:
         """Takes out of the journal what earlier versions noted of names."""

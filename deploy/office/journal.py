@@ -137,6 +137,10 @@ class Journal:
                 if isinstance(entry, dict):
                     yield entry
 
+    def is_whole(self) -> bool:
+        """Whether the entries are all of the journal, and not only its end."""
+        return not self.path.exists() or self.path.stat().st_size <= TAIL
+
     def seeds(self) -> list[str]:
         """The seeds that were noted or drawn by, the last one first."""
         found = [SEEDS.search(str(entry.get("note", entry.get("line", "")))) for entry in self.entries()]

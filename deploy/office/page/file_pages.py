@@ -15,6 +15,7 @@ from app import HERE, app, ask, download, drawn_order, field, go_to, office_now,
 from keeper_client import answers_of
 from office_view import Office
 from questions import Question, put_question
+from seeds import merged
 
 SHOWN_ENTRIES = 1000
 # Where a spreadsheet begins a formula: at the start of a field. It may read a comma or a semicolon in a name as the end
@@ -160,9 +161,6 @@ def back(name: str) -> None:
 
 @app.get("/office/journal")
 def journal() -> str:
-    """What was done, the newest first. Two lines of the journal, before and after a change, are one row."""
-    merged: dict[str, dict[str, Any]] = {}
-    for number, entry in enumerate(ask("journal", last=SHOWN_ENTRIES)["journal"]):
-        row = merged.setdefault(str(entry.get("n", f"entry {number}")), {"at": entry["at"]})
-        row.update({name: value for name, value in entry.items() if name != "at"})
-    return show("journal", office=office_now(), entries=list(merged.values())[::-1])
+    """What was done, the newest first."""
+    entries = merged(ask("journal", last=SHOWN_ENTRIES)["journal"])
+    return show("journal", office=office_now(), entries=entries[::-1])

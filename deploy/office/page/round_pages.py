@@ -3,22 +3,20 @@
 import hashlib
 import re
 import secrets
-import shlex
-from typing import Any, NamedTuple
+
+from journal import masked
 
 import plain
 from app import app, ask, change, drawn_order, field, go_to, office_now, show, tell, text_of
 from office_view import Office
 from questions import Question, put_question
+from seeds import OF_TEXT, Seeds, noted_seeds
 
 SEED = re.compile(r"[0-9a-f]{64}")
-NOTED = re.compile(r"seed ([0-9a-f]{64}) (.*)")
-DRAWN = re.compile(r"draw \$\(rooms words --seed ([0-9A-Fa-f]{64})")
-OF_TEXT = "SHA-256 of "
 # Fifty throws of a die are 129 bits.
 SHORTEST_TEXT, LONGEST_TEXT = 8, 400
-# The journal masks what may be a key: 16 letters and digits in a row.
-LIKE_A_KEY = re.compile(r"[A-Za-z0-9]{16}")
+# As much of the journal as the keeper gives.
+ALL_ENTRIES = 1_000_000
 # What a clerk may want to export before a step that deletes it.
 BEFORE = {
     "settle": ("/office/record", "The public record, letters and plans"),
@@ -67,34 +65,12 @@ def take_step(name: str) -> None:
 
 # --- the draw
 
-class Noted(NamedTuple):
-    """A seed in the journal: when, by whom, how it came about, and the line that works it out again from a text."""
-
-    at: str
-    who: str
-    seed: str
-    source: str
-    check: str
-
-
-def noted_seeds(office: Office) -> tuple[list[Noted], str]:
-    """The seeds in the journal since this round was closed, the first one first; and the seed of the draw."""
-    found: list[Noted] = []
-    drawn = ""
-    entries: list[dict[str, Any]] = ask("journal", last=1000)["journal"]
-    for entry in entries:
-        # A change of the keeper's has a number. Whatever a clerk notes has none, and begins no new list.
-        line = str(entry.get("line", "")) if "n" in entry else ""
-        if line == "close":
-            found, drawn = [], ""
-        elif match := NOTED.fullmatch(str(entry.get("note", entry.get("line", "")))):
-            seed, source = match.groups()
-            text = source.removeprefix(OF_TEXT)
-            check = f"printf %s {shlex.quote(text)} | sha256sum" if text != source else ""
-            found.append(Noted(entry["at"].replace("T", " ")[:19], entry.get("who", ""), seed, source, check))
-        elif match := DRAWN.search(line):
-            drawn = match[1].lower()
-    return (found, drawn) if office.phase != "idle" else ([], "")
+def seeds_of(office: Office) -> Seeds:
+    """The seeds of this round, and that of its draw."""
+    if office.phase == "idle":
+        return Seeds([], "", "")
+    reply = ask("journal", last=ALL_ENTRIES)
+    return noted_seeds(reply["journal"], reply["whole"])
 
 
 @app.get("/office/draw")
@@ -102,8 +78,8 @@ def draw_page() -> str:
     """The forms for a seed, or the drawn order."""
     office = office_now()
     order = drawn_order() if office.phase in plain.DRAWN else []
-    seeds, drawn = noted_seeds(office)
-    return show("draw", office=office, order=order, seeds=seeds, drawn=drawn)
+    seeds = seeds_of(office)
+    return show("draw", office=office, order=order, seeds=seeds.found, drawn=seeds.drawn, since=seeds.since)
 
 
 def seed_of(way: str, text: str) -> tuple[str, str] | str:
@@ -117,7 +93,7 @@ def seed_of(way: str, text: str) -> tuple[str, str] | str:
         return f"A seed has 64 signs out of 0 to 9 and a to f. You entered {len(seed)} signs."
     if not SHORTEST_TEXT <= len(text) <= LONGEST_TEXT:
         return f"Enter {SHORTEST_TEXT} to {LONGEST_TEXT} signs: the throws of the dice, or the public number."
-    if LIKE_A_KEY.search(text):
+    if masked(text) != text:
         return ("Write a space between two throws or numbers. Sixteen letters and digits in a row look like a key, and "
                 "the journal takes no keys.")
     return hashlib.sha256(text.encode()).hexdigest(), OF_TEXT + text
@@ -141,8 +117,8 @@ def note_seed() -> None:
 def draw() -> None:
     """Draws with a seed that is in the journal."""
     seed = text_of("seed")
-    if seed not in [noted.seed for noted in noted_seeds(office_now())[0]]:
-        tell("bad", "This seed is not in the journal. Enter it first.")
+    if seed not in [noted.seed for noted in seeds_of(office_now()).found if not noted.early]:
+        tell("bad", "This seed was not noted after the round was closed. Enter it first.")
     else:
         change("draw", seed=seed)
     go_to("/office/draw")

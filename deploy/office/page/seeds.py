@@ -1,0 +1,116 @@
+"""The seeds in the journal: all that were noted in the round of now.
+
+Nothing that a clerk notes afterwards can hide one: what the keeper has done has a number in the journal, `n`, and what
+somebody has noted has none. Nor can going back to a copy: it brings back the round of that time, with its seeds.
+"""
+
+import datetime
+import itertools
+import re
+import shlex
+from typing import Any, NamedTuple
+
+NOTED = re.compile(r"seed ([0-9A-Fa-f]{64})\b ?(.*)", re.DOTALL)
+DRAWN = re.compile(r"draw \$\(rooms words --seed ([0-9A-Fa-f]{64})")
+OF_TEXT = "SHA-256 of "
+# Steps after which the round is over.
+LAST_STEPS = {"settle", "cancel"}
+REFUSED = (1, 2)
+BEGINNING = datetime.datetime.min.replace(tzinfo=datetime.timezone.utc)
+
+Entry = dict[str, Any]
+
+
+class Noted(NamedTuple):
+    """A seed: when it was noted, by whom, how it came about, the line that works it out again from a text, and whether
+    it was noted before the round was closed, when lists could still change."""
+
+    at: str
+    who: str
+    seed: str
+    source: str
+    check: str
+    early: bool
+
+
+class Seeds(NamedTuple):
+    """The seeds that were noted in the round of now, the first one first; the seed of the draw; and the time before
+    which the journal could not be read, if this round may have begun before it."""
+
+    found: list[Noted]
+    drawn: str
+    since: str
+
+
+class Start(NamedTuple):
+    """When a round began, and the place of its first entry."""
+
+    time: datetime.datetime
+    place: int
+
+
+def merged(journal: list[Entry]) -> list[Entry]:
+    """The journal with one entry for each change. The keeper writes two, before the change and after it."""
+    rows: dict[str, Entry] = {}
+    for number, entry in enumerate(journal):
+        row = rows.setdefault(str(entry.get("n", f"entry {number}")), {"at": entry["at"]})
+        row.update({name: value for name, value in entry.items() if name != "at"})
+    return list(rows.values())
+
+
+def lines_of(entry: Entry) -> list[str]:
+    """The lines that the keeper carried out, or may have carried out; none of what somebody has noted."""
+    if "n" not in entry or entry.get("status") in REFUSED:
+        return []
+    return str(entry.get("line", "")).split("; ")
+
+
+def round_of_now(entries: list[Entry]) -> list[Entry]:
+    """The entries since the round before this one was over."""
+    starts = [Start(BEGINNING, 0)]
+    for place, entry in enumerate(entries):
+        lines, time = lines_of(entry), datetime.datetime.fromisoformat(entry["at"])
+        if entry.get("status") == 0 and LAST_STEPS.intersection(lines):
+            starts.append(Start(time, place + 1))
+        elif lines and lines[0].startswith("back "):
+            starts.append(Start(time, start_at(starts, lines[0].removeprefix("back "))))
+    return entries[starts[-1].place:]
+
+
+def start_at(starts: list[Start], copy: str) -> int:
+    """Where the round began that was under way when a copy was made, by the copy's name. What was done in the same
+    second may have come after it."""
+    try:
+        made = datetime.datetime.strptime(copy[:16], "%Y%m%dT%H%M%SZ").replace(tzinfo=datetime.timezone.utc)
+    except ValueError:
+        return 0
+    return list(itertools.takewhile(lambda start: start.time < made, starts))[-1].place
+
+
+def when(entry: Entry) -> str:
+    """The time of an entry, for the screen."""
+    return str(entry["at"]).replace("T", " ")[:19]
+
+
+def noted_in(entry: Entry, early: bool) -> Noted | None:
+    """The seed that somebody has noted."""
+    match = NOTED.fullmatch(str(entry.get("note", entry.get("line", ""))))
+    if match is None or "n" in entry:
+        return None
+    source = match[2] or "without a word on how it came about"
+    text = source.removeprefix(OF_TEXT)
+    check = f"printf %s {shlex.quote(text)} | sha256sum" if text != source else ""
+    return Noted(when(entry), entry.get("who", ""), match[1].lower(), source, check, early)
+
+
+def noted_seeds(journal: list[Entry], whole: bool) -> Seeds:
+    """The seeds in the journal. If it is not `whole`, it has lost its beginning."""
+    rows = merged(journal)
+    entries = round_of_now(rows)
+    closed = next((place for place, entry in enumerate(entries) if "close" in lines_of(entry)), 0)
+    found = [noted_in(entry, place < closed) for place, entry in enumerate(entries)]
+    drawn = ""
+    for line in [line for entry in entries for line in lines_of(entry) if line.startswith("draw ")]:
+        by_seed = DRAWN.match(line)
+        drawn = by_seed[1].lower() if by_seed else ""
+    return Seeds([noted for noted in found if noted], drawn, "" if whole or len(entries) < len(rows) else when(rows[0]))
