@@ -90,7 +90,7 @@ NAMES = (
 # A list is read into memory: these lines take the place of the page where a temporary file would end them.
 UPLOAD = """
 import io, sys, tempfile
-sys.path.insert(0, sys.argv[1])
+sys.path[:0] = [sys.argv[1], sys.argv[1] + "/.."]
 def never(*_, **__):
     raise SystemExit("a temporary file was asked for")
 tempfile.TemporaryFile = never
@@ -205,7 +205,7 @@ def try_lists(stand, page):
         "too many fields": (b"room\nZ-1,\n", "more or fewer fields"),
         "a null": (b"room\nZ-1\0\n", "well written"),
         "an open quote": (b'room\n"Z-1\nZ-2\n', "well written"),
-        "too long": (b"room\n" + b"Z-1\n" * 70_000, "limit"),
+        "too long": (b"room\n" + b"Z-1\n" * 70_000, "longer than 262,144 bytes"),
         "nothing": (b"", "Choose a list first"),
     }
     for name, (body, text) in lists.items():
@@ -224,6 +224,19 @@ def try_lists(stand, page):
     body = multipart({"text": "y" * 90_000}, {"list": b"x" * 250_000})
     done = subprocess.run([PYTHON, "-c", UPLOAD, PAGE.parent, kind], input=body, capture_output=True, check=False)
     check("a list of 250,000 bytes is held in memory alone", done.stdout.split() == [b"250000", b"90000"], done)
+
+
+def try_keys(page):
+    """A key where none belongs is not shown."""
+    key = key_of("T01")
+    body = f"person,name,key,home\nX1,Ann, Li,{key},\n{key},Bo,,\nX2,Cy,{key.upper()} no,\n".encode()
+    shown = page.form("/office/lists", {"kind": "people", "label": "keys"}, files={"list": body})[2]
+    check("no key of a bad list is shown", key not in shown.lower() and shown.count("(key)") > 3, shown[-2500:])
+    shown = page.form("/office/many", {"act": "remove", "text": f"T01 {key}"}, page="/office/many")[2]
+    check("nor one among identifiers", key not in shown.lower() and "(key)" in shown, shown[-2500:])
+    page.form("/office/lists", {"kind": "rooms", "label": f"x-{key}"}, files={"list": b"room\nZ-1\n"})
+    shown = page.get("/office/lists")[2]
+    check("nor one for a label", key not in shown and "may be a key" in shown, shown[:1500])
 
 
 def try_markup(stand, page):
@@ -354,6 +367,7 @@ def try_office_doors(program):
         anna, bert = Page(stand), Page(stand, "bert")
         try_forms(stand, anna)
         try_lists(stand, anna)
+        try_keys(anna)
         try_markup(stand, anna)
         try_random(stand, anna)
         try_two_clerks(stand, anna, bert)

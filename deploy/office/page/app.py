@@ -25,7 +25,6 @@ from memory import Memory
 from office_view import Office
 
 HERE = Path(__file__).resolve().parent
-LONGEST_LIST = 262_144
 # As in haproxy.cfg. A list that is too long comes as far as this page, which says so: where the proxy answers before all
 # of a body is there, some clients of HTTP/2, such as curl, report a failure in place of the answer.
 LONGEST_FORM = 5_000_000
@@ -90,9 +89,9 @@ def text_of(name: str) -> str:
 
 
 def upload_of(name: str) -> bytes:
-    """The bytes of a file in a form. One that is too long is cut behind the limit, and the program refuses it."""
+    """The bytes of a file in a form. One that is too long is cut behind the limit."""
     upload = request.files.get(name)  # pylint: disable=no-member  # bottle makes it when it is asked for
-    return bytes(upload.file.read(LONGEST_LIST + 1)) if upload else b""
+    return bytes(upload.file.read(plain.LONGEST_LIST + 1)) if upload else b""
 
 
 def tell(kind: str, text: str) -> None:
@@ -188,7 +187,7 @@ app.install(tell_keeper_faults)
 def refused(error: bottle.HTTPError) -> str:
     """The page of a request that leads nowhere."""
     texts = {404: "There is no such page.", 405: "There is no such page.", 403: "The proxy names no clerk.",
-             413: "This list is too long: split it in two."}
+             413: plain.TOO_LONG}
     return down(texts.get(error.status_code, "The page does not understand this request."))
 
 

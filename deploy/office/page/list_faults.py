@@ -4,6 +4,8 @@ import time
 from collections.abc import Callable
 from typing import NamedTuple
 
+from journal import masked
+
 import plain
 from csv_list import CsvList
 from keeper_client import Answer
@@ -31,9 +33,9 @@ class Findings(NamedTuple):
 
 
 def shown(fields: list[str], kind: str) -> str:
-    """A record for the screen. A key is never shown."""
+    """A record for the screen. A key is never shown, not even one that is no key yet or is in another column."""
     fields = ["(key)" if kind == "people" and place == 2 and field else field for place, field in enumerate(fields)]
-    return " | ".join(fields).encode("utf-8", "replace").decode()
+    return masked(" | ".join(fields).encode("utf-8", "replace").decode())
 
 
 def bad_record(answer: Answer) -> tuple[int, list[str]] | None:
@@ -61,8 +63,8 @@ def find(table: CsvList, kind: str, attempt: Callable[[bytes], Answer]) -> Findi
         if place == 0 or words[0] == "many" or place >= len(left):
             return Findings(sorted(faults), plain.cause(words, kind), False)
         record = table.records[left[place]]
-        ident = record.fields[0].encode("utf-8", "replace").decode()
-        faults.append(Fault(record.row, ident, shown(record.fields, kind), plain.cause(words, kind)))
+        faults.append(Fault(record.row, shown(record.fields[:1], kind), shown(record.fields, kind),
+                            plain.cause(words, kind)))
         taken.add(left[place])
         if len(faults) == MOST or time.monotonic() > end:
             return Findings(sorted(faults), None, True)

@@ -4,6 +4,8 @@ import base64
 import csv
 from typing import Any, NamedTuple
 
+from journal import masked
+
 import list_faults
 import plain
 from app import app, ask, change, clerk, field, go_to, memory, office_now, show, tell, text_of, upload_of
@@ -30,6 +32,15 @@ def try_list(job: Job) -> Answer:
     return answers_of(ask("import", only_try=True, **job.fields()))[0]
 
 
+def what_is_wrong(office: Office, kind: str, label: str, body: bytes) -> str:
+    """Why a list is not even tried, or nothing."""
+    if kind not in plain.kinds(office.version) or not body:
+        return "Choose a list first."
+    if len(body) > plain.LONGEST_LIST:
+        return plain.TOO_LONG
+    return plain.LABEL_LIKE_A_KEY if masked(label) != label else ""
+
+
 @app.get("/office/lists")
 def lists() -> str:
     """The forms for lists, and the imported lists."""
@@ -40,13 +51,13 @@ def lists() -> str:
 def look_at_list() -> str:
     """Tries a list. If it fits, the page holds it until the clerk says to import it."""
     office, kind, label, body = office_now(), text_of("kind"), text_of("label"), upload_of("list")
-    if kind not in plain.kinds(office.version) or not body:
-        tell("bad", "Choose a list first.")
-        go_to("/office/lists")
     try:
         table = CsvList(body)
+        wrong = what_is_wrong(office, kind, label, body)
     except csv.Error:
-        tell("bad", "This file is no list in CSV. Save it from the spreadsheet as CSV, UTF-8, with commas.")
+        wrong = "This file is no list in CSV. Save it from the spreadsheet as CSV, UTF-8, with commas."
+    if wrong:
+        tell("bad", wrong)
         go_to("/office/lists")
     made = []
     if kind == "people" and field("keys") and table.header == plain.KINDS["people"].header.split(","):

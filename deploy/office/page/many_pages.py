@@ -3,6 +3,8 @@
 import re
 from typing import Any, NamedTuple
 
+from journal import masked
+
 import plain
 from app import app, ask, attempt, clerk, field, go_to, memory, office_now, show, tell, text_of
 from keeper_client import KeeperFault, answers_of
@@ -56,7 +58,7 @@ def many() -> str:
 @app.post("/office/many")
 def look_at_many() -> str:
     """Shows whom the identifiers name, and tries the change on a copy."""
-    office, act, text = office_now(), text_of("act"), field("text")
+    office, act, text = office_now(), text_of("act"), masked(field("text"))
     acts = {name: title for name, (phases, title) in ACTS.items() if office.phase in phases}
     idents = list(dict.fromkeys(re.split(r"[\s,;]+", text.upper().strip(" \t\r\n,;"))))
     faults = [f"No person has the identifier {ident[:20]}." for ident in idents if ident not in office.people]

@@ -3,6 +3,8 @@
 import re
 import secrets
 
+from journal import masked
+
 import explaining
 import plain
 from app import app, ask, attempt, change, clerk, field, go_to, memory, office_now, show, tell, text_of
@@ -33,7 +35,7 @@ def search() -> None:
 def person_of(office: Office, ident: str) -> str:
     """The address of a person's page, or the register with the news that there is no such person."""
     if ident not in office.people:
-        tell("bad", f"No person has the identifier {ident[:12]}.")
+        tell("bad", f"No person has the identifier {masked(ident)[:12]}.")
         go_to("/office/register")
     return f"/office/person/{ident}"
 

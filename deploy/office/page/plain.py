@@ -100,6 +100,7 @@ KINDS = {
     "choices": Kind("person,choices", "Identifier, and the room codes, the best first, with one space between two.",
                     ("open",), 1),
 }
+LONGEST_LIST = 262_144
 # The phases in which there is a drawn order.
 DRAWN = ("drawn", "ran", "published")
 
@@ -123,7 +124,7 @@ REFUSALS = {
     10: Meaning("This person has no room.", "There is nothing to leave."),
     11: Meaning("This person has withdrawn from the round.", "Take the line out of the list."),
     12: Meaning("The number of words is not the number of participants.", "Draw again."),
-    13: Meaning("A limit is reached: 2,000 rooms, 2,000 people, 200 lists, or 262,144 bytes in a list.",
+    13: Meaning(f"A limit is reached: 2,000 rooms, 2,000 people, 200 lists, or {LONGEST_LIST:,} bytes in a list.",
                 "Split a long list in two."),
     14: Meaning("Another list was imported under this label.", "Choose another label."),
     16: Meaning("This person takes no part in the round.", "Choose a participant."),
@@ -134,6 +135,9 @@ REFUSALS = {
     24: Meaning("This person leaves the college at the end of the round.", "Take the line out of the list."),
 }
 
+TOO_LONG = f"This list is longer than {LONGEST_LIST:,} bytes. Nothing came in. Split it in two, with a label each."
+LABEL_LIKE_A_KEY = ("A label with 16 letters and digits in a row may be a key, and the journal takes no keys. Write "
+                    "another label.")
 CODE = "Write a room code: up to eight capital letters, digits and hyphens, the first no hyphen."
 IDENTIFIER = "Write an identifier: up to twelve capital letters and digits."
 FIELDS = {
