@@ -5,19 +5,20 @@
 | view | | the rows of the office (rows.py); server: whether it runs; status: of the last one that ended by itself; ended: times, at, ago, status |
 | watch | | faults: what is wrong with the server, the disk and the copies; age: of the newest copy, in seconds |
 | try | lines | answers: of a copy, which is thrown away |
-| do | lines, seen | answers, done, took, copy |
+| do | lines, seen, saw | answers, done, took, copy |
 | draw | seed, seen | as `do` |
-| import | kind, label, body, only_try, seen | as `do`; known: whether its label was taken; `body` in base 64 |
+| import | kind, label, body, only_try, seen, saw | as `do`; known: whether its label was taken; `body` in base 64 |
 | export | kind | answers |
 | record | | body: the public record of the round |
 | backup, backups | | name; backups: name, bytes and reason of each |
 | back | name, seen | name: of the copy that was taken of the present office before |
 | blank | label, seen | blanked: the label |
-| correct | person, name or key or both, seen | corrected: the person; copy |
+| correct | person, name or key or both, seen, saw | corrected: the person; copy |
 | note, journal | line; last | nothing; journal: the last entries; whole: whether no entry is too old to be had |
 | blank-journal | | blanked: how many answers, which may have had names, were taken out of the journal |
 
-An answer is a text and a status of the program. What cannot be done is answered `fault`, with the reason.
+By `seen` and `saw` the sender says what it saw of the round and of people; if that is so no more, nothing is changed
+(seen.py). An answer is a text and a status of the program. What cannot be done is answered `fault`, with the reason.
 """
 
 import base64
@@ -33,7 +34,8 @@ from hand import CarryOut, Change, Hand
 from journal import masked, masked_line, masked_note
 from office import Office
 from program import NOT_UNDERSTOOD, Answer, correct, is_of_earlier_version, is_refused
-from rows import Rows, rows_of
+from rows import rows_of
+from seen import PARTS, Rows, Saw
 from settings import Fault
 from watching import watch
 
@@ -52,6 +54,16 @@ def text(job: Job, name: str) -> str:
 def seen_in(job: Job) -> str | None:
     """In which state the sender saw the office, if the request says so."""
     return text(job, "seen") if job.get("seen") is not None else None
+
+
+def saw_in(job: Job) -> Saw | None:
+    """What the sender saw of people, if the request says so."""
+    if job.get("saw") is None:
+        return None
+    part, people, mark = job["saw"]
+    if part not in PARTS or not isinstance(people, list) or not all(isinstance(one, str) for one in people):
+        raise Fault("not understood: saw is no part of what is on record of people")
+    return Saw(part, people, mark)
 
 
 def lines_of(job: Job) -> list[str]:
@@ -181,7 +193,8 @@ class Asks:
         """Hands a change to the hand, and gives its answers."""
         spoken = spoken if len(spoken) <= SPOKEN else spoken[:SPOKEN] + " .."
         why = f"before {spoken[:60]}, by {job['who']}"
-        asked = Change(job["who"], spoken, carry_out, whole=whole, kind=kind, why=why, seen=seen_in(job))
+        asked = Change(job["who"], spoken, carry_out, whole=whole, kind=kind, why=why, seen=seen_in(job),
+                       saw=saw_in(job))
         change = self.hand.change(asked)
         done = not is_refused(change.answers)
         return {"answers": change.answers, "done": done, "took": change.took, "copy": change.copy}
@@ -244,7 +257,8 @@ class Asks:
             return [self.program.look(copy)]
         spoken = masked(f"correct {person}: {' and '.join(values)}")
         change = self.hand.change(Change(job["who"], spoken, carry_out, whole=True, kind="correct",
-                                         why=f"before {spoken}, by {job['who']}", seen=seen_in(job)))
+                                         why=f"before {spoken}, by {job['who']}", seen=seen_in(job),
+                                         saw=saw_in(job)))
         if is_refused(change.answers):
             said = change.answers[-1].text.strip()
             raise Fault(f"the program does not take this name or key ({said}). Nothing was changed.")

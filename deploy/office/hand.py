@@ -19,7 +19,8 @@ from typing import Any
 from copies import make_whole
 from office import Office
 from program import Answer, is_refused
-from rows import View, stamp
+from rows import View
+from seen import Saw, why_stale
 from settings import Fault
 
 FIRST_PAUSE, LONGEST_PAUSE = 0.2, 5.0  # seconds before a server is started again that has ended by itself
@@ -41,7 +42,8 @@ class Change:  # pylint: disable=too-many-instance-attributes  # what is asked f
     kind: str = ""                              # the kind of the copy that is kept before, or none
     why: str = ""
     damaged: bool = False                       # even if the office is damaged
-    seen: str | None = None                     # the state in which its sender saw the office
+    seen: str | None = None                     # the state in which its sender saw the round
+    saw: Saw | None = None                      # what its sender saw of people
     copy: str | None = None                     # the name of the copy that was kept before
     answers: list[Answer] = field(default_factory=list)
     took: int = 0                               # milliseconds
@@ -194,8 +196,9 @@ class Hand:  # pylint: disable=too-many-instance-attributes  # the parts of the 
         self.place.finish()
         with contextlib.ExitStack() as holding:
             held = holding.enter_context(self.place.held())
-            if change.seen is not None and change.seen != (now := stamp(self.view.rows(still=True))):
-                raise Fault(f"the office has gone on: it is at {now} now. Nothing was changed. Look before you go on.")
+            asks = change.seen is not None or change.saw is not None
+            if asks and (why := why_stale(self.view.rows(still=True), change.seen, change.saw)):
+                raise Fault(why)
             if change.kind:
                 change.copy = self.backups.keep(change.kind, change.why, still=True, damaged=change.damaged)
             number = self.journal.begin(change.who, change.line, change.copy)

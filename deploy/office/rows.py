@@ -1,14 +1,14 @@
-"""What the office's file says, read from a copy: all but keys and the bytes of lists."""
+"""What the office's file says, read from a copy: all but keys, of which it has marks, and the bytes of lists."""
 
 import contextlib
+import hashlib
+import secrets
 import sqlite3
 import threading
 from pathlib import Path
-from typing import Any
 
 from copies import Copies, State
-
-Rows = dict[str, Any]
+from seen import Rows
 
 # Each table that is shown as it is.
 TABLES = {
@@ -24,6 +24,8 @@ LATER = {
     "grades": (2, "SELECT person, value FROM grade ORDER BY person"),
     "going": (3, "SELECT person FROM going ORDER BY person"),
 }
+# By it a mark of a key says whether the key has changed, and nothing else. It never leaves this process.
+SECRET = secrets.token_bytes(32)
 
 
 def rows_of(file: Path) -> Rows:
@@ -36,13 +38,11 @@ def rows_of(file: Path) -> Rows:
         choices: dict[str, list[str]] = {}
         for person, room in database.execute("SELECT person, room FROM choice ORDER BY person, place"):
             choices.setdefault(person, []).append(room)
+        key_marks = {person: hashlib.blake2b(key.encode(), digest_size=6, key=SECRET).hexdigest()
+                     for person, key in database.execute("SELECT id, passkey FROM person")}
         settled = [number for number, in database.execute("SELECT DISTINCT round FROM move ORDER BY round")]
-    return {**rows, "version": version, "number": number, "phase": phase, "choices": choices, "settled": settled}
-
-
-def stamp(rows: Rows) -> str:
-    """The state of the round. A change whose sender saw another one is not made."""
-    return f"round {rows['number']} {rows['phase']}"
+    return {**rows, "version": version, "number": number, "phase": phase, "choices": choices, "settled": settled,
+            "key_marks": key_marks}
 
 
 class View:  # pylint: disable=too-few-public-methods  # it keeps what it has read

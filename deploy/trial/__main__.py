@@ -26,6 +26,7 @@ from kills import try_kills
 from limits import try_limits
 from memory import try_memory
 from noted import try_noted
+from office_clerks import try_office_clerks
 from office_doors import try_office_doors
 from office_page import try_office_page
 from office_sheets import try_office_sheets
@@ -64,6 +65,7 @@ if __name__ == "__main__":
     try_office_page(sys.argv[1], folder)
     try_noted(sys.argv[1])
     try_office_doors(sys.argv[1])
+    try_office_clerks(sys.argv[1])
     try_office_sheets(sys.argv[1])
     try_burst(sys.argv[1])
     try_limits(sys.argv[1])

@@ -1,6 +1,7 @@
 """Requests to the office's page through the proxy, without a browser."""
 
 import base64
+import html
 import http.client
 import json
 import re
@@ -54,11 +55,12 @@ class Page:
         """A page."""
         return self.ask("GET", path, headers=headers)
 
-    def hidden(self, page):
-        """What the forms of a page carry."""
+    def hidden(self, page, action=""):
+        """What the form with this action carries unseen, or what every form of the page does."""
         text = self.get(page)[2]
-        found = {name: re.search(f'name="{name}" value="([^"]*)"', text) for name in ("token", "seen")}
-        return {name: match[1] for name, match in found.items() if match}
+        forms = re.findall(f'action="{re.escape(action)}"(.*?)</form>', text, re.DOTALL) if action else []
+        found = re.findall(r'type="hidden" name="(\w+)" value="([^"]*)"', forms[0] if forms else text)
+        return {name: html.unescape(value) for name, value in found if forms or name in ("token", "seen")}
 
     def post(self, path, form, headers=None, files=None):
         """A form just as it is given."""
@@ -68,7 +70,7 @@ class Page:
 
     def form(self, path, form=None, page="/office/lists", files=None):
         """A form of a page, with all that the page puts into it."""
-        return self.post(path, {**self.hidden(page), **(form or {})}, files=files)
+        return self.post(path, {**self.hidden(page, path), **(form or {})}, files=files)
 
 
 def hand_in(stand, key, rooms):

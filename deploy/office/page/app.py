@@ -140,6 +140,11 @@ def drawn_order() -> list[tuple[str, str, str, str]]:
     return [(place, word, ident, grade[-1] if grade else "0") for place, word, ident, *grade in rows]
 
 
+def saw(part: str, *people: str) -> list[Any]:
+    """What the clerk saw of people, by the mark in the form."""
+    return [part, people, field("saw")]
+
+
 def change(question: str, **fields: Any) -> bool:
     """Changes the office, and shows the clerk the outcome. Returns whether all of it was carried out."""
     try:

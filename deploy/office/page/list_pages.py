@@ -5,6 +5,7 @@ import csv
 from typing import Any, NamedTuple
 
 from journal import masked
+from seen import Saw
 
 import list_faults
 import plain
@@ -21,10 +22,12 @@ class Job(NamedTuple):
     kind: str
     label: str
     body: bytes
+    saw: Saw | None = None  # what the list replaces
 
-    def fields(self) -> dict[str, str]:
+    def fields(self) -> dict[str, Any]:
         """The list as the keeper takes it."""
-        return {"kind": self.kind, "label": self.label, "body": base64.b64encode(self.body).decode()}
+        body = base64.b64encode(self.body).decode()
+        return {"kind": self.kind, "label": self.label, "body": body, "saw": self.saw}
 
 
 def try_list(job: Job) -> Answer:
@@ -83,24 +86,34 @@ def fitting_list(office: Office, job: Job, table: CsvList, made: list[tuple[str,
         for number, record in enumerate(table.records):
             if number and office.choices.get(record.fields[0], record.fields[1].split()) != record.fields[1].split():
                 replaced[record.fields[0]] = number
-    rest = Job(job.kind, job.label, table.body(without={number for number, record in enumerate(table.records)
-                                                        if number and record.fields[0] in replaced}))
-    count = len(table.records) - 1
-    return show("fits", office=office, job=job, count=count, made=made, replaced=list(replaced),
-                held=memory.hold(clerk(), job), held_rest=memory.hold(clerk(), rest) if replaced else "")
+    rest = job._replace(body=table.body(without={number for number, record in enumerate(table.records)
+                                                 if number and record.fields[0] in replaced}))
+    people = [record.fields[0] for record in table.records[1:]]
+    others = [person for person in people if person not in replaced]
+    return show("fits", office=office, job=job, count=len(people), made=made, replaced=list(replaced),
+                held=hold(office, job, people), held_rest=hold(office, rest, others) if replaced else "")
+
+
+def hold(office: Office, job: Job, people: list[str]) -> str:
+    """Holds a list until the clerk says yes, with what it replaces of these people. Gives its name."""
+    part = {"choices": "list", "grades": "grade"}.get(job.kind)
+    return memory.hold(clerk(), job._replace(saw=office.saw(part, *people) if part else None))
 
 
 @app.post("/office/lists/bring")
-def bring_list() -> None:
-    """Imports a list that was tried."""
-    name = text_of("held")
+def bring_list() -> str:
+    """Imports a list that was tried. If what it replaces has changed since, the clerk looks again."""
+    office, name = office_now(), text_of("held")
     job: Any = memory.held(clerk(), name)
     if not isinstance(job, Job):
         tell("bad", "The page no longer holds this list. Nothing was imported: send the list again.")
-    elif office_now().has_label(job.label):
+    elif office.has_label(job.label):
         tell("bad", f"A list was imported under the label {job.label} meanwhile. Send yours under another label.")
+    elif job.saw and job.saw != office.saw(job.saw.part, *job.saw.people):
+        tell("bad", "What this list replaces has changed since you tried it. Nothing came in: look again.")
+        return fitting_list(office, job, CsvList(job.body), [])
     elif change("import", **job.fields()):
-        memory.let_go(name)
+        memory.let_go(clerk(), name)
     go_to("/office/lists")
 
 

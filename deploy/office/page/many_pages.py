@@ -4,6 +4,7 @@ import re
 from typing import Any, NamedTuple
 
 from journal import masked
+from seen import Saw
 
 import plain
 from app import app, ask, attempt, clerk, field, go_to, memory, office_now, show, tell, text_of
@@ -16,12 +17,19 @@ MOST_AT_ONCE = 300
 GROUP = 15
 
 
+class Group(NamedTuple):
+    """Lines for some of the people, and what was on record of these people when the lines were tried."""
+
+    lines: list[str]
+    saw: Saw
+
+
 class Many(NamedTuple):
     """Lines for many people that were tried and wait for the clerk's yes."""
 
     act: str
     idents: list[str]
-    groups: list[list[str]]
+    groups: list[Group]
 
 
 ACTS = {
@@ -40,11 +48,12 @@ def lines_for(office: Office, act: str, ident: str) -> list[str]:
     return leave if act == "leave" else [*leave, f"remove {ident}"]
 
 
-def groups_of(office: Office, act: str, idents: list[str]) -> list[list[str]]:
+def groups_of(office: Office, act: str, idents: list[str]) -> list[Group]:
     """The lines for all of these people, in groups."""
-    groups = [[line for ident in idents[start:start + GROUP] for line in lines_for(office, act, ident)]
-              for start in range(0, len(idents), GROUP)]
-    return [lines for lines in groups if lines]
+    parts = [idents[start:start + GROUP] for start in range(0, len(idents), GROUP)]
+    groups = [Group([line for ident in part for line in lines_for(office, act, ident)], office.saw("all", *part))
+              for part in parts]
+    return [group for group in groups if group.lines]
 
 
 @app.get("/office/many")
@@ -75,7 +84,7 @@ def look_at_many() -> str:
     job = None
     if not faults:
         job = Many(act, idents, groups_of(office, act, idents))
-        refused = [last for last in (attempt(*lines)[-1] for lines in job.groups) if last.status]
+        refused = [last for last in (attempt(*group.lines)[-1] for group in job.groups) if last.status]
         if refused:
             faults, job = [str(plain.meaning(refused[0].text))], None
     held = memory.hold(clerk(), job) if job else ""
@@ -90,9 +99,9 @@ def do_many() -> None:
     if not isinstance(job, Many):
         tell("bad", "The page no longer holds these identifiers. Nothing was changed: send them again.")
         go_to("/office/many")
-    memory.let_go(name)
-    for number, lines in enumerate(job.groups):
-        if fault := fault_of(lines):
+    memory.let_go(clerk(), name)
+    for number, group in enumerate(job.groups):
+        if fault := fault_of(group):
             tell("bad", f"{number} of {len(job.groups)} groups of up to {GROUP} people were carried out, and then this "
                         f"came: {fault} Look how far it came before you go on.")
             go_to("/office/register")
@@ -100,10 +109,10 @@ def do_many() -> None:
     go_to("/office/register")
 
 
-def fault_of(lines: list[str]) -> str:
+def fault_of(group: Group) -> str:
     """Carries out a group. What went wrong, or nothing."""
     try:
-        reply = ask("do", lines=lines, seen=field("seen"))
+        reply = ask("do", lines=group.lines, seen=field("seen"), saw=group.saw)
     except KeeperFault as fault:
         return str(fault)
     return "" if reply["done"] else str(plain.meaning(answers_of(reply)[-1].text))

@@ -7,7 +7,7 @@ from collections import defaultdict
 from typing import Any, NamedTuple
 
 HOUR = 3600
-# A list has up to 262,144 bytes: twenty of them are five megabytes.
+# For each clerk. A list has up to 262,144 bytes: twenty of them are five megabytes.
 MOST = 20
 
 
@@ -21,7 +21,6 @@ class News(NamedTuple):
 class Held(NamedTuple):
     """Something that waits for the clerk's answer."""
 
-    owner: str
     until: float
     what: Any
 
@@ -32,7 +31,7 @@ class Memory:
     def __init__(self) -> None:
         self._lock = threading.Lock()
         self._news: dict[str, list[News]] = defaultdict(list)
-        self._held: dict[str, Held] = {}
+        self._held: dict[str, dict[str, Held]] = defaultdict(dict)
         self._searches: dict[str, str] = {}
 
     def tell(self, clerk: str, kind: str, text: str) -> None:
@@ -53,28 +52,30 @@ class Memory:
             return self._searches.get(clerk, "")
 
     def hold(self, clerk: str, what: Any) -> str:
-        """Holds something for an hour, and gives the name under which it can be had. The oldest go first."""
+        """Holds something for an hour, and gives the name under which it can be had. The clerk's oldest go first."""
         name = secrets.token_hex(16)
         with self._lock:
             self._forget()
-            while len(self._held) >= MOST:
-                del self._held[next(iter(self._held))]
-            self._held[name] = Held(clerk, time.monotonic() + HOUR, what)
+            own = self._held[clerk]
+            while len(own) >= MOST:
+                del own[next(iter(own))]
+            own[name] = Held(time.monotonic() + HOUR, what)
         return name
 
     def held(self, clerk: str, name: str) -> Any | None:
         """What is held under a name, for its owner alone."""
         with self._lock:
             self._forget()
-            found = self._held.get(name)
-            return found.what if found and found.owner == clerk else None
+            found = self._held[clerk].get(name)
+            return found.what if found else None
 
-    def let_go(self, name: str) -> None:
+    def let_go(self, clerk: str, name: str) -> None:
         """Forgets what was held."""
         with self._lock:
-            self._held.pop(name, None)
+            self._held[clerk].pop(name, None)
 
     def _forget(self) -> None:
         """Forgets what was held for longer than an hour."""
-        for name in [name for name, held in self._held.items() if held.until < time.monotonic()]:
-            del self._held[name]
+        for own in self._held.values():
+            for name in [name for name, held in own.items() if held.until < time.monotonic()]:
+                del own[name]

@@ -2,6 +2,8 @@
 
 from typing import Any, NamedTuple
 
+from seen import Saw, saw, stamp
+
 import plain
 
 
@@ -60,7 +62,12 @@ class Office:  # pylint: disable=too-many-instance-attributes  # each is a part 
     @property
     def stamp(self) -> str:
         """The state of the round. A form carries it, and the keeper refuses a change that was meant for another one."""
-        return f"round {self.number} {self.phase}"
+        return stamp(self.view)
+
+    def saw(self, part: str, *people: str) -> Saw:
+        """What is on record of people. A form that changes them carries its mark, and the keeper refuses a change that
+        was meant for something else."""
+        return saw(self.view, part, list(people))
 
     @property
     def next_step(self) -> str | None:

@@ -7,7 +7,7 @@ from journal import masked
 
 import explaining
 import plain
-from app import app, ask, attempt, change, clerk, field, go_to, memory, office_now, show, tell, text_of
+from app import app, ask, attempt, change, clerk, field, go_to, memory, office_now, saw, show, tell, text_of
 from keeper_client import KeeperFault
 from office_view import Office
 from questions import Question, put_question
@@ -65,21 +65,23 @@ def what_if(ident: str) -> None:
 @app.post("/office/person/<ident>/home")
 def move_in(ident: str) -> None:
     """Records where a person lives."""
-    change("do", lines=[f"home {ident} {text_of('text').upper()}"])
+    change("do", lines=[f"home {ident} {text_of('text').upper()}"], saw=saw("home", ident))
     go_to(person_of(office_now(), ident))
 
 
 @app.post("/office/person/<ident>/choose")
 def choose(ident: str) -> None:
-    """Puts a person's list on record."""
-    change("do", lines=[f"choose {ident} {text_of('text').upper()}".strip()])
+    """Puts a person's list on record. If that is not done, the clerk reads both lists: the page shows the other one."""
+    wishes = text_of("text").upper()
+    if not change("do", lines=[f"choose {ident} {wishes}".strip()], saw=saw("list", ident)):
+        tell("bad", f"You had entered: {masked(wishes) or 'an empty list'}.")
     go_to(person_of(office_now(), ident))
 
 
 @app.post("/office/person/<ident>/grade")
 def set_grade(ident: str) -> None:
     """Records a person's grade."""
-    change("do", lines=[f"grade {ident} {text_of('grade')}"])
+    change("do", lines=[f"grade {ident} {text_of('grade')}"], saw=saw("grade", ident))
     go_to(person_of(office_now(), ident))
 
 
@@ -87,15 +89,15 @@ def set_grade(ident: str) -> None:
 def correct_name(ident: str) -> None:
     """Corrects a person's name."""
     place = person_of(office_now(), ident)
-    if correct(ident, name=text_of("name")):
+    if correct("name", ident, text_of("name")):
         tell("good", "The name is corrected.")
     go_to(place)
 
 
-def correct(ident: str, **values: str) -> bool:
+def correct(part: str, ident: str, value: str) -> bool:
     """Gives a person another name or key. Whether that was done; else the clerk reads why not."""
     try:
-        ask("correct", person=ident, seen=field("seen"), **values)
+        ask("correct", person=ident, seen=field("seen"), saw=saw(part, ident), **{part: value})
     except KeeperFault as fault:
         tell("bad", f"This could not be done. {fault}")
         return False
@@ -139,7 +141,8 @@ def ask_person(ident: str, act: str) -> str:
     question = question_of(office, ident, act)
     if question is None:
         go_to(place)
-    return put_question(office, question)
+    part = "key" if act == "key" else "all"
+    return put_question(office, question._replace(saw=office.saw(part, ident).mark))
 
 
 @app.post("/office/person/<ident>/<act>")
@@ -150,12 +153,12 @@ def change_person(ident: str, act: str) -> str:
     person = office.people[ident]
     leave = [f"leave {ident}"] if person.home else []
     if act in ("leave", "withdraw", "going"):
-        change("do", lines=[f"{act} {ident}"])
-    elif act == "remove" and change("do", lines=[*leave, f"remove {ident}"]):
+        change("do", lines=[f"{act} {ident}"], saw=saw("all", ident))
+    elif act == "remove" and change("do", lines=[*leave, f"remove {ident}"], saw=saw("all", ident)):
         go_to("/office/register")
     elif act == "key":
         key = secrets.token_hex(16)
-        if correct(ident, key=key):
+        if correct("key", ident, key):
             return show("key", office=office_now(), ident=ident, slips=[(ident, person.name, key)])
     go_to(place)
 

@@ -7,13 +7,15 @@ from office_view import Office
 
 
 class Question(NamedTuple):
-    """What happens, what the button of yes says, and where no leads. Yes goes to the question's own address."""
+    """What happens, what the button of yes says, and where no leads. Yes goes to the question's own address. `saw` is
+    the mark of what the clerk saw of a person."""
 
     title: str
     says: list[str]
     yes: str
     back: str
     link: tuple[str, str] | None = None
+    saw: str = ""
 
 
 def put_question(office: Office, question: Question) -> str:

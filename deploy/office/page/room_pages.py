@@ -1,7 +1,8 @@
 """The rooms of the register."""
 
 import plain
-from app import app, change, go_to, office_now, show, text_of
+from app import app, change, go_to, office_now, saw, show, text_of
+from office_view import Office
 from questions import Question, put_question
 
 
@@ -16,29 +17,37 @@ def change_room() -> None:
     """Adds a room, or takes a room out of use or back, by the button that was pressed."""
     verb, _, code = text_of("change").partition(" ")
     code = code or text_of("code").upper()
+    if verb == "shut" and tenant_of(office_now(), code):
+        go_to(f"/office/rooms/{code}/shut")  # somebody has moved in since the clerk looked
     if verb in ("room", "shut", "reopen"):
         change("do", lines=[f"{verb} {code}"])
     go_to("/office/rooms")
+
+
+def tenant_of(office: Office, code: str) -> str:
+    """Who lives in a room, or nothing."""
+    return office.rooms[code].tenant or "" if code in office.rooms else ""
 
 
 @app.get("/office/rooms/<code>/shut")
 def ask_shut(code: str) -> str:
     """Asks before a room is shut in which somebody lives."""
     office = office_now()
-    room = office.rooms.get(code)
-    if room is None or room.tenant is None:
+    tenant = tenant_of(office, code)
+    if not tenant:
         go_to("/office/rooms")
-    name = f"{office.people[room.tenant].name} ({room.tenant})"
+    name = f"{office.people[tenant].name} ({tenant})"
     says = [f"{name} lives in {code} and loses the room at once. In a round this person takes part like somebody "
             "without a room, and may end without one.",
             "While a round is open nobody can be given the room back, not even by bringing it back into use.",
             plain.COPY_FIRST]
     title = f"Take {code} out of use?"
-    return put_question(office, Question(title, says, f"Yes: take {code} out of use", "/office/rooms"))
+    yes, mark = f"Yes: take {code} out of use", office.saw("home", tenant).mark
+    return put_question(office, Question(title, says, yes, "/office/rooms", saw=mark))
 
 
 @app.post("/office/rooms/<code>/shut")
 def shut(code: str) -> None:
     """Takes a room out of use in which somebody lives."""
-    change("do", lines=[f"shut {code}"])
+    change("do", lines=[f"shut {code}"], saw=saw("home", tenant_of(office_now(), code)))
     go_to("/office/rooms")
