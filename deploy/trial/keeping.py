@@ -342,7 +342,9 @@ def two_clerks(stand):
 NONSENSE = [
     b"\n", b"null\n", b"[]\n", b"{}\n", b"\xff\xfe\n", b'{"ask": 7}\n', b'{"ask": []}\n', b'{"ask": "do"}\n',
     b'{"ask": "do", "lines": "room X"}\n', b'{"ask": "do", "lines": [1]}\n', b'{"ask": "do", "lines": []}\n',
-    b'{"ask": "do", "lines": ["room X"], "seen": 5}\n', b'{"ask": "journal", "last": "many"}\n',
+    b'{"ask": "do", "lines": ["room X"], "seen": 5}\n', b'{"ask": "do", "lines": ["room X"], "saw": 5}\n',
+    b'{"ask": "do", "lines": ["room X"], "saw": ["list", [1], "x"]}\n',
+    b'{"ask": "do", "lines": ["room X"], "saw": [["list"], [], "x"]}\n', b'{"ask": "journal", "last": "many"}\n',
     b'{"ask": "journal", "last": null}\n', b'{"ask": "journal", "last": 1e999}\n', b'{"ask": "copy"}\n',
     b'{"ask": "journal", "last": -1}\n', b'{"ask": "back", "name": "../../etc"}\n', b'{"ask": "blank", "label": 1}\n',
     b'{"ask": "import", "kind": "rooms", "label": "l-9", "body": "?"}\n', b'{"ask": "draw", "seed": "0"}\n',
