@@ -70,6 +70,7 @@ def carry_out(office: Office, lines: list[str], folder: Path) -> Recorded:
 def round_of(copy: Copy) -> tuple[int, str]:
     """The number of the round, and its phase."""
     _, _, number, phase = copy.rows["round"][0]
+    assert isinstance(number, int) and isinstance(phase, str)
     return number, phase
 
 

@@ -102,14 +102,16 @@ def furnish(program, folder):
 
 
 def main(program, engine):
+    """Times the lines `choose`, `run` and `settle` over a file beside the engine's own calls."""
     with tempfile.TemporaryDirectory() as name:
         office = furnish(program, Path(name))
         do = [program, "do", "--db"]
         choose = ["choose", person_of(7), *(room_of(n) for n in range(LISTED))]
         compare("choose", office.file, [*do, *choose], [engine], "")
         office.do("close", f"closed {COUNT}")
-        words = subprocess.run([program, "words", "--seed", "0" * 64, "--count", str(COUNT)], check=True, capture_output=True, text=True)
-        office.do("draw " + words.stdout, f"drawn {COUNT}")
+        words = [program, "words", "--seed", "0" * 64, "--count", str(COUNT)]
+        drawn = subprocess.run(words, check=True, capture_output=True, text=True).stdout
+        office.do("draw " + drawn, f"drawn {COUNT}")
         before = copied(office.file, "before.db")
         office.do("run", f"ran {COUNT}")
         compare("run", before, [*do, "run"], [engine, "do"], in_one(results(office.file)))

@@ -67,7 +67,7 @@ def bytes_of(office):
     return max((path.stat().st_size for end in ENDS if (path := Path(f"{office}{end}")).exists()), default=0)
 
 
-class Killed:
+class Killed:  # pylint: disable=too-few-public-methods  # a fault has one call
     """A run is killed after a drawn time."""
 
     def __init__(self, folder, draws):
@@ -75,13 +75,13 @@ class Killed:
 
     def meet(self, words, took, _):
         """What came out of a run that met the fault."""
-        run = subprocess.Popen(words, stdout=subprocess.PIPE, text=True)
-        time.sleep(self.draws.uniform(0, took * 1.1))
-        run.kill()
-        return run.communicate()[0]
+        with subprocess.Popen(words, stdout=subprocess.PIPE, text=True) as run:
+            time.sleep(self.draws.uniform(0, took * 1.1))
+            run.kill()
+            return run.communicate()[0]
 
 
-class Limited:
+class Limited:  # pylint: disable=too-few-public-methods  # a fault has one call
     """The files of a run may not grow past a drawn size."""
 
     def __init__(self, folder, draws):
@@ -99,7 +99,7 @@ class Limited:
         return done.stdout
 
 
-class Full:
+class Full:  # pylint: disable=too-few-public-methods  # a fault has one call
     """A run works on a disk of which a drawn part is left free."""
 
     def __init__(self, folder, draws):
@@ -135,7 +135,8 @@ class Trial:
     """The program, the fault that it meets, a folder to work in, and what was seen."""
 
     def __init__(self, program, fault, folder):
-        self.program, self.fault, self.folder, self.seen = program, fault, folder, Counter()
+        self.program, self.fault, self.folder = program, fault, folder
+        self.seen = Counter[str]()
 
     def words(self, office, words):
         """The program's own words for a line on this office."""

@@ -50,7 +50,8 @@ def text_of(path):
 
 def edited(edit, crate):
     """The files of the crate that the mutant changes, by their paths, with their texts after it."""
-    path, old, texts = "", "", {}
+    path, old = "", ""
+    texts: dict[str, str] = {}
     for line in text_of(edit).split("\n"):
         word, _, rest = line.partition(": ")
         if word == "file":
@@ -127,12 +128,15 @@ def minutes(seconds):
 
 def dearest(tried):
     """The mutants that took most of a processor. The first of a crate pays for the proof of the crate itself."""
-    firsts = {}
+    firsts: dict[str, Tried] = {}
     for body in tried.values():
         crate = re.split(r"[/,]", body.name)[0]
         firsts.setdefault(crate, body)
     rest = [body for body in tried.values() if body not in firsts.values()]
-    used = lambda body: sum(body.cost.used.values())
+
+    def used(body):
+        return sum(body.cost.used.values())
+
     yield ""
     yield f"{len(tried)} checks of mutants; but for the first of each crate, those that took most of a processor:"
     for body in sorted(rest, key=used, reverse=True)[:DEAREST]:
@@ -140,6 +144,7 @@ def dearest(tried):
 
 
 def table(costs, elapsed):
+    """The lines of a table of what each part of each crate's gate took."""
     yield "| Crate | Proof | Tests | Mutants | Processor time |"
     yield "|---|---|---|---|---|"
     whole = 0.0
@@ -166,8 +171,12 @@ def keep(path, text):
 
 
 def main(log, command):
-    costs, tried, began, kept = defaultdict(Cost), {}, time.monotonic(), 0.0
+    """Runs the gate, and keeps what it prints and a table of what it took."""
+    costs: dict[tuple[str, str], Cost] = defaultdict(Cost)
+    tried: dict[str, Tried] = {}
+    began, kept = time.monotonic(), 0.0
     with open(log, "w", encoding="utf-8") as out:
+        # pylint: disable-next=consider-using-with  # an interrupt ends it below
         gate = subprocess.Popen(command, stdout=out, stderr=subprocess.STDOUT, stdin=subprocess.DEVNULL)
         try:
             while gate.poll() is None:

@@ -25,7 +25,7 @@ def instructions(line, given):
     """How many thousands of millions of instructions the program takes."""
     counted = ["valgrind", "--tool=callgrind", "--callgrind-out-file=/dev/null", *line]
     told = subprocess.run(counted, input=given, text=True, check=True, capture_output=True).stderr
-    return int(re.search(r"refs:\s*([\d,]+)", told).group(1).replace(",", "")) / 1e9
+    return int(re.findall(r"refs:\s*([\d,]+)", told)[0].replace(",", "")) / 1e9
 
 
 def tell(what, runs):

@@ -42,6 +42,7 @@ class Office:
         with tempfile.TemporaryFile() as told:
             begun = time.perf_counter()
             with subprocess.Popen(line, stdin=subprocess.PIPE, stdout=told, stderr=subprocess.STDOUT) as run:
+                assert run.stdin
                 if given:
                     run.stdin.write(given)
                 run.stdin.close()
@@ -124,7 +125,7 @@ def tell(what, ran):
 
 def recorded_choices(office):
     """The recorded lists, by person."""
-    lists = {}
+    lists: dict[str, list[str]] = {}
     with opened(office.file) as database:
         for person, room in database.execute("SELECT person, room FROM choice ORDER BY person, place"):
             lists.setdefault(person, []).append(room)
@@ -153,6 +154,7 @@ def carry_out_round(office, longest):
 
 
 def main(program, longest):
+    """Times a year by lists, and compares each export with what it has to have."""
     draws = random.Random(1999)
     rooms = [room_of(n) for n in range(COUNT)]
     choices = {person_of(n): draws.sample(rooms, longest) for n in range(COUNT)}

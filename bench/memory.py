@@ -98,7 +98,7 @@ def bytes_of(office):
     return [path.read_bytes() if path.exists() else b"" for path in paths]
 
 
-class Kept:
+class Kept:  # pylint: disable=too-few-public-methods  # it keeps what is dear to read
     """An office before a line and after it, and which of them a copy holds."""
 
     def __init__(self, before, after):
@@ -209,6 +209,7 @@ def serve_once(program, office, port, request, number):
     environment, reads, writes = program.refusing(number)
     words = [program.path, "serve", "--db", str(office), "--port", str(port), "--count", "1"]
     with subprocess.Popen(words, stdout=subprocess.PIPE, text=True, env=environment, pass_fds=[writes]) as server:
+        assert server.stdout
         said = server.stdout.readline()
         answer = answer_of(port, *request) if said.startswith("listening") else ""
         said += server.stdout.read()
@@ -242,7 +243,7 @@ def served(program, office, port, request, due):
 
 def requests_of(program, steps, requests):
     """Each of these requests, over the office whose round a year closes next."""
-    office = next(before for _, words, before, _, _ in steps if words == ["close"])
+    office = [before for _, words, before, _, _ in steps if words == ["close"]][0]
     for *request, due in requests:
         yield program, office, free_port(), request, due
 

@@ -15,6 +15,7 @@ MOST_SECONDS = {"migrate": 5.0, "import": 1.0}
 class WrittenOffice(Office):
     """An office in a file that sqlite3 writes, with these tables."""
 
+    # pylint: disable-next=super-init-not-called  # that one has the program make the file
     def __init__(self, program, file, rows, tables):
         self.program, self.file = program, file
         with opened(file) as database:
@@ -42,6 +43,7 @@ def took(what, kind, ran, answer):
 
 
 def main(program):
+    """Migrates the office in each order of its tables, and imports grades."""
     rows = rows_of_office()
     for order in ("version 1 as documented", "version 1 of the program"):
         with tempfile.TemporaryDirectory() as name:

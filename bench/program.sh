@@ -1,3 +1,4 @@
+# shellcheck shell=bash disable=SC2164 # who sources this has set -e
 # Sourced by the scripts that run the program: goes to the top of the repository, and sets `program` to the
 # path of the program. ROOMS may name one that is built already; without it the program is proved and built
 # if necessary. Python keeps nothing next to the scripts, so that the repository stays as it is.

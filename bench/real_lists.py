@@ -211,6 +211,7 @@ def try_quotes(program, folder):
 
 
 def main(program):
+    """Brings in the lists of each program and setting, and reads the exports back."""
     with tempfile.TemporaryDirectory() as name:
         folder = Path(name)
         (folder / "quotes").mkdir()

@@ -64,7 +64,8 @@ def asked(port, method, path, number, body=b""):
 
 def run(port, count, draws):
     """Sends the requests and compares each answer. Gives what was handed in, and the times of each kind."""
-    recorded, times = {}, {"PUT /me/choices": [], "GET /me": []}
+    recorded: dict[int, list[str]] = {}
+    times: dict[str, list[float]] = {"PUT /me/choices": [], "GET /me": []}
     for turn in range(count):
         number = draws.randrange(PEOPLE)
         if turn % 2 == 0:
@@ -86,7 +87,7 @@ def compare_file(file, recorded):
     with sqlite3.connect(file) as database:
         rows = database.execute("SELECT person, room FROM choice ORDER BY person, place").fetchall()
     database.close()
-    found = {}
+    found: dict[str, list[str]] = {}
     for person, room in rows:
         found.setdefault(person, []).append(room)
     if found != {person_of(number): choices for number, choices in recorded.items()}:
@@ -100,13 +101,16 @@ def free_port():
 
 
 def main(program, count):
+    """Starts a server, sends it so many requests, and compares its file."""
     with tempfile.TemporaryDirectory() as folder:
         file, port = Path(folder) / "office.db", free_port()
         make_office(program, file)
         began = time.perf_counter()
+        # pylint: disable-next=consider-using-with  # it is ended below, whatever happens
         server = subprocess.Popen([program, "serve", "--db", file, "--port", str(port), "--count", str(count)],
                                   stdout=subprocess.PIPE, text=True)
         try:
+            assert server.stdout
             listening = server.stdout.readline()
             if listening != f"listening on 127.0.0.1:{port}\n":
                 sys.exit(f"the server said {listening!r}")

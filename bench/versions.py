@@ -31,7 +31,7 @@ def timed(line, given=b""):
 
 def compare(what, lines, given=b"", prepare=lambda: None):
     """Times the programs by turns, and prints the medians. With valgrind it also counts the instructions of one run each."""
-    took = [[], []]
+    took: list[list[float]] = [[], []]
     for _ in range(TURNS):
         answers = []
         for line, times in zip(lines, took):
@@ -40,14 +40,14 @@ def compare(what, lines, given=b"", prepare=lambda: None):
             answers.append(answer)
             times.append(seconds)
         assert answers[0] == answers[1], what
-    this, earlier = map(statistics.median, took)
+    this, earlier = (statistics.median(times) for times in took)
     print(f"{what:20} this {this:6.3f} s, the earlier {earlier:6.3f} s, {this / earlier:4.2f} times", flush=True)
     if shutil.which("valgrind"):
-        counts = []
+        counts: list[float] = []
         for line in lines:
             prepare()
             counts.append(instructions(line, given.decode()))
-        this, earlier = counts
+        this, earlier = counts  # pylint: disable=unbalanced-tuple-unpacking  # two programs
         print(f"{'':20} this {this:6.2f} G, the earlier {earlier:6.2f} G instructions, {this / earlier:5.3f} times", flush=True)
 
 

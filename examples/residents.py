@@ -32,8 +32,10 @@ class Run:
             words[0] = self.program
         if "serve" in words:
             self.end_server()
+            # pylint: disable-next=consider-using-with  # end_server waits for it
             self.server = subprocess.Popen(words, cwd=self.folder, stdout=subprocess.PIPE, text=True)
             told, _, _ = select.select([self.server.stdout], [], [], LONGEST)
+            assert self.server.stdout
             if not told or self.server.stdout.readline() != f"listening on 127.0.0.1:{self.port}\n":
                 sys.exit("the server does not listen")
             return
@@ -62,6 +64,7 @@ class Run:
                 sys.exit(f"the server ended with {server.returncode}, {told!r}")
 
     def block(self, word, lines):
+        """Runs a block of the page: a program in Python, or commands, each with the lines that it has to print."""
         if word == "python":
             code = "\n".join(lines).replace("8080", self.port)
             self.printed = self.run([sys.executable, "-c", code])
@@ -80,6 +83,7 @@ class Run:
 
 
 def main(program, page):
+    """Runs all blocks of the page, over a server on a port of its own."""
     with socket.socket() as probe, tempfile.TemporaryDirectory() as folder:
         probe.bind(("127.0.0.1", 0))
         port = str(probe.getsockname()[1])

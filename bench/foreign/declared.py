@@ -39,8 +39,8 @@ DECLARED: Declared = {
     "tables of another program, one of them of an office's name": (("CREATE TABLE round(id INTEGER PRIMARY KEY, players INTEGER)",
                                                                     "INSERT INTO round VALUES (1, 4)"), UNAVAILABLE),
     "the tables in turned order": (in_order(*reversed(NAMES)), UNAVAILABLE),
-    "the lists before the moves": (in_order("room", "person", "round", "choice", "word", "result", "list", "move", "grade", "going"),
-                                   UNAVAILABLE),
+    "the lists before the moves": (in_order(
+        "room", "person", "round", "choice", "word", "result", "list", "move", "grade", "going"), UNAVAILABLE),
     "the leavers before the grades": (in_order("room", "person", "round", "choice", "word", "result", "move", "list", "going",
                                                "grade"), UNAVAILABLE),
     "grades and leavers behind version 1 of the program": (in_order("room", "person", "round", "move", "list", "word", "result",

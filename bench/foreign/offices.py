@@ -24,9 +24,9 @@ CHOICES: list[Row] = [("A", 0, "H2"), ("A", 1, "V"), ("B", 0, "H1"), ("C", 0, "V
                       ("N1", 2, "V"), ("N2", 0, "V"), ("N2", 1, "S")]
 WORDS: list[Row] = [("A", "00000000000000ab"), ("B", "ffffffffffffffff"), ("N1", "0000000000000001"), ("N2", "0000000000000002")]
 
-# The drawn order is N1, N2, A, B, the last also by the grade. A asks for H2, where B lives, and B for H1, where A lives: they are a cycle, and leave with each
-# other's rooms. N1 cannot have H3, and H1 is gone then: so N1 asks for V, which points to N1, the first who is left. For N2 V is
-# gone and S shut, and nothing else is listed.
+# The drawn order is N1, N2, A, B, the last also by the grade. A asks for H2, where B lives, and B for H1, where A lives: they are
+# a cycle, and leave with each other's rooms. N1 cannot have H3, and H1 is gone then: so N1 asks for V, which points to N1, the
+# first who is left. For N2 V is gone and S shut, and nothing else is listed.
 RESULTS: list[Row] = [("A", "H2"), ("B", "H1"), ("N1", "V"), ("N2", None)]
 
 ROOMS_TABLE = """\
@@ -300,5 +300,5 @@ LEAVING = Office(
     then="round 3 open people 5 withdrawn 1 going 2",
 )
 
-OFFICES = {"empty": EMPTY, "idle": IDLE, "open": OPEN, "open, nobody has withdrawn": ALL_OPEN, "open, somebody leaves": LEAVING, "closed": CLOSED, "drawn": DRAWN,
-           "ran": RAN, "published": PUBLISHED, "full": FULL}
+OFFICES = {"empty": EMPTY, "idle": IDLE, "open": OPEN, "open, nobody has withdrawn": ALL_OPEN,
+           "open, somebody leaves": LEAVING, "closed": CLOSED, "drawn": DRAWN, "ran": RAN, "published": PUBLISHED, "full": FULL}

@@ -34,7 +34,7 @@ class Resident:
     def __init__(self, number, port):
         self.number, self.port = number, port
         self.times, self.kept, self.refused = [], None, False
-        self.statuses = collections.Counter()
+        self.statuses = collections.Counter[int]()
 
     async def ask(self, stream, method, path, body=b""):
         """Sends a request, and gives status and body of the answer."""
@@ -94,7 +94,7 @@ async def burst(port, during):
     took = time.monotonic() - began
     office.join()
     check(f"{RESIDENTS} residents at once meet no fault", not faults, faults[:3])
-    statuses = sum((resident.statuses for resident in residents), collections.Counter())
+    statuses = sum((resident.statuses for resident in residents), collections.Counter[int]())
     times = sorted(one for resident in residents for one in resident.times)
     print(
         f"      {len(times)} requests in {took:.1f} seconds, answers {dict(statuses)}; the median waited "

@@ -155,7 +155,7 @@ def not_migrated(stand):
     done = subprocess.run([stand.program, "migrate", "--db", stand.file], capture_output=True, text=True, check=False)
     check("rooms migrate brings it to this version", done.stdout == "ok\n", done)
     stand.start()
-    until(lambda: stand.server() is not None, 10, "the server")
+    until(lambda: stand.server() is not None, 30, "the server")
     check("and then it goes on", stand.office("round") == OPEN and stand.office("room O9") == "ok\n")
     stand.until_listening(stand.server_port)
     text = Page(stand).get("/office/")[2]

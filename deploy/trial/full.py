@@ -12,6 +12,7 @@ import subprocess
 import sys
 import tempfile
 from pathlib import Path
+from typing import Any
 
 from stand import Stand, check, key_of
 
@@ -70,13 +71,14 @@ def while_full(stand, name, before, is_program):
     )
     check("full disk: questions are answered", "H1" in stand.office("rooms"))
     check("full disk: exports come", stand.command("export", "people")[0] == 0)
-    for job in (
+    jobs: list[dict[str, Any]] = [
         {"ask": "do", "lines": ["room H2"]},
         {"ask": "do", "lines": ["close"]},
         {"ask": "do", "lines": ["room H3", "room H4"]},
         {"ask": "backup"},
         {"ask": "back", "name": name},
-    ):
+    ]
+    for job in jobs:
         told, said = refused(stand, **job)
         check(f"full disk: {job} is refused", told, said)
         print(f"      {said}")

@@ -176,7 +176,8 @@ class Chance:
 
 def try_random(stand, page, count=1000):
     """Random requests: each has an answer of the page's own, and nothing changes."""
-    chance, before, statuses = Chance(page.hidden("/office/lists")), rows(stand), {}
+    chance, before = Chance(page.hidden("/office/lists")), rows(stand)
+    statuses: dict[int, int] = {}
     for number in range(count):
         path = chance.path()
         status, fields, text = chance.request(page, path)

@@ -171,7 +171,8 @@ def look_at_results(clerk, stand, page, college, seed):
     order = [row["person"] for row in csv.DictReader(io.StringIO(page.get("/office/export/order.csv")[2]))]
     printed = stand.ask(ask="try", lines=["order"])["answers"][0][0]
     check("the order is exported as the office has it", order == [line.split()[2] for line in printed.splitlines()])
-    listed = dict(row.values() for row in csv.DictReader(io.StringIO(page.get("/office/export/choices.csv")[2])))
+    exported = csv.DictReader(io.StringIO(page.get("/office/export/choices.csv")[2]))
+    listed = {row["person"]: row["choices"] for row in exported}
     check(
         "the lists are exported as they were imported", listed["R010"] == " ".join(college.choices["R010"]) and len(listed) == 261
     )

@@ -86,7 +86,7 @@ def correct(clerk, stand, college, person):
     clerk.press("Make a new key")
     clerk.press("Yes: make a new key")
     clerk.reads("This page shows the key once")
-    college.keys[person] = re.search(KEY, clerk.text())[1].replace(" ", "").strip()
+    college.keys[person] = re.findall(KEY, clerk.text())[0].replace(" ", "").strip()
     clerk.shot("07-key")
     clerk.press("Go on")
     clerk.put("name", "Zoë  Corrected ")

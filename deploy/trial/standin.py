@@ -156,6 +156,8 @@ def answer(database, words):
             "",
         ]
     try:
+        if not work:
+            raise TypeError
         with database:
             return work(database, *words[2 if words[0] == "do" else 1 :]), 0
     except Refused as why:
@@ -195,7 +197,7 @@ def main(words):
     """Does what the program does."""
     signal.signal(signal.SIGTERM, signal.SIG_DFL)
     if words[0] == "words":
-        seed, count = re.fullmatch(r"--seed=(\w+) --count=(\d+)", " ".join(words[1:])).groups()
+        ((seed, count),) = re.findall(r"^--seed=(\w+) --count=(\d+)$", " ".join(words[1:]))
         print(*(f"{number:016x}" for number in range(int(count) * (len(seed) == 64))), sep="\n")
         return 0
     command, file, more = words[0], words[2], [word for word in words[3:] if word != "--"]

@@ -13,7 +13,7 @@ from pathlib import Path
 sys.path.insert(1, str(Path(__file__).resolve().parent.parent))
 
 # pylint: disable=wrong-import-position  # each module adds its pages to the app
-import waitress  # type: ignore[import]  # Debian's waitress has no types
+import waitress
 
 import file_pages  # noqa: F401  # pylint: disable=unused-import
 import list_pages  # noqa: F401  # pylint: disable=unused-import

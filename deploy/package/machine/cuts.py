@@ -52,6 +52,7 @@ class Machine:
         self.said = folder / "said"
         self.said.write_text("")
         given = f"root=/dev/vda rw console=ttyS0 quiet no_timer_check rooms.change={first_change}"
+        # pylint: disable-next=consider-using-with  # cut ends it
         self.process = subprocess.Popen([
             *words, "-append", given, "-drive", f"file={folder / 'disk'},format=raw,if=virtio,cache=writeback",
             "-serial", f"file:{folder / 'console'}", "-serial", f"file:{self.said}"])
