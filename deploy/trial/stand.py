@@ -17,7 +17,9 @@ import subprocess
 import sys
 import tempfile
 import time
+from collections.abc import Callable
 from pathlib import Path
+from typing import Any, NoReturn, cast
 
 HERE = Path(__file__).resolve().parent
 DEPLOY = HERE.parent
@@ -34,19 +36,19 @@ PYTHON = "/usr/bin/python3"
 signal.signal(signal.SIGTERM, lambda *_: sys.exit("trial: ended from outside"))
 
 
-def fail(what):
+def fail(what: object) -> NoReturn:
     """Ends the trial, loudly."""
     sys.exit(f"trial: {what}")
 
 
-def check(what, holds, more=""):
+def check(what: str, holds: object, more: object = "") -> None:
     """Says what was seen, or ends the trial."""
     if not holds:
         fail(f"not so: {what}: {more!r}")
     print(f"ok    {what}", flush=True)
 
 
-def free_ports(count):
+def free_ports(count: int) -> list[int]:
     """So many ports that nobody uses now, below those that the system gives to connections.
 
     The system may give a port of its own range to any connection while the server is stopped. The server cannot have
@@ -60,10 +62,10 @@ def free_ports(count):
             free.append(port)
         if len(free) == count:
             return free
-    return fail(f"no {count} ports are free below {lowest}")
+    fail(f"no {count} ports are free below {lowest}")
 
 
-def until(holds, seconds, what):
+def until(holds: Callable[..., object], seconds: float, what: str) -> None:
     """Waits until something holds."""
     end = time.monotonic() + seconds
     while not holds():
@@ -72,7 +74,7 @@ def until(holds, seconds, what):
         time.sleep(0.02)
 
 
-def key_of(person):
+def key_of(person: str) -> str:
     """The key of a person in the trial's offices: `key`, zeros up to 16 signs, and the identifier."""
     return "key" + person.lower().rjust(13, "0")
 
@@ -110,7 +112,7 @@ class Stand:  # pylint: disable=too-many-instance-attributes,too-many-public-met
         self.file = self.data / "rooms.db"
         self.server_port, self.plain_port, self.port = free_ports(3)
         self.scratch = Path(tempfile.mkdtemp(prefix="rooms-trial-", dir="/dev/shm"))
-        self.keeper = self.page = self.proxy = None
+        self.keeper = self.page = self.proxy = cast(Any, None)
         self.environment = {
             **os.environ,
             "PYTHONDONTWRITEBYTECODE": "1",
@@ -121,6 +123,9 @@ class Stand:  # pylint: disable=too-many-instance-attributes,too-many-public-met
             "ROOMS_PAGE_SOCKET": str(self.folder / "proxy" / "page.sock"),
             "ROOMS_SCRATCH": str(self.scratch / "copies"),
             "ROOMS_SPEAKERS": "root",
+            # Long enough for a busy machine.
+            "ROOMS_LINE_SECONDS": "60",
+            "ROOMS_TURN_SECONDS": "120",
             **settings,
         }
 
