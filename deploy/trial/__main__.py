@@ -1,11 +1,14 @@
 """Tries all that is around `rooms serve`, end to end: /usr/bin/python3 deploy/trial PROGRAM FOLDER.
 
-The folder gets the photographs of both pages. It ends at the first thing that is not as it should be, and leaves
-nothing running. Debian: apt-get install haproxy chromium chromium-driver python3-selenium python3-bottle
-python3-waitress sqlite3 openssl strace. Selenium, Bottle and waitress are there for Debian's own Python.
+The folder gets the photographs of both pages. With `--no-browser PROGRAM` it tries what the gate tries: the parts that
+need no browser, some of them with fewer cases. The trial ends at the first thing that is not as it should be, and leaves
+nothing running. `tools/install-trial browser` installs what it needs. Selenium, Bottle and waitress are there for
+Debian's own Python.
 """
 
 import sys
+import time
+from functools import partial
 from pathlib import Path
 
 # The repository stays as it is.
@@ -17,6 +20,7 @@ from ciphers import try_ciphers
 from byhand import try_byhand
 from clock import try_clock
 from copying import try_copying
+from crash_states import try_crash_states
 from earlier import try_earlier
 from flush import try_flush
 from full import try_full
@@ -41,37 +45,48 @@ from stall import try_stall
 from waits import try_waits
 from watch import try_watch
 
+
+def all_parts(program, folder):
+    """All parts."""
+    of_program = [
+        try_crash_states, try_keeping, try_clock, try_silent, try_watch, try_flush, try_byhand, try_restoring, try_earlier,
+        try_kills, try_copying, try_full, try_signing, try_guessing, try_noted, try_office_doors, try_office_clerks,
+        try_office_sheets, try_burst, try_limits, try_ciphers, try_memory, try_port, try_stall, try_waits,
+    ]
+    pages = [partial(try_page, program, folder), partial(try_office_page, program, folder)]
+    return [try_parts, try_replacing, *(partial(one, program) for one in of_program), *pages]
+
+
+def gate_parts(program):
+    """What the gate tries, in about five minutes on two processors.
+
+    Parts that ask how quick an answer is are not among them, since a busy machine would fail them: try_silent,
+    try_guessing, try_memory, try_port, try_stall, try_waits.
+    """
+    of_program = [
+        try_crash_states, try_keeping, try_clock, try_watch, try_flush, try_byhand, try_restoring, try_earlier,
+        partial(try_kills, kills=1), partial(try_copying, length=5), try_full, try_signing, try_noted, try_office_doors,
+        try_office_clerks, try_office_sheets, try_burst, try_limits, try_ciphers,
+    ]
+    return [try_parts, try_replacing, *(partial(one, program) for one in of_program)]
+
+
+def main(words):
+    """Tries each part, and says how long it took."""
+    if len(words) != 2:
+        sys.exit("usage: /usr/bin/python3 deploy/trial PROGRAM FOLDER, or --no-browser PROGRAM")
+    if words[0] == "--no-browser":
+        parts = gate_parts(words[1])
+    else:
+        Path(words[1]).mkdir(parents=True, exist_ok=True)
+        parts = all_parts(words[0], Path(words[1]))
+    began = time.monotonic()
+    for number, part in enumerate(parts, 1):
+        name = getattr(part, "func", part).__name__.removeprefix("try_")
+        print(f"part {number} of {len(parts)}, after {time.monotonic() - began:.0f} s: {name}", flush=True)
+        part()
+    print(f"deploy/trial: all is as it should be, {len(parts)} parts in {(time.monotonic() - began) / 60:.1f} minutes")
+
+
 if __name__ == "__main__":
-    if len(sys.argv) != 3:
-        sys.exit("usage: /usr/bin/python3 deploy/trial PROGRAM FOLDER")
-    folder = Path(sys.argv[2])
-    folder.mkdir(parents=True, exist_ok=True)
-    try_parts()
-    try_replacing()
-    try_keeping(sys.argv[1])
-    try_clock(sys.argv[1])
-    try_silent(sys.argv[1])
-    try_watch(sys.argv[1])
-    try_flush(sys.argv[1])
-    try_byhand(sys.argv[1])
-    try_restoring(sys.argv[1])
-    try_earlier(sys.argv[1])
-    try_kills(sys.argv[1])
-    try_copying(sys.argv[1])
-    try_full(sys.argv[1])
-    try_signing(sys.argv[1])
-    try_guessing(sys.argv[1])
-    try_page(sys.argv[1], folder)
-    try_office_page(sys.argv[1], folder)
-    try_noted(sys.argv[1])
-    try_office_doors(sys.argv[1])
-    try_office_clerks(sys.argv[1])
-    try_office_sheets(sys.argv[1])
-    try_burst(sys.argv[1])
-    try_limits(sys.argv[1])
-    try_ciphers(sys.argv[1])
-    try_memory(sys.argv[1])
-    try_port(sys.argv[1])
-    try_stall(sys.argv[1])
-    try_waits(sys.argv[1])
-    print("all is as it should be")
+    main(sys.argv[1:])

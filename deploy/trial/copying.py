@@ -71,7 +71,7 @@ def is_torn(copy):
             return True
         if database.execute("PRAGMA foreign_key_check").fetchall():
             return True
-        lists = {}
+        lists: dict[str, list[str]] = {}
         for person, room in database.execute("SELECT person, room FROM choice ORDER BY person, place"):
             lists.setdefault(person, []).append(room)
     return any(found != turned(ROOMS.index(found[0])) for found in lists.values())
@@ -83,10 +83,16 @@ def try_copying(program, length=SECONDS):
         stand.fill(ROOMS, PEOPLE)
         stand.tell("open")
         stand.start()
-        copies, times, heads, torn = copies_of(stand), [], set(), 0
+        copies, heads, torn = copies_of(stand), set(), 0
+        times: list[float] = []
+
+        def are_enough():
+            return len(times) > length and writers.sent > 10 * length
+
         with Writers(stand.server_port) as writers:
             end = time.monotonic() + length
-            while time.monotonic() < end:
+            # A busy machine may take longer for as many.
+            while time.monotonic() < end or not are_enough() and time.monotonic() < end + 60:
                 began = time.monotonic()
                 with copies.copied() as copy:  # ends the trial where no copy can be had
                     times.append(time.monotonic() - began)
@@ -94,7 +100,7 @@ def try_copying(program, length=SECONDS):
                     torn += is_torn(copy)
         check(
             f"{len(times)} copies during {writers.sent} lists that were handed in: none is torn",
-            torn == 0 and len(times) > length and writers.sent > 10 * length,
+            torn == 0 and are_enough(),
             (torn, len(times), writers.sent),
         )
         print(

@@ -8,7 +8,7 @@ from stand import Stand, check
 HANGING = """#!/bin/sh
 case "$*" in
     *"--db {file} "*"room SLOW"*) exec sleep 60 ;;
-    *"room NAP"*) sleep 2 ;;
+    *"room NAP"*) sleep 3 ;;
 esac
 exec {program} "$@"
 """
@@ -34,21 +34,22 @@ def told_at(stand, *lines):
 
 def try_hanging(program):
     """A program that hangs is ended after its time, and a person who waits too long for their turn reads why."""
-    with Stand(program, ROOMS_LINE_SECONDS="4", ROOMS_TURN_SECONDS="2") as stand:
+    with Stand(program, ROOMS_LINE_SECONDS="8", ROOMS_TURN_SECONDS="4") as stand:
         hanging = stand.folder / "hanging"
         hanging.write_text(HANGING.format(file=stand.file, program=stand.program), encoding="utf-8")
         hanging.chmod(0o755)
         stand.environment["ROOMS_PROGRAM"] = str(hanging)
         stand.start()
-        answers = told_at(stand, ("room SLOW", 0), ("room A", 0.7), ("room B", 3.2))
-        took, answer = answers["room SLOW"]
+        answers = told_at(stand, ("room SLOW", 0), ("room A", 1), ("room B", 7))
+        slow, answer = answers["room SLOW"]
         check(
             "a program that hangs is ended",
-            4 <= took < 7 and "did not end within 4 seconds" in answer["fault"],
+            8 <= slow < 40 and "did not end within 8 seconds" in answer["fault"],
             answers,
         )
         took, answer = answers["room A"]
-        check("a person who waits too long reads why", took < 3.5 and "took too long" in answer["fault"], answers)
+        told = "took too long" in answer["fault"]
+        check("a person who waits too long reads why, before that", told and 4 <= took < slow - 1, answers)
         check("and who waits for a moment is served", answers["room B"][1].get("done"), answers)
         stand.until_listening(stand.server_port)
         server = stand.server()

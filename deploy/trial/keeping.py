@@ -374,7 +374,7 @@ def server_ends(stand):
     for _ in range(3):
         server = stand.server()
         stand.kill()
-        until(lambda gone=server: stand.server() not in (None, gone), 10, "another server")
+        until(lambda gone=server: stand.server() not in (None, gone), 30, "another server")
     stand.until_listening(stand.server_port)
     check("a server that was ended is there again", stand.server() is not None)
 

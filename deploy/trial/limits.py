@@ -13,7 +13,7 @@ import time
 from pathlib import Path
 
 from http2 import Http2
-from stand import DEPLOY, HOST, Stand, check, key_of, unchecked
+from stand import DEPLOY, HOST, Stand, check, key_of, unchecked, until
 
 FIELDS = f"Host: {HOST}\r\nRoom-Key: {key_of('T1')}\r\n"
 # So many requests are allowed in so many seconds. The proxy lets those of the ten seconds before fade, so that
@@ -54,10 +54,10 @@ def slow_ones(stand):
         other.sendall(f"GET /me HTTP/1.1\r\n{FIELDS}\r\n".encode())
         check(
             "40 slow residents hold nobody up",
-            first_line(other) == "HTTP/1.1 200 OK" and time.monotonic() - began < 2,
+            first_line(other) == "HTTP/1.1 200 OK" and time.monotonic() - began < 8,
         )
     slow = first_line(held[0]), first_line(held[-1])
-    check("they are dropped after five seconds", time.monotonic() - began < 15 and "200" not in "".join(slow), slow)
+    check("they are dropped after five seconds", time.monotonic() - began < 25 and "200" not in "".join(slow), slow)
     for connection in held:
         connection.close()
 
@@ -134,13 +134,12 @@ def connections(stand):
             continue
         plain.setblocking(False)
         held.append(plain)
-    time.sleep(0.5)
-    for plain in held:
-        try:
-            closed += plain.recv(1) == b""
-        except BlockingIOError:
-            pass
-        except ConnectionError:
+    end = time.monotonic() + 8
+    while closed < 50 and time.monotonic() < end:
+        time.sleep(0.5)
+        for plain in [one for one in held if is_closed(one)]:
+            held.remove(plain)
+            plain.close()
             closed += 1
     check(f"of {OPEN + 50} silent connections from one address the last 50 are closed", closed == 50, closed)
     began = time.monotonic()
@@ -148,10 +147,20 @@ def connections(stand):
         other.sendall(f"GET /me HTTP/1.1\r\n{FIELDS}\r\n".encode())
         check(
             "another address is served meanwhile",
-            first_line(other).endswith("200 OK") and time.monotonic() - began < 2,
+            first_line(other).endswith("200 OK") and time.monotonic() - began < 8,
         )
     for plain in held:
         plain.close()
+
+
+def is_closed(plain):
+    """Whether the other side has closed a silent connection."""
+    try:
+        return plain.recv(1) == b""
+    except BlockingIOError:
+        return False
+    except ConnectionError:
+        return True
 
 
 def key_in_address(stand):
@@ -159,7 +168,7 @@ def key_in_address(stand):
     with connected(stand) as connection:
         connection.sendall(f"GET /me?key={key_of('T1')} HTTP/1.1\r\nHost: {HOST}\r\n\r\n".encode())
         check("a key in the address is none", first_line(connection) == "HTTP/1.1 403 Forbidden")
-    time.sleep(0.2)
+    until(lambda: '"GET /me HTTP/1.1"' in stand.proxy_log(), 10, "the line in the proxy's log")
     check(
         "and the log has the path alone", '"GET /me HTTP/1.1"' in stand.proxy_log() and "?" not in stand.proxy_log()
     )
