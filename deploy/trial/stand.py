@@ -110,7 +110,7 @@ class Stand:  # pylint: disable=too-many-instance-attributes,too-many-public-met
         self.folder = Path(tempfile.mkdtemp(prefix="rooms-trial-"))
         self.data = Path(data) if data else self.folder / "data"
         self.file = self.data / "rooms.db"
-        self.server_port, self.plain_port, self.port = free_ports(3)
+        self.server_port, self.plain_port, self.port = free_ports(3)  # pylint: disable=unbalanced-tuple-unpacking
         self.scratch = Path(tempfile.mkdtemp(prefix="rooms-trial-", dir="/dev/shm"))
         self.keeper = self.page = self.proxy = cast(Any, None)
         self.environment = {
