@@ -2,7 +2,7 @@
 
 | ask | fields | answer |
 |---|---|---|
-| view | | the rows of the office (rows.py); server: whether it runs; status: of the last one that ended by itself; ended: times, at, ago, status |
+| view | | the rows of the office (rows.py); server: whether it runs; status, ended: of those that ended by themselves |
 | watch | | faults: what is wrong with the server, the disk and the copies; age: of the newest copy, in seconds |
 | try | lines | answers: of a copy, which is thrown away |
 | do | lines, seen, saw | answers, done, took, copy |
@@ -105,9 +105,10 @@ class Asks:
         self.office, self.program, self.copies, self.hand = office, office.program, office.copies, hand
         self.backups, self.journal = office.backups, office.journal
         self.known: dict[str, Callable[[Job], Job]] = {
-            "view": self.view, "watch": lambda _: watch(self.office, self.hand), "try": self.try_out, "do": self.do_lines, "draw": self.draw, "import": self.bring_in,
-            "export": self.export, "record": self.record, "backup": self.backup,
-            "backups": self.list_backups, "back": self.put_back, "blank": self.blank, "note": self.note,
+            "view": self.view, "watch": lambda _: watch(self.office, self.hand), "try": self.try_out,
+            "do": self.do_lines, "draw": self.draw, "import": self.bring_in, "export": self.export,
+            "record": self.record, "backup": self.backup, "backups": self.list_backups,
+            "back": self.put_back, "blank": self.blank, "note": self.note,
             "journal": self.show_journal, "blank-journal": self.blank_journal, "correct": self.correct,
         }
 

@@ -8,6 +8,7 @@ Debian's own Python.
 
 import sys
 import time
+from collections.abc import Callable
 from functools import partial
 from pathlib import Path
 
@@ -48,7 +49,7 @@ from watch import try_watch
 
 def all_parts(program, folder):
     """All parts."""
-    of_program = [
+    of_program: list[Callable[..., None]] = [
         try_crash_states, try_keeping, try_clock, try_silent, try_watch, try_flush, try_byhand, try_restoring, try_earlier,
         try_kills, try_copying, try_full, try_signing, try_guessing, try_noted, try_office_doors, try_office_clerks,
         try_office_sheets, try_burst, try_limits, try_ciphers, try_memory, try_port, try_stall, try_waits,
@@ -63,7 +64,7 @@ def gate_parts(program):
     Parts that ask how quick an answer is are not among them, since a busy machine would fail them: try_silent,
     try_guessing, try_memory, try_port, try_stall, try_waits.
     """
-    of_program = [
+    of_program: list[Callable[..., None]] = [
         try_crash_states, try_keeping, try_clock, try_watch, try_flush, try_byhand, try_restoring, try_earlier,
         partial(try_kills, kills=1), partial(try_copying, length=5), try_full, try_signing, try_noted, try_office_doors,
         try_office_clerks, try_office_sheets, try_burst, try_limits, try_ciphers,

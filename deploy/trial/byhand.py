@@ -26,7 +26,8 @@ class Hands:
 
     def __init__(self, stand, count, pause):
         self.stand, self.pause, self.over = stand, pause, threading.Event()
-        self.tried, self.accepted = [0] * count, [[] for _ in range(count)]
+        self.tried = [0] * count
+        self.accepted: list[list[str]] = [[] for _ in range(count)]
         self.threads = [threading.Thread(target=self.write, args=(number,)) for number in range(count)]
 
     def __enter__(self):

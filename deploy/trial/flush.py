@@ -24,6 +24,7 @@ def failing_flush(process):
     words = ["strace", "-f", "-p", str(process), "-e", "trace=fdatasync,fsync"]
     words += ["-e", "inject=fdatasync,fsync:error=EIO:when=1"]
     with subprocess.Popen(words, stderr=subprocess.PIPE, text=True) as tracer:
+        assert tracer.stderr
         said = tracer.stderr.readline()
         if "attached" not in said:
             fail(f"strace could not attach to the server: {said}")

@@ -53,8 +53,9 @@ def try_hanging(program):
         check("and who waits for a moment is served", answers["room B"][1].get("done"), answers)
         stand.until_listening(stand.server_port)
         server = stand.server()
-        told = stand.command("lines", given="room NAP1\nroom NAP2\nroom NAP3\nroom NAP4\n")
-        check("lines that take too long together are refused", told[0] == 3 and "make several files" in told[2], told)
+        refused = stand.command("lines", given="room NAP1\nroom NAP2\nroom NAP3\nroom NAP4\n")
+        check("lines that take too long together are refused", refused[0] == 3 and "make several files" in refused[2],
+              refused)
         check("without a stop of the server", stand.server() == server)
         rooms = [row[0] for row in stand.ask(ask="view")["rooms"]]
         check("the server is there again, and only what was answered took effect", rooms == ["B"], rooms)

@@ -178,8 +178,8 @@ def bundles(stand):
     check("and the key is the person's own", again.startswith("person R7\n"), again)
     told = stand.command("lines", given="room L7\npeople\n")
     check("many lines may end with a question", told[0] == 0 and "Cy Fu" in told[1], told)
-    journal = stand.file.with_name("journal").read_text(encoding="utf-8")
-    check("the journal has none of these names", "room L7; people" in journal and not re.search("Cy Fu|Ann Li", journal))
+    noted = stand.file.with_name("journal").read_text(encoding="utf-8")
+    check("the journal has none of these names", "room L7; people" in noted and not re.search("Cy Fu|Ann Li", noted))
 
 
 def journal(stand):
@@ -226,8 +226,8 @@ def corrected(stand, is_program):
     wrong += [{"person": "R9", "name": "Two  Spaces"}, {"person": "R9", "key": "short"}] if is_program else []
     for values in wrong:
         check(f"{values} is refused", "fault" in stand.ask(ask="correct", **values))
-    journal = stand.file.with_name("journal").read_text(encoding="utf-8")
-    check("the journal has neither", "correct R9: name" in journal and not re.search(f"Lí|{new}", journal), journal)
+    noted = stand.file.with_name("journal").read_text(encoding="utf-8")
+    check("the journal has neither", "correct R9: name" in noted and not re.search(f"Lí|{new}", noted), noted)
     stand.office("cancel")
 
 

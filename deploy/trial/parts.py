@@ -146,7 +146,7 @@ def answering():
 def blanking(settings):
     """An earlier journal is blanked: who did what, and when, stays, and no name."""
     journal = Journal(settings.journal)
-    old = [
+    old: list[dict[str, object]] = [
         {"at": "2026-11-01", "n": "1", "who": "anna", "line": "room J1; people"},
         {"at": "2026-11-01", "n": "1", "answer": "person home name\nP0 none Ann Li", "status": 0, "ms": 3},
         {"at": "2026-11-02", "n": "2", "who": "bert", "line": "close"},

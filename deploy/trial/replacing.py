@@ -12,6 +12,7 @@ import sqlite3
 import sys
 import time
 from pathlib import Path
+from typing import IO
 from unittest import mock
 
 from parts import an_office, rooms_of
@@ -148,7 +149,7 @@ def opened_late():
     with an_office() as settings:
         place, new = Place(settings.file), make_new(settings)
         with contextlib.ExitStack() as stack:
-            late = []
+            late: list[IO[bytes]] = []
             look = place.has_alone
 
             def look_and_open(held):

@@ -21,8 +21,8 @@ KEPT_OFFICE = '{"kind": "backup", "why": "", "whole": true}\n'
 def restore(stand, *words):
     """Runs rooms-restore, and returns its status, its output, and its standard error."""
     environment = {**stand.environment, "ROOMS_ACCOUNT": "root"}
-    words = [PYTHON, str(DEPLOY / "rooms-restore"), *map(str, words)]
-    done = subprocess.run(words, env=environment, capture_output=True, text=True, check=False)
+    command = [PYTHON, str(DEPLOY / "rooms-restore"), *map(str, words)]
+    done = subprocess.run(command, env=environment, capture_output=True, text=True, check=False)
     return done.returncode, done.stdout, done.stderr
 
 
@@ -46,8 +46,9 @@ def copy_with(stand, target, room):
     for end in ("", "-wal"):
         with contextlib.suppress(FileNotFoundError):
             shutil.copyfile(f"{stand.file}{end}", f"{target}{end}")
-    with contextlib.closing(sqlite3.connect(target)) as database, database:
-        database.execute("INSERT INTO room VALUES (?, 0)", (room,))
+    with contextlib.closing(sqlite3.connect(target)) as database:
+        with database:
+            database.execute("INSERT INTO room VALUES (?, 0)", (room,))
 
 
 def cut_before(stand, folder):

@@ -55,6 +55,7 @@ def of_another_account(stand):
     os.chmod(stand.environment["ROOMS_SOCKET"], 0o666)
     words = [PYTHON, "-c", CONNECT, stand.environment["ROOMS_SOCKET"], str(SILENT)]
     with subprocess.Popen(words, user=OTHER, group=OTHER, extra_groups=[], stdout=subprocess.PIPE, cwd="/") as silent:
+        assert silent.stdout
         silent.stdout.readline()
         times = []
         for _ in range(20):
