@@ -6,11 +6,11 @@ use crate::asserting::assert_same;
 use office_cli::carrying_out::carry_out_from;
 use office_cli::lists::Lists;
 use office_file::{Closes, Files};
-use office_store::Unavailable;
+use office_store::{Desk, Unavailable};
 use resident_http::server::{Listener, Ports};
 use room_types::Watched;
 use room_types::stream::Pair;
-use sqlite::{Connection, MemStore};
+use sqlite::{Alter, Connection, MemStore};
 use std::alloc::Global;
 use std::io::Write;
 use std::test::Fail;
@@ -117,18 +117,20 @@ struct OneSocket {
 impl Listener for OneSocket {
     type Stream = Pair<&'static [u8], Vec<u8>>;
 
-    fn accept<W: Write>(
+    fn accept<W: Write, S: Alter>(
         &mut self,
         _printed: &Watched<W>,
+        _desk: &Desk<S>,
     ) -> Option<Watched<Pair<&'static [u8], Vec<u8>>>> {
         self.asked = self.asked.saturating_add(1);
         None
     }
 
-    fn close<W: Write>(
+    fn close<W: Write, S: Alter>(
         &mut self,
         connection: Watched<Pair<&'static [u8], Vec<u8>>>,
         _printed: &Watched<W>,
+        _desk: &Desk<S>,
     )
         ensures { ⊤ }
     {

@@ -8,7 +8,7 @@ use office_store::Desk;
 use resident_http::server::{Listener, serve_listener};
 use room_types::Watched;
 use room_types::stream::Pair;
-use sqlite::MemStore;
+use sqlite::{Alter, MemStore};
 use std::alloc::Global;
 use std::io::Write;
 use std::net::{Ipv4Addr, Shutdown, SocketAddr, TcpListener, TcpStream};
@@ -36,9 +36,10 @@ impl<'a> Script<'a> {
 impl<'a> Listener for Script<'a> {
     type Stream = Pair<&'a [u8], Vec<u8>>;
 
-    fn accept<W: Write>(
+    fn accept<W: Write, S: Alter>(
         &mut self,
         _printed: &Watched<W>,
+        _desk: &Desk<S>,
     ) -> Option<Watched<Pair<&'a [u8], Vec<u8>>>> {
         match self.coming {
             [Some(text), rest @ ..] => {
@@ -56,10 +57,11 @@ impl<'a> Listener for Script<'a> {
         }
     }
 
-    fn close<W: Write>(
+    fn close<W: Write, S: Alter>(
         &mut self,
         connection: Watched<Pair<&'a [u8], Vec<u8>>>,
         _printed: &Watched<W>,
+        _desk: &Desk<S>,
     )
         ensures { ⊤ }
     {

@@ -1,52 +1,77 @@
 //! Ports and listeners: they accept residents' connections and close them.
 ghost use Rattle.std.specs.Prelude.{⊤};
 ghost use Rattle.room_types.specs.Streams.{output_of};
+ghost use Rattle.resident_http.specs.server.Network.{seen};
 
-use office_store::Unavailable;
+use office_store::{Desk, Unavailable};
 use room_types::{Stream, Watched};
+use sqlite::Alter;
 use std::io::Write;
 use std::net::{Ipv4Addr, SocketAddr, TcpListener, TcpStream};
 
 /// A listening socket. The contract of each method is a relation between the socket's states before and after the
-/// call. For generic code, calling the method is the only way to prove this relation.
+/// call. For generic code, calling the method is the only way to prove this relation. So a contract that names the
+/// output and the desk of a call names the ones that were really there.
 pub trait Listener {
     ghost use Rattle.std.specs.Prelude.{IfSome, Option, ⊤};
+    ghost use Rattle.resident_http.specs.server.Network.{SeenDesk};
     ghost use Rattle.resident_http.specs.server.Unused.{IsUnused};
     ghost use Rattle.room_types.specs.Streams.{Output};
     ghost use Rattle.room_types.specs.declared.watched.Watched.{Watched};
 
     type Stream: Stream + Drop;
 
-    /// `accepts old printed connection new`: after the output `printed` had been written, `accept` returned
-    /// `connection`, which may be `None`, and led from the state `old` to the state `new`.
-    ghost accepts: { Self → Output → Option (Watched Self.Stream) → Self → Type 0 } = { λ _ _ _ _. ⊤ };
+    /// `accepts old printed desk connection new`: after the output `printed` had been written, and while the desk was
+    /// as `desk` says, `accept` returned `connection`, which may be `None`, and led from the state `old` to the state
+    /// `new`.
+    ghost accepts: { Self → Output → SeenDesk → Option (Watched Self.Stream) → Self → Type 0 } = { λ _ _ _ _ _. ⊤ };
 
-    /// `closes old printed connection new`: after the output `printed` had been written, closing `connection` led
-    /// from the state `old` to the state `new`.
-    ghost closes: { Self → Output → Watched Self.Stream → Self → Type 0 } = { λ _ _ _ _. ⊤ };
+    /// `closes old printed desk connection new`: after the output `printed` had been written, and while the desk was
+    /// as `desk` says, closing `connection` led from the state `old` to the state `new`.
+    ghost closes: { Self → Output → SeenDesk → Watched Self.Stream → Self → Type 0 } = { λ _ _ _ _ _. ⊤ };
 
     /// Waits for the next connection and returns it, or returns `None` if the connection could not be accepted. The
-    /// returned connection is `Watched`, and no call has been made on it yet. `printed` is the output written so far.
-    fn accept<W: Write>(&mut self, printed: &Watched<W>) -> Option<Watched<Self::Stream>>
-        ensures accepts { accepts self.old (output_of W.contents printed.now) result self.new }
+    /// returned connection is `Watched`, and no call has been made on it yet. `printed` is the output written so far,
+    /// and `desk` the desk at which the connection will be served.
+    fn accept<W: Write, S: Alter>(
+        &mut self,
+        printed: &Watched<W>,
+        desk: &Desk<S>,
+    ) -> Option<Watched<Self::Stream>>
+        ensures accepts { accepts self.old (output_of W.contents printed.now) (seen S.Store desk.now) result self.new }
         ensures unused { IfSome result IsUnused };
 
-    /// Closes a connection. `printed` is the output written so far.
-    fn close<W: Write>(&mut self, connection: Watched<Self::Stream>, printed: &Watched<W>)
-        ensures { closes self.old (output_of W.contents printed.now) connection self.new };
+    /// Closes a connection. `printed` is the output written so far, and `desk` the desk at which the connection was
+    /// served.
+    fn close<W: Write, S: Alter>(
+        &mut self,
+        connection: Watched<Self::Stream>,
+        printed: &Watched<W>,
+        desk: &Desk<S>,
+    )
+        ensures { closes self.old (output_of W.contents printed.now) (seen S.Store desk.now) connection self.new };
 }
 
 impl Listener for TcpListener {
     type Stream = TcpStream;
 
-    fn accept<W: Write>(&mut self, _printed: &Watched<W>) -> Option<Watched<TcpStream>> {
+    fn accept<W: Write, S: Alter>(
+        &mut self,
+        _printed: &Watched<W>,
+        _desk: &Desk<S>,
+    ) -> Option<Watched<TcpStream>> {
         match TcpListener::accept(self) {
             Ok((stream, _peer)) => Some(Watched::new(stream)),
             Err(_) => None,
         }
     }
 
-    fn close<W: Write>(&mut self, connection: Watched<TcpStream>, _printed: &Watched<W>)
+    fn close<W: Write, S: Alter>(
+        &mut self,
+        connection: Watched<TcpStream>,
+        _printed: &Watched<W>,
+        _desk: &Desk<S>,
+    )
         ensures { ⊤ }
     {
         drop(connection);

@@ -1,9 +1,11 @@
 //! Accepts connections one after another and serves a resident on each.
-ghost use Rattle.std.specs.Prelude.{◌≡◌, IfOk, string_bytes};
+ghost use Rattle.std.specs.Prelude.{◌≡◌, IfOk, OnErr, OnOk, string_bytes};
 ghost use Rattle.room_types.specs.Streams.{output_of};
 ghost use Rattle.room_types.specs.Watched.{StopsAtFailure};
 ghost use Rattle.resident_http.specs.server.Network.{network_of};
-ghost use Rattle.resident_http.specs.server.Serving.{ServesEach, ServesNext, ServesAll, ServesPort};
+ghost use Rattle.resident_http.specs.server.Serving.{EndsAtClosedDesk, EndsAtOpenDesk};
+ghost use Rattle.resident_http.specs.server.Serving.{IsFoundOpen, IsNotFoundOpen};
+ghost use Rattle.resident_http.specs.server.Serving.{ServesAll, ServesNext, ServesPort};
 ghost use Rattle.resident_http.specs.server.Texts.{listening_text, served_text};
 
 use crate::serve_one;
@@ -17,8 +19,9 @@ use std::alloc::{AllocError, Global};
 use std::io::Write;
 
 /// Listens on `port`, calls `serve_listener`, and closes the listener. `serve_listener` asks for `count` connections,
-/// one after another, and serves a resident on each one that is accepted. Returns the exit status of
-/// `serve_listener`. If listening on the port fails, prints `unavailable` and returns 3.
+/// one after another, and serves a resident on each one that is accepted. It ends early if the desk's connection is
+/// closed. Returns the exit status of `serve_listener`. If listening on the port fails, prints `unavailable` and
+/// returns 3.
 pub fn serve_port<S: Alter, P: Ports, W: Write>(
     alloc: Global,
     desk: &mut Desk<S>,
@@ -45,9 +48,10 @@ pub fn serve_port<S: Alter, P: Ports, W: Write>(
     }
 }
 
-/// Prints `listening on 127.0.0.1:PORT`. Then asks the listener for `count` connections, one after another. Serves
-/// each one that is accepted, and closes it before asking for the next. Then prints `served COUNT`. Returns exit
-/// status 0 if both lines were printed, and 3 otherwise.
+/// Prints `listening on 127.0.0.1:PORT`. Then asks the listener for `count` connections, one after another, as
+/// `serve_each` does. Then prints `served COUNT`, or `unavailable` if the desk's connection was not found open before
+/// each connection and after the last. Returns exit status 0 if `listening on ..` and `served COUNT` were printed, and
+/// 3 otherwise.
 ///
 /// Allocates both lines at the start. If an allocation for the lines fails, prints `unavailable` and asks for no
 /// connection. If the first line cannot be printed, asks for no connection either.
@@ -70,25 +74,52 @@ pub fn serve_listener<S: Alter, L: Listener, W: Write>(
     if print(output, lines.listening.as_str(), ACCEPTED) != ACCEPTED {
         return UNAVAILABLE;
     }
-    serve_each(alloc, desk, listener, output, count);
+    let Ok(()) = serve_each(alloc, desk, listener, output, count) else {
+        return print(output, "unavailable\n", UNAVAILABLE);
+    };
     print(output, lines.served.as_str(), ACCEPTED)
 }
 
 /// Asks the listener for `count` connections, one after another. Serves a resident on each one that is accepted, and
 /// closes it before asking for the next. A failed attempt to accept a connection also counts. `printed` is the output
 /// written so far.
+///
+/// Before each connection, and after the last, asks the desk whether its connection to the database is open. A desk
+/// whose connection is closed can store nothing more, so the listener is asked for no connection then.
+///
+/// # Errors
+///
+/// `Unavailable` if the desk's connection is closed, or if memory runs out, so that the desk cannot say.
 pub fn serve_each<S: Alter, L: Listener, W: Write>(
     alloc: Global,
     desk: &mut Desk<S>,
     listener: &mut L,
     printed: &Watched<W>,
     count: u32,
-)
-    ensures serves { ServesEach S.Store L.Stream.Stream.own L.Stream.remaining L.Stream.contents
-        L.accepts L.closes (output_of W.contents printed.now) listener.old desk.old count listener.new desk.new }
+) -> Result<(), Unavailable>
+    ensures serves { OnOk result (EndsAtOpenDesk S.Store
+        L.Stream.Stream.own L.Stream.remaining L.Stream.contents L.accepts L.closes
+        (output_of W.contents printed.now) listener.old desk.old count listener.new desk.new) }
+    ensures stops { OnErr result (EndsAtClosedDesk S.Store
+        L.Stream.Stream.own L.Stream.remaining L.Stream.contents L.accepts L.closes
+        (output_of W.contents printed.now) listener.old desk.old count listener.new desk.new) }
 {
     'connections: for _ in 0..count {
+        require_open(desk)?;
         serve_next(alloc, desk, listener, printed);
+    }
+    require_open(desk)
+}
+
+// Asks the desk whether its connection is open, and fails if it is not, or if memory runs out.
+fn require_open<S: Alter>(desk: &mut Desk<S>) -> Result<(), Unavailable>
+    ensures open { OnOk result (IsFoundOpen S.Store desk.old desk.new) }
+    ensures closed { OnErr result (IsNotFoundOpen S.Store desk.old desk.new) }
+{
+    if desk.is_open()? {
+        Ok(())
+    } else {
+        Err(Unavailable)
     }
 }
 
@@ -102,12 +133,12 @@ fn serve_next<S: Alter, L: Listener, W: Write>(
     ensures serves { ServesNext S.Store L.Stream.Stream.own L.Stream.remaining L.Stream.contents
         L.accepts L.closes (output_of W.contents printed.now) listener.old desk.old listener.new desk.new }
 {
-    let mut connection = match listener.accept(printed) {
+    let mut connection = match listener.accept(printed, desk) {
         Some(connection) => connection,
         None => return,
     };
     let _served = serve_one(alloc, desk, &mut connection);
-    listener.close(connection, printed);
+    listener.close(connection, printed, desk);
 }
 
 // The lines printed before the first connection and after the last.
