@@ -3,6 +3,7 @@
 //! after the command that was stopped. If the command got a reply, the test must find the office after the command.
 //! After a stopped migration, either all tables must be as before, or all must be of this version.
 mod files;
+mod served;
 mod stories;
 mod visits;
 
