@@ -1,10 +1,7 @@
 //! Tests of desks with enough memory.
 mod adopting;
-mod documented;
 mod exporting;
 mod importing;
-mod labels;
-mod leaving;
 mod migrating;
 
 use crate::asserting::assert_same;

@@ -1,31 +1,12 @@
 //! Tests of the arguments after the program's name, and of rehearsals.
 use crate::asserting::assert_same;
 use crate::failing::FailingReader;
-use crate::stories::{Step, assert_line, run_steps};
+use crate::running::assert_line;
 use office_cli::{Program, WordFault, carry_out, program, words_to_command};
 use office_core::{Command, Query};
 use office_store::Request;
 use room_types::Watched;
 use std::alloc::Global;
-use std::test::Fail;
-
-const LINES: [Step<'_>; 10] = [
-    Step::Line(&[], 0, "ok\n"),
-    Step::Line(&["rehearse"], 0, "ok\n"),
-    Step::Malformed(&["--help"]),
-    Step::Malformed(&["-h"]),
-    Step::Malformed(&["help"]),
-    Step::Malformed(&["--version"]),
-    Step::Malformed(&["--"]),
-    Step::Malformed(&["room"]),
-    Step::Malformed(&["rehearse", "--help"]),
-    Step::Malformed(&["rehearse", "now"]),
-];
-
-#[test]
-fn rehearses_and_rejects_other_words(rt: HostRuntime) -> Result<(), Fail> {
-    run_steps(&rt, &rt, "words", &LINES)
-}
 
 // Standard inputs of a rehearsal, each with the status and the output.
 const REHEARSALS: [(&str, u8, &str); 4] = [

@@ -1,9 +1,12 @@
-//! Handles scripts as lists of requests. Checks the answers of the desk, the office that the desk leaves, and the
+//! Tests of desks that handle the requests of a script in one call: their answers, the office that they leave, and the
 //! office that another desk adopts.
 ghost use Rattle.std.specs.Prelude.{All, IfOk};
 ghost use Rattle.office_store.specs.Requests.{AnswerAscends};
 
-use crate::scripts::{rehearsed, rehearsed_at};
+use crate::asserting::same;
+use crate::exports::YEAR;
+use crate::register::REGISTER;
+use crate::scripts::{rehearsed, rehearsed_at, script_lines};
 use office_lines::render::{refusal_text, reply_text};
 use office_lines::{ParsedLine, parse_line};
 use office_store::{Answer, Desk, Request};
@@ -15,10 +18,10 @@ use std::test::Fail;
 // Lines that show the rooms, the people, the round, the order, the results and the moves of the first round.
 const QUERIES: &str = "rooms\npeople\nround\norder\nresults\nmoves 1\n";
 
-/// Handles the requests of the lines at a desk in one call. Returns whether the answers are what a rehearsal of the
-/// lines prints, apart from lines `not understood`, and the desk shows the same office as the rehearsal. A desk that
-/// adopts the database has to show that office too.
-pub fn agrees_in_batch(alloc: Global, lines: &str) -> Result<bool, Fail> {
+// Handles the requests of the lines at a desk in one call. Returns whether the answers are what a rehearsal of the
+// lines prints, apart from lines `not understood`, and the desk shows the same office as the rehearsal. A desk that
+// adopts the database has to show that office too.
+fn agrees_in_batch(alloc: Global, lines: &str) -> Result<bool, Fail> {
     let (_, text) = rehearsed(alloc, lines.as_bytes());
     let requests = parse_requests(alloc, lines)?;
     let mut desk = Desk::in_memory(alloc)?;
@@ -97,4 +100,14 @@ fn without_misunderstood_lines(alloc: Global, text: &[u8]) -> Result<Vec<u8>, Al
         }
     }
     Ok(rest)
+}
+
+#[test]
+fn handles_the_requests_of_lines_in_one_call(rt: HostRuntime) -> Result<(), Fail> {
+    let alloc = rt.alloc();
+    let register = script_lines(alloc, &REGISTER)?;
+    for lines in [register.as_str(), YEAR] {
+        same(&rt, &agrees_in_batch(alloc, lines)?, &true, lines);
+    }
+    Ok(())
 }

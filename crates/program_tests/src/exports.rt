@@ -11,8 +11,9 @@ use std::alloc::Global;
 use std::process::Abort;
 use std::test::Fail;
 
-// A year in which T1 and T2 swap their homes, and N gets the vacant room. Room X is shut.
-const YEAR: &str = "room X\nroom H1\nroom H2\nroom V\nshut X\nperson T1 key00000000000t1 Tim Tan\n\
+/// A year in which T1 and T2 swap their homes, and N gets the vacant room. Room X is shut.
+pub const YEAR: &str =
+    "room X\nroom H1\nroom H2\nroom V\nshut X\nperson T1 key00000000000t1 Tim Tan\n\
     person T2 key00000000000t2 Tom Tao\nperson N key000000000000n Nan, Now\nhome T1 H1\nhome T2 H2\nopen\n\
     choose T1 H2\nchoose T2 H1\nchoose N H1 V\nclose\n\
     draw 0000000000000003 0000000000000001 0000000000000002\nrun\n";

@@ -1,46 +1,8 @@
 //! Tests of the arguments of `rooms import`.
 use crate::asserting::same_of;
-use crate::stories::{Step, run_steps};
 use office_cli::{Program, WordFault, program};
 use room_types::ListKind;
 use std::alloc::Global;
-use std::test::Fail;
-
-const OFFICE: &str = "imports_other/office.db";
-
-// The program checks all words before it opens a file.
-const MALFORMED: [Step<'_>; 17] = [
-    Step::Malformed(&["import"]),
-    Step::Malformed(&["import", "rooms", "r-1", "list"]),
-    Step::Malformed(&["import", "--db", OFFICE]),
-    Step::Malformed(&["import", "--db", OFFICE, "rooms"]),
-    Step::Malformed(&["import", "--db", OFFICE, "rooms", "r-1"]),
-    Step::Malformed(&["import", "--db", OFFICE, "rooms", "r-1", "list", "list"]),
-    Step::Malformed(&["import", "--db", OFFICE, "rooms", "--", "-1", "list"]),
-    // Wrong kinds and labels.
-    Step::Malformed(&["import", "--db", OFFICE, "moves", "r-1", "list"]),
-    Step::Malformed(&["import", "--db", OFFICE, "Rooms", "r-1", "list"]),
-    Step::Malformed(&["import", "--db", OFFICE, "room", "r-1", "list"]),
-    Step::Malformed(&["import", "--db", OFFICE, "", "r-1", "list"]),
-    Step::Malformed(&["import", "--db", OFFICE, "rooms", "", "list"]),
-    Step::Malformed(&["import", "--db", OFFICE, "rooms", "R-1", "list"]),
-    Step::Malformed(&["import", "--db", OFFICE, "rooms", "r 1", "list"]),
-    Step::Malformed(&["import", "--db", OFFICE, "rooms", "-1", "list"]),
-    Step::Malformed(&[
-        "import",
-        "--db",
-        OFFICE,
-        "rooms",
-        "r23456789012345678901234567890123",
-        "list",
-    ]),
-    Step::Absent(OFFICE),
-];
-
-#[test]
-fn rejects_malformed_import_lines(rt: HostRuntime) -> Result<(), Fail> {
-    run_steps(&rt, &rt, "imports_other", &MALFORMED)
-}
 
 // The option may be anywhere, and a path may be any text.
 const LINES: [&[&str]; 4] = [

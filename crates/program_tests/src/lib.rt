@@ -1,5 +1,5 @@
-//! Tests of the program: scripts of lines at desks in memory and over offices in files, devices that fail, and the program's
-//! arguments.
+//! Tests of the program: lines at desks in memory, devices that fail, the calls that a run of the program makes, and its
+//! arguments. The sessions in `examples/runs/` compare what whole runs print.
 #![tactic(auto)]
 
 #[cfg(test)]
@@ -9,17 +9,9 @@ mod asserting;
 #[cfg(test)]
 mod at_desks;
 #[cfg(test)]
-mod bad_lists;
-#[cfg(test)]
-mod draw;
-#[cfg(test)]
-mod example;
-#[cfg(test)]
 mod exports;
 #[cfg(test)]
 mod failing;
-#[cfg(test)]
-mod file_lines;
 #[cfg(test)]
 mod import_lines;
 #[cfg(test)]
@@ -33,13 +25,9 @@ mod migrate_lines;
 #[cfg(test)]
 mod one_file;
 #[cfg(test)]
-mod plain_programs;
-#[cfg(test)]
-mod refusals;
-#[cfg(test)]
 mod register;
 #[cfg(test)]
-mod rounds;
+mod running;
 #[cfg(test)]
 mod scripts;
 #[cfg(test)]
@@ -47,10 +35,4 @@ mod seeds;
 #[cfg(test)]
 mod serve_lines;
 #[cfg(test)]
-mod stories;
-#[cfg(test)]
 mod streams;
-#[cfg(test)]
-mod worked_scripts;
-#[cfg(test)]
-mod years;

@@ -1,6 +1,6 @@
-//! Tests of migrating a file with an office of version 1, by a run of the program and by a call of `migrate_file`.
+//! A test of migrating a file with an office of version 1, by calls of `migrate_file`.
 use crate::asserting::same;
-use crate::stories::{Step, execute, make_folder, run_steps};
+use crate::running::{execute, make_folder};
 use office_cli::desk_faults::refuse_desk;
 use office_file::{FileDesk, close_file, migrate_file, on_file};
 use office_lines::do_line::do_words;
@@ -11,8 +11,6 @@ use std::alloc::Global;
 use std::fs;
 use std::process::Abort;
 use std::test::Fail;
-
-const MIGRATED: &str = "lines_migrate/office.db";
 
 // The tables of version 1 in the documented order, with a drawn round. T1 and T2 list each other's home. N is last in
 // the order and lists H1 and V.
@@ -42,50 +40,6 @@ INSERT INTO round VALUES (1, 1, 1, 'drawn');
 INSERT INTO choice VALUES ('T1', 0, 'H2'), ('T2', 0, 'H1'), ('N', 0, 'H1'), ('N', 1, 'V');
 INSERT INTO word VALUES ('T1', '0000000000000001'), ('T2', '0000000000000002');
 INSERT INTO word VALUES ('N', '0000000000000003');";
-
-// The program refuses a line until the file is migrated, and refuses a second migration.
-const MIGRATION: [Step<'_>; 11] = [
-    Step::Write("lines_migrate/empty", b""),
-    Step::Execute(MIGRATED, FIRST_VERSION),
-    Step::Line(
-        &["do", "--db", MIGRATED, "round"],
-        1,
-        "refused 22 OtherVersion 1\n",
-    ),
-    Step::Line(&["migrate", "--db", MIGRATED], 0, "ok\n"),
-    Step::Line(
-        &["migrate", "--db", MIGRATED],
-        1,
-        "refused 22 OtherVersion 3\n",
-    ),
-    Step::Line(&["do", "--db", MIGRATED, "run"], 0, "ran 3\n"),
-    Step::Line(
-        &["do", "--db", MIGRATED, "results"],
-        0,
-        "person        room\nN             V\nT1            H2\nT2            H1\n",
-    ),
-    Step::Line(
-        &["export", "--db", MIGRATED, "grades"],
-        0,
-        "person,grade\nN,0\nT1,0\nT2,0\n",
-    ),
-    Step::Line(
-        &["migrate", "--db", "lines_migrate/empty"],
-        1,
-        "refused 21 NotAnOffice\n",
-    ),
-    Step::Line(
-        &["migrate", "--db=lines_migrate/missing"],
-        3,
-        "unavailable\n",
-    ),
-    Step::Absent("lines_migrate/missing"),
-];
-
-#[test]
-fn migrates_a_file_by_a_run_of_the_program(rt: HostRuntime) -> Result<(), Fail> {
-    run_steps(&rt, &rt, "lines_migrate", &MIGRATION)
-}
 
 // Carries out these lines at the desk of the file and returns their output. If there is no desk, returns the output
 // of the fault once for each line. Closes the file.

@@ -1,4 +1,4 @@
-//! Rehearsals at desks in memory, and a test of the number of rooms.
+//! Rehearsals at desks in memory.
 use crate::asserting::same;
 use office_cli::{Ending, Rehearsed, rehearse};
 use office_store::Desk;
@@ -6,19 +6,6 @@ use room_types::Watched;
 use sqlite::MemStore;
 use std::alloc::{AllocError, Global};
 use std::process::Abort;
-use std::test::Fail;
-
-/// A script that adds rooms and prints them.
-pub const ROOMS: [(&str, &str); 5] = [
-    ("rooms", "room      state     tenant\n"),
-    ("room H1", "ok\n"),
-    ("room H1", "refused 4 DuplicateRoom\n"),
-    ("room h1", "not understood\n"),
-    (
-        "rooms",
-        "room      state     tenant\nH1        free      none\n",
-    ),
-];
 
 /// The lines of a script, each with a line feed at its end.
 pub fn script_lines(alloc: Global, script: &[(&str, &str)]) -> Result<String, AllocError> {
@@ -85,24 +72,4 @@ pub fn assert_rehearsal(
 
 fn ended(status: u8, ending: Ending) -> Rehearsed {
     Rehearsed { status, ending }
-}
-
-// Lines that add `count` different rooms and then one more.
-fn too_many_rooms(alloc: Global, count: u32) -> Result<String, AllocError> {
-    let mut lines = String::new(alloc);
-    for n in 0..count {
-        writeln!(lines, "room R{n}")?;
-    }
-    lines.push_str("room A\n")?;
-    Ok(lines)
-}
-
-#[test]
-fn refuses_a_room_over_the_limit(rt: HostRuntime) -> Result<(), Fail> {
-    let lines = too_many_rooms(rt.alloc(), 2_000)?;
-    let mut answers = "ok\n".repeat(rt.alloc(), 2_000)?;
-    answers.push_str("refused 13 LimitReached\n")?;
-    let wanted = (1, Ending::Ended, answers.as_str());
-    assert_rehearsal(&rt, rt.alloc(), lines.as_bytes(), wanted, "rooms");
-    Ok(())
 }

@@ -1,44 +1,12 @@
 //! Tests of the arguments of `rooms serve`, and of runs that end before a connection is served.
 use crate::asserting::same_of;
-use crate::stories::{Step, assert_line, make_folder, run_steps};
+use crate::running::{assert_line, make_folder};
 use office_cli::{Program, program};
 use std::alloc::Global;
 use std::fs;
 use std::net::{Ipv4Addr, SocketAddr, TcpListener};
 use std::process::Abort;
 use std::test::Fail;
-
-const OFFICE: &str = "serve_other/office.db";
-
-// The program checks all words before it opens a file.
-const MALFORMED: [Step<'_>; 16] = [
-    // Wrong ports and counts.
-    Step::Malformed(&["serve", "--db", OFFICE, "--port", "0", "--count", "1"]),
-    Step::Malformed(&["serve", "--db", OFFICE, "--port", "65536", "--count", "1"]),
-    Step::Malformed(&["serve", "--db", OFFICE, "--port", "8080", "--count", "0"]),
-    Step::Malformed(&[
-        "serve", "--db", OFFICE, "--port", "8080", "--count", "1000001",
-    ]),
-    Step::Malformed(&["serve", "--db", OFFICE, "--port", "-1", "--count", "1"]),
-    Step::Malformed(&["serve", "--db", OFFICE, "--port", "8080", "--count", "-1"]),
-    Step::Malformed(&["serve", "--db", OFFICE, "--port", "http", "--count", "1"]),
-    Step::Malformed(&["serve", "--db", OFFICE, "--port", "8080", "--count", "all"]),
-    Step::Malformed(&["serve", "--db", OFFICE, "--port", "", "--count", "1"]),
-    Step::Malformed(&["serve", "--db", OFFICE, "--port", "8080", "--count", ""]),
-    Step::Malformed(&["serve"]),
-    Step::Malformed(&["serve", "--db", OFFICE, "--port", "8080"]),
-    Step::Malformed(&["serve", "--db", OFFICE, "--count", "1"]),
-    Step::Malformed(&["serve", "--port", "8080", "--count", "1"]),
-    Step::Malformed(&[
-        "serve", "--db", OFFICE, "--port", "8080", "--count", "1", "now",
-    ]),
-    Step::Absent(OFFICE),
-];
-
-#[test]
-fn rejects_malformed_serve_lines(rt: HostRuntime) -> Result<(), Fail> {
-    run_steps(&rt, &rt, "serve_other", &MALFORMED)
-}
 
 // Arguments with the least and the greatest numbers and with the options in different orders, each with its port and
 // count.

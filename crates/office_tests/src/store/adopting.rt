@@ -126,7 +126,7 @@ fn adopts_only_rows_of_an_office(rt: HostRuntime) {
 }
 
 // Returns a desk that adopts the database of this desk.
-pub(super) fn adopted(rt: &impl Abort, alloc: Global, desk: Desk<MemStore>) -> Desk<MemStore> {
+fn adopted(rt: &impl Abort, alloc: Global, desk: Desk<MemStore>) -> Desk<MemStore> {
     match Desk::adopt(alloc, desk.release()) {
         Ok(desk) => desk,
         Err(_) => panic!(rt; "no desk takes the database"),
@@ -135,7 +135,7 @@ pub(super) fn adopted(rt: &impl Abort, alloc: Global, desk: Desk<MemStore>) -> D
 
 // Runs the statements and tries to adopt the database. Asserts that this fails with the fault `wanted`, or succeeds
 // if that is `None`. Returns the connection.
-pub(super) fn tried_after(
+fn tried_after(
     rt: &impl Abort,
     alloc: Global,
     mut conn: Connection<MemStore>,

@@ -57,7 +57,7 @@ fn furnished(rt: &impl Abort, alloc: Global) -> Desk<MemStore> {
 }
 
 // Asserts that the desk exports these bytes and does not flush.
-pub(super) fn exports(
+fn exports(
     rt: &impl Abort,
     alloc: Global,
     desk: &mut Desk<MemStore>,

@@ -1,0 +1,11 @@
+-- The statements that create the tables, in the documented order: eight of version 1, and those of versions 2 and 3.
+CREATE TABLE room(code TEXT PRIMARY KEY NOT NULL, shut INTEGER NOT NULL CHECK(shut IN (0, 1))) STRICT;
+CREATE TABLE person(id TEXT PRIMARY KEY NOT NULL, name TEXT NOT NULL, passkey TEXT NOT NULL UNIQUE, home TEXT UNIQUE REFERENCES room(code), withdrawn INTEGER NOT NULL CHECK(withdrawn IN (0, 1))) STRICT;
+CREATE TABLE round(one INTEGER PRIMARY KEY CHECK(one = 1), version INTEGER NOT NULL, number INTEGER NOT NULL, phase TEXT NOT NULL) STRICT;
+CREATE TABLE choice(person TEXT NOT NULL REFERENCES person(id), place INTEGER NOT NULL, room TEXT NOT NULL REFERENCES room(code), PRIMARY KEY(person, place), UNIQUE(person, room)) STRICT;
+CREATE TABLE word(person TEXT PRIMARY KEY NOT NULL REFERENCES person(id), hex TEXT NOT NULL) STRICT;
+CREATE TABLE result(person TEXT PRIMARY KEY NOT NULL REFERENCES person(id), room TEXT UNIQUE REFERENCES room(code)) STRICT;
+CREATE TABLE move(round INTEGER NOT NULL, person TEXT NOT NULL, from_room TEXT, to_room TEXT, wave INTEGER, PRIMARY KEY(round, person)) STRICT;
+CREATE TABLE list(label TEXT PRIMARY KEY NOT NULL, kind TEXT NOT NULL, body BLOB NOT NULL, added INTEGER NOT NULL) STRICT;
+CREATE TABLE grade(person TEXT PRIMARY KEY NOT NULL REFERENCES person(id), value INTEGER NOT NULL CHECK(value IN (1,2,3,4,5,6,7,8,9))) STRICT;
+CREATE TABLE going(person TEXT PRIMARY KEY NOT NULL REFERENCES person(id)) STRICT;
