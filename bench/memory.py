@@ -259,7 +259,7 @@ def tests_of(tests):
 
 
 def calls_of_desk(tests, name):
-    """One test of the crate `fault_tests`, which judges the answers itself."""
+    """One test of bench/refused/, which judges the answers itself."""
     def attempt(number):
         ran = tests.run([name], number)
         expect(ran.status == 0, f"{name} without allocation {number}", ran)
