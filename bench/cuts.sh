@@ -1,7 +1,7 @@
 #!/usr/bin/env bash
 # Cuts input and output at each place: a resident's request in two chunks at each byte, a byte a read, and at its end too
 # early; each read and each write fails in turn, of an exchange, of a rehearsed register, and of exports. These are tests of
-# `resident_tests`, `program_tests` and `trade_tests`, which print how often they did it; the last line has the sums. It
+# `fault_tests`, `program_tests` and `trade_tests`, which print how often they did it; the last line has the sums. It
 # proves the tests first, which takes some minutes.
 #
 #     bench/cuts.sh
@@ -25,7 +25,7 @@ with_sums() {
 }
 
 {
-    tell resident_tests desk::faults answers_the_same_however_a_request_is_cut refuses_each_incomplete_request stops_where_a_read_fails stops_where_a_write_fails
+    tell fault_tests desk::faults answers_the_same_however_a_request_is_cut refuses_each_incomplete_request stops_where_a_read_fails stops_where_a_write_fails
     tell program_tests streams stops_where_a_read_fails stops_where_a_write_takes_nothing stops_where_a_write_fails
     tell trade_tests lists::exports stops_where_the_device_is_full stops_where_a_write_fails stops_where_the_device_is_full_or_fails
 } | with_sums
