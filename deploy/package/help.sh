@@ -190,7 +190,7 @@ explain_list() {
 
 # A port on which a program listens, at 127.0.0.1 or at all addresses; or one that is reserved for root.
 explain_port() {
-    local port="$1" sign user lowest=1024
+    local port="$1" sign user lowest=1024 capabilities
     case $port in '' | *[!0-9]* | ??????*) return 0 ;; esac
     sign=$(printf ':%04X' "$port")
     user=$(awk -v port="$sign" '
@@ -199,7 +199,10 @@ explain_port() {
     [ -z "$user" ] ||
         hinders "port $port is taken: a program of $(id -un "$user" 2>/dev/null || echo "$user") listens on it"
     lowest=$(cat /proc/sys/net/ipv4/ip_unprivileged_port_start 2>/dev/null) || lowest=1024
-    [ "$port" -ge "$lowest" ] || [ "$(id -u)" -eq 0 ] || hinders "ports below $lowest are for root: take another one"
+    # Bit 10 is the capability that root has, and that the keeper's unit gives to the server.
+    capabilities=$(sed -n 's/^CapEff:[[:space:]]*//p' /proc/self/status 2>/dev/null) || capabilities=0
+    [ "$port" -ge "$lowest" ] || [ $((0x${capabilities:-0} & 1024)) -ne 0 ] ||
+        hinders "ports below $lowest are for root: take another one"
 }
 
 # Prints "; is NAME meant?" if a file of the folder has nearly the name of the one that is missing.

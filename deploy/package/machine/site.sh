@@ -54,7 +54,10 @@ start() {
     local account="$1" groups="$2" group="$3" socket="$4"
     shift 4
     install -d -o "$account" -m 755 "$(dirname "$socket")"
-    setpriv --reuid "$account" --regid "$account" "$groups" /usr/bin/python3 -B "$@" &
+    # The keeper's unit gives it this capability; the page needs none.
+    local bind=()
+    [ "$account" != rooms ] || bind=(--inh-caps "-all,+net_bind_service" --ambient-caps +net_bind_service)
+    setpriv --reuid "$account" --regid "$account" "$groups" "${bind[@]}" /usr/bin/python3 -B "$@" &
     try "$account: its socket" within 30 test -S "$socket"
     chgrp "$group" "$socket"
     chmod 660 "$socket"
