@@ -59,7 +59,7 @@ def all_parts(program, folder):
 
 
 def gate_parts(program):
-    """What the gate tries, in about five minutes on two processors.
+    """What the gate tries. The sizes aim at five minutes on two processors.
 
     Parts that ask how quick an answer is are not among them, since a busy machine would fail them: try_silent,
     try_guessing, try_memory, try_port, try_stall, try_waits.
