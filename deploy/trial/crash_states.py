@@ -316,16 +316,17 @@ def residents(recorder: Recorder) -> Work:
 def checkpoint(recorder: Recorder) -> Work:
     """Residents' lists while the engine copies its log into the file, and begins the log anew."""
     open_office(recorder)
-    count = 0
-    while recorder.file.with_name(LOG).stat().st_size < (LOG_PAGES - 5) * LOG_PAGE:
+    # A list makes some three pages. The log stays as long as it was when it begins anew, so it has to be looked at before that.
+    count, recorded = 0, 24
+    while recorder.file.with_name(LOG).stat().st_size < (LOG_PAGES - 45) * LOG_PAGE:
         words = served(10)
         recorder.run(words, partial(hand_in, int(words[2]), count, 10))
         count += 10
-    before, words = recorder.files(), served(8)
-    events = recorder.record(words, partial(hand_in, int(words[2]), count, 8))
+    before, words = recorder.files(), served(recorded)
+    events = recorder.record(words, partial(hand_in, int(words[2]), count, recorded))
     is_copied = any(isinstance(event, Write) and event.path.endswith(FILE) for event in events)
     check(f"after {count} lists the engine copies its log into the file", is_copied)
-    return recorder.work("lists beside a copied log", before, events, after_lists(count, 8))
+    return recorder.work("lists beside a copied log", before, events, after_lists(count, recorded))
 
 
 def migration(recorder: Recorder) -> Work:
