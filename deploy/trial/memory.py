@@ -8,7 +8,9 @@ import contextlib
 import socket
 import sys
 import time
+from collections.abc import Callable, Iterator
 from pathlib import Path
+from typing import NamedTuple
 
 from http2 import DATA, MAX_STREAMS, Http2, frame
 from limits import first_line
@@ -17,7 +19,7 @@ from stand import HOST, Stand, check, key_of, unchecked
 # What one address tries: so many connections, each with so many requests at once.
 CONNECTIONS, STREAMS = 390, 100
 ALLOWED = 10      # requests of one connection at a time
-MEGABYTES = 200   # of the proxy, at most; without its limits it takes 900 and more here
+MEGABYTES = 120   # of the proxy, at most: the pages say `some 100`; without its limits it takes 900 and more here
 LINES = 2000      # of its log, for one attack of ten seconds
 LIST = ("PUT", "/me/choices", ("room-key", key_of("T1")), ("content-length", "6"))
 
@@ -48,24 +50,65 @@ def readers(connection):
         yield connection.head("GET", "/texts.js")[1]
 
 
-def attack(stand, requests, source, window=65_535):
-    """Sends these requests over all the connections that an address gets."""
+def unmeasured(connection):
+    """As many requests as are allowed at a time, which do not say how long their lists are."""
+    for _ in range(ALLOWED):
+        yield connection.head(*LIST[:3], ends=False)[1]
+
+
+def too_long(connection):
+    """For each of these a list of 110,000 bytes."""
+    for stream in range(1, connection.next, 2):
+        yield from (frame(DATA, 0, stream, b" " * 11_000) for _ in range(10))
+
+
+class Attack(NamedTuple):
+    """What an address sends over each of its connections, and what it sends later, when the rest is there."""
+
+    what: str
+    requests: Callable[[Http2], Iterator[bytes]]
+    later: Callable[[Http2], Iterator[bytes]] | None = None
+    connections: int = CONNECTIONS
+    window: int = 65_535
+
+
+ATTACKS = (
+    Attack("bodies that do not come", bodies),
+    Attack("long heads", heads),
+    Attack("answers that nobody reads", readers, window=0),
+    # No more connections than that all requests are below the limit on their rate.
+    Attack("lists that are too long", unmeasured, later=too_long, connections=140),
+)
+
+
+def send(connection, parts):
+    """Sends all parts at once, as far as the proxy takes them."""
+    with contextlib.suppress(OSError):
+        connection.tls.settimeout(5)
+        connection.tls.sendall(b"".join(parts))
+
+
+def sent(stand, attack):
+    """The connections of an attack, of as many as an address gets."""
     held = []
-    for _ in range(CONNECTIONS):
+    for _ in range(attack.connections):
         with contextlib.suppress(OSError):
-            connection = Http2(stand, source, window)
-            held.append(connection)
-            connection.tls.settimeout(5)
-            connection.tls.sendall(b"".join(requests(connection)))
+            held.append(Http2(stand, "127.0.0.2", attack.window))
+            send(held[-1], attack.requests(held[-1]))
+    if attack.later:
+        time.sleep(0.3)
+        for connection in held:
+            send(connection, attack.later(connection))
     return held
 
 
-def take_memory(program, what, requests, source, window=65_535):
+def take_memory(program, attack):
     """One attack on a fresh proxy, which has its memory of the attack alone."""
+    what = attack.what
     with Stand(program) as stand:
         stand.start_proxy()
         before = megabytes(stand.proxy)
-        held = attack(stand, requests, source, window)
+        held = sent(stand, attack)
         time.sleep(6)
         peak, lines = megabytes(stand.proxy, "VmHWM"), stand.proxy_log().count("\n")
         statuses: collections.Counter[int] = collections.Counter()
@@ -73,10 +116,12 @@ def take_memory(program, what, requests, source, window=65_535):
             connection.take(0.01)
             statuses.update(connection.statuses.values())
         print(f"      {what}, {len(held)} connections: {before} MB before, {peak} at most; {lines} lines of log; "
-              f"{sum(statuses.values())} of {len(held) * STREAMS} answered: {dict(statuses)}")
+              f"answers: {dict(statuses)}")
         check(f"{what}: the proxy takes at most {MEGABYTES} MB", peak <= MEGABYTES, peak)
         check("and its log has few lines of it", lines <= LINES, lines)
         check(f"each has {ALLOWED} requests at a time", held[-1].settings.get(MAX_STREAMS) == ALLOWED, held[-1].settings)
+        if attack.later:
+            check("they are answered 413, before they are all here", statuses[413] > statuses[408], statuses)
         for connection in held:
             connection.tls.close()
 
@@ -116,9 +161,8 @@ def check_quietly(holds, more):
 
 def try_memory(program):
     """Tries each."""
-    take_memory(program, "bodies that do not come", bodies, "127.0.0.2")
-    take_memory(program, "long heads", heads, "127.0.0.2")
-    take_memory(program, "answers that nobody reads", readers, "127.0.0.2", window=0)
+    for attack in ATTACKS:
+        take_memory(program, attack)
     with Stand(program) as stand:
         stand.start_proxy()
         fill(stand)
