@@ -66,6 +66,9 @@ start_office() {
         'import socket; socket.socket().bind(("127.0.0.1", 290))' 2>&1)"
     same "the keeper has this one capability" 0000000000000400 "$(awk '/^CapEff/ { print $2 }' \
         "/proc/$(systemctl show -p MainPID --value rooms-keeper.service)/status")"
+    # The first of these lines shows that the journal has what the unit wrote.
+    same "and is not told that it may not have the port" "rooms-keeper: ready" \
+        "$(journalctl --no-pager -o cat -u rooms-keeper.service | grep -e '^rooms-keeper: ready' -e 'ports below')"
     for unit in rooms-keeper rooms-page; do
         local process
         process=$(systemctl show -p MainPID --value "$unit.service")
