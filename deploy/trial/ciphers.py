@@ -7,7 +7,7 @@ This run alone: /usr/bin/python3 deploy/trial/ciphers.py PROGRAM
 import subprocess
 import sys
 
-from stand import HOST, Stand, check
+from stand import DEPLOY, HOST, Stand, check
 
 
 class RsaStand(Stand):
@@ -23,25 +23,42 @@ def shaken(stand, *words):
         ["openssl", "s_client", "-connect", f"127.0.0.1:{stand.port}", "-servername", HOST, *words],
         input=b"", capture_output=True, timeout=60, check=False)
     lines = done.stdout.decode("utf-8", "replace").splitlines()
-    found = next((line.split()[-1] for line in lines if line.startswith("New, TLS")), "(NONE)")
+    found = next((line.split()[-1] for line in lines if line.startswith("New, ")), "(NONE)")
     return "" if found == "(NONE)" else found
+
+
+# What the proxy has to refuse: words of a client, and what they ask for. Without forward secrecy are the first four.
+REFUSED = {
+    **{("-tls1_2", "-cipher", f"{cipher}:@SECLEVEL=0"): cipher
+       for cipher in ("AES128-SHA", "AES128-GCM-SHA256", "AES256-GCM-SHA384", "AES256-SHA256")},
+    ("-tls1", "-cipher", "ALL:@SECLEVEL=0"): "TLS 1.0",
+    ("-tls1_1", "-cipher", "ALL:@SECLEVEL=0"): "TLS 1.1",
+    ("-tls1_2", "-cipher", "ECDHE-RSA-AES128-SHA"): "ECDHE-RSA-AES128-SHA",
+}
+
+
+def control(program):
+    """Without the lines of haproxy.cfg the same client gets each of these: it can ask for them."""
+    text = (DEPLOY / "haproxy.cfg").read_text(encoding="utf-8")
+    ciphers = next(line for line in text.splitlines(True) if line.startswith("    ssl-default-bind-ciphers "))
+    with RsaStand(program) as stand:
+        stand.start_proxy((ciphers, "    ssl-default-bind-ciphers ALL:@SECLEVEL=0\n"),
+                          ("ssl-min-ver TLSv1.2", "ssl-min-ver TLSv1.0"))
+        for words, what in REFUSED.items():
+            check(f"without haproxy.cfg's lines a client gets {what}", shaken(stand, *words))
 
 
 def try_ciphers(program):
     """Asks for each kind."""
+    control(program)
     with RsaStand(program) as stand:
         stand.start_proxy()
-        for cipher in ("AES128-SHA", "AES128-GCM-SHA256", "AES256-GCM-SHA384", "AES256-SHA256"):
-            told = shaken(stand, "-tls1_2", "-cipher", f"{cipher}:@SECLEVEL=0")
-            check(f"{cipher}, which has no forward secrecy, is refused", not told, told)
-        for words in (("-tls1",), ("-tls1_1",)):
-            told = shaken(stand, *words, "-cipher", "ALL:@SECLEVEL=0")
-            check(f"{words[0][1:]} is refused", not told, told)
-        told = shaken(stand, "-tls1_2", "-cipher", "ECDHE-RSA-AES128-SHA")
-        check("a cipher of old kind is refused", not told, told)
-        for words, wanted in ((("-tls1_2",), "ECDHE-RSA-"), (("-tls1_3",), "TLS_")):
+        for words, what in REFUSED.items():
             told = shaken(stand, *words)
-            check(f"{words[0][1:]} gets {told}", told.startswith(wanted), told)
+            check(f"{what} is refused", not told, told)
+        for version, wanted in (("-tls1_2", "ECDHE-RSA-"), ("-tls1_3", "TLS_")):
+            told = shaken(stand, version)
+            check(f"{version[1:]} gets {told}", told.startswith(wanted), told)
 
 
 if __name__ == "__main__":
