@@ -18,7 +18,7 @@ from collections.abc import Iterator
 from pathlib import Path
 from typing import Any
 
-from lines import LIKE_A_KEY
+from lines import LIKE_A_KEY, on_one_line
 from placing import beside, to_disk
 from settings import Fault, unwritten
 
@@ -51,17 +51,19 @@ def masked_line(line: str) -> str:
 
 
 def masked_note(text: str) -> str:
-    """A note as the journal has it. It has a seed as it is: a seed is public. No note fills the journal."""
-    seed, text = SEED.match(text), text[:NOTE]
-    return seed[0] + masked(text[seed.end():]) if seed else masked(text)
+    """A note as the journal has it: on one line, so that no part of it looks like an entry of its own. It has a seed as
+    it is: a seed is public. No note fills the journal."""
+    text = on_one_line(text)
+    seed = SEED.match(text)
+    return (seed[0] + masked(text[seed.end():]) if seed else masked(text))[:NOTE]
 
 
 def without_names(answer: str) -> str:
     """An answer as the journal has it."""
     if answer.startswith(OWN):
-        return masked(answer[:ANSWER]).strip()
+        return masked(answer)[:ANSWER].strip()
     first = answer.strip().partition("\n")[0]
-    return masked(first[:ANSWER]) if WITHOUT_NAMES.fullmatch(first) else NOT_NOTED
+    return masked(first)[:ANSWER] if WITHOUT_NAMES.fullmatch(first) else NOT_NOTED
 
 
 def blanked(line: bytes) -> bytes:

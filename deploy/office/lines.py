@@ -28,6 +28,11 @@ REPLACED = "the list that it replaces is nowhere else"
 MANY = "a list or a bundle of lines is not taken back as a whole"
 
 
+def on_one_line(text: str) -> str:
+    """A text with a space in the place of each sign that a terminal obeys or that ends a line."""
+    return "".join(sign if sign.isprintable() else " " for sign in text)
+
+
 def verb_of(line: str) -> str:
     """The first word of a line."""
     return (line.split() or [""])[0]

@@ -1,14 +1,18 @@
-"""Seeds on the office's page: what a clerk notes, even `close` or a draw, hides no seed that was noted before.
+"""Seeds on the office's page, and notes: what a clerk notes, even `close` or a draw, hides no seed that was noted before,
+and is one line of the journal.
 
 This run alone, also over standin.py: /usr/bin/python3 deploy/trial/noted.py PROGRAM
 """
 
+import hashlib
+import json
 import sys
 
 from office_requests import Page
 from stand import Stand, check
 
 SEEDS = ["a1" * 32, "b2" * 32]
+FORGED = "x\n2026-11-29T15:00:00+00:00  anna: close  ->  ok"
 
 
 def try_noted(program):
@@ -29,6 +33,26 @@ def try_noted(program):
         check("the page shows both seeds", all(seed in text for seed in SEEDS) and "has 2 seeds" in text, text)
         text = page.get("/office/journal")[2]
         check("and the notes as such", "Noted: <code>close</code>" in text and "Noted: <code>seed a1" in text, text)
+        forged(stand)
+        thrown(page)
+
+
+def forged(stand):
+    """A note looks like a further entry: with its sender's name, by a keeper that is new, or by an earlier one."""
+    stand.ask(ask="note", line=FORGED, who="bert")
+    with open(stand.data / "journal", "a", encoding="utf-8") as held:
+        held.write(json.dumps({"at": "2026-11-29T15:01:00+00:00", "who": "bert", "note": FORGED + "\x1b[2J"}) + "\n")
+    told = stand.script("rooms-office", "journal", "2").split("\n")
+    check("rooms-office prints each on one line", len(told) == 3 and all("bert: noted: x" in one for one in told[:2]), told)
+    check("without control signs", all(one.isprintable() for one in told), told)
+
+
+def thrown(page):
+    """Dice are noted as they are hashed, even if a sign came in that nobody sees."""
+    seed = hashlib.sha256(b"3 1 6 6 2 5").hexdigest()
+    page.form("/office/seed", {"way": "text", "text": "3 1\u200b6\n6 \ufeff2 5"}, page="/office/draw")
+    text = page.get("/office/draw")[2]
+    check("what witnesses saw has the hash that the page shows", seed in text and "3 1 6 6 2 5" in text, text)
 
 
 if __name__ == "__main__":

@@ -87,6 +87,9 @@ def hiding():
         "and nothing else behind that word",
         masked_note(f"seed {KEY}") == "seed (key)" and masked_note(f"seed {seed} {KEY}") == f"seed {seed} (key)",
     )
+    check("a key at the cut of a note leaves nothing", "0123" not in masked_note("x" + " " * 590 + KEY))
+    forged = masked_note("x\n2026-11-29\x1b[2J\r\u2028\x85\u202eanna: close  ->  ok")
+    check("a note is one line without control signs", forged == "x 2026-11-29 [2J    anna: close  ->  ok", forged)
 
 
 def slips():
@@ -141,6 +144,9 @@ def answering():
         ("", NOT_NOTED),
     ):
         check(f"of the answer {answer!r} the journal has {wanted!r}", without_names(answer) == wanted)
+    for begin in ("fault: ", "refused "):
+        answer = without_names(begin.ljust(290, ".") + " " + KEY)
+        check("a key at the cut of an answer leaves nothing", len(answer) <= 300 and "0123" not in answer, answer)
 
 
 def blanking(settings):

@@ -5,6 +5,7 @@ import re
 import secrets
 
 from journal import masked
+from lines import on_one_line
 
 import plain
 from app import app, ask, change, drawn_order, field, go_to, office_now, show, tell, text_of
@@ -91,6 +92,7 @@ def seed_of(way: str, text: str) -> tuple[str, str] | str:
         if SEED.fullmatch(seed):
             return seed, "entered as it is"
         return f"A seed has 64 signs out of 0 to 9 and a to f. You entered {len(seed)} signs."
+    text = " ".join(on_one_line(text).split())  # as the journal has it, or the noted text would have another hash
     if not SHORTEST_TEXT <= len(text) <= LONGEST_TEXT:
         return f"Enter {SHORTEST_TEXT} to {LONGEST_TEXT} signs: the throws of the dice, or the public number."
     if masked(text) != text:
