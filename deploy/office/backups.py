@@ -89,9 +89,9 @@ class Backups:
         return sorted(one.name for one in self.folder.iterdir() if NAME.fullmatch(one.name) and one.is_dir())
 
     def age(self) -> float | None:
-        """How old the newest copy is, in seconds."""
-        names = self.names()
-        return max(0.0, time.time() - (self.folder / names[-1]).stat().st_mtime) if names else None
+        """How old the newest copy that was asked for is, in seconds; below zero if its time is to come."""
+        name = next((name for name in reversed(self.names()) if self.entry(name)["kind"] == ASKED_FOR), None)
+        return time.time() - (self.folder / name).stat().st_mtime if name else None
 
     def entry(self, name: str) -> dict[str, str]:
         """Why a copy was taken. One that was put there by hand counts as asked for."""

@@ -15,6 +15,7 @@ from placing import beside
 NOBODY = "0" * 16           # a key that nobody has: the server refuses it, and so has read the office
 ANSWER_SECONDS = 10.0       # so long the server may be away for a change
 OLDEST_COPY = 26 * 3600     # seconds: there is a copy each night
+CLOCK_STEP = 60             # seconds by which a clock may be set back unnoticed
 SHOWN = 3600                # seconds for which a server that ended by itself is a fault
 
 
@@ -51,9 +52,12 @@ def fault_of_disk(probe: Path) -> str:
 
 
 def fault_of_copies(age: float | None) -> str:
-    """What is wrong with the newest copy, if anything."""
+    """What is wrong with the newest copy that was asked for, if anything. Copies before lines say nothing of the timer that
+    asks for one each night."""
     if age is None:
-        return "there is no copy of the office"
+        return "there is no copy of the office that was asked for"
+    if age < -CLOCK_STEP:
+        return "the newest copy has a time to come, so its age is not known: was the clock set back?"
     return f"the newest copy is {age / 3600:.0f} hours old" if age > OLDEST_COPY else ""
 
 
@@ -65,8 +69,8 @@ def fault_of_past(ended: dict[str, Any] | None) -> str:
 
 
 def watch(office: Office, hand: Hand) -> dict[str, Any]:
-    """What is wrong, and the age of the newest copy in seconds."""
+    """What is wrong, and the age in seconds of the newest copy that was asked for."""
     age = office.backups.age()
     found = [fault_of_server(office.settings.port), fault_of_disk(beside(office.settings.file, ".watch")),
              fault_of_copies(age), fault_of_past(hand.ended())]
-    return {"faults": [fault for fault in found if fault], "age": age}
+    return {"faults": [fault for fault in found if fault], "age": max(0.0, age or 0.0)}

@@ -26,13 +26,18 @@ def watched(stand, *words):
 
 
 def copies(stand):
-    """No copy, one of now, and one of the day before yesterday."""
+    """No copy, one of now, one of the day before yesterday, and one of the day after tomorrow. A copy before a line is not
+    what the timer asks for."""
     watched(stand, "there is no copy")
     name = stand.script("rooms-office", "backup").strip()
     watched(stand)
-    old = time.time() - 2 * DAY
-    os.utime(stand.data / "backups" / name, (old, old))
-    watched(stand, "48 hours old")
+    for days, alarm in ((-2, "48 hours old"), (2, "has a time to come")):
+        set_to = time.time() + days * DAY
+        os.utime(stand.data / "backups" / name, (set_to, set_to))
+        watched(stand, alarm)
+        before = stand.ask(ask="do", lines=[f"room L{days + 2}", f"room M{days + 2}"])["copy"]
+        check("a copy is taken before lines", before > name, before)
+        watched(stand, alarm)
     stand.script("rooms-office", "backup")
     watched(stand)
 
