@@ -29,8 +29,8 @@ from settings import Fault, unwritten
 # it stays when the process opens and closes the same file once more.
 LOCK = struct.pack("hhqqi4x", fcntl.F_WRLCK, os.SEEK_SET, 1 << 30, 512, 0)
 PATIENCE = 5.0  # seconds until other programs have to have closed the file
-IN_USE = ("another program has the office's file open: `lslocks` shows which. Nothing was changed. End it, and try "
-          "again.")
+IN_USE = ("another program has the office's file open. As root, `lslocks` shows who has locked the file, and `fuser -v FILE` "
+          "also who only reads it. Nothing was changed. End that program, and try again.")
 
 
 def beside(file: Path, end: str) -> Path:
