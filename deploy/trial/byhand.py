@@ -82,7 +82,8 @@ def rooms_on_record(stand):
 
 def try_hands(program, count, pause, many, clerk=bundles):
     """So many lines at a time by hand, beside so many bundles."""
-    with Stand(program) as stand:
+    # All at a time share the machine with the keeper's own lines: a slow program needs longer than elsewhere.
+    with Stand(program, ROOMS_LINE_SECONDS="120") as stand:
         stand.start()
         began = time.monotonic()
         with Hands(stand, count, pause) as hands:
