@@ -1,4 +1,5 @@
-"""`rooms-restore` where a keeper was killed in the middle of a change, and where a program has the file.
+"""`rooms-restore` where a keeper was killed in the middle of a change, where there is no office, and where a program has
+the file; and which units it starts again.
 
 It needs root and a machine without the units. This run alone, also over standin.py: /usr/bin/python3
 deploy/trial/restoring.py PROGRAM
@@ -6,12 +7,14 @@ deploy/trial/restoring.py PROGRAM
 
 import contextlib
 import os
+import runpy
 import shutil
 import sqlite3
 import subprocess
 import sys
 import time
 from pathlib import Path
+from unittest import mock
 
 from stand import DEPLOY, PYTHON, Stand, check
 
@@ -62,6 +65,54 @@ def cut_before(stand, folder):
     check("and keeps the office that had yet to come", "NEWEST" in rooms_of(kept / stand.file.name), told)
     left = {one.name for one in stand.data.iterdir()} - {"rooms.db", "rooms.db-wal", "rooms.db-shm", "backups"}
     check("with nothing left over", not left, left)
+    start_over(stand)
+
+
+def no_office(stand, folder):
+    """The file is gone, as on a new machine; then only its log and what a killed keeper left are there."""
+    for left in ((), ("rooms.db-wal", "rooms.db.part")):
+        for one in stand.data.glob("rooms.db*"):
+            one.unlink()
+        for name in left:
+            (stand.data / name).write_bytes(os.urandom(9000))
+        told = restore(stand, folder)
+        what = "beside what a keeper left" if left else "into an empty folder"
+        check(f"rooms-restore puts the copy {what}", told[0] == 0 and "COPY" in rooms_of(stand.file), told)
+        start_over(stand)
+
+
+def start_over(stand):
+    """The keeper completes what it finds begun when it starts: it must find nothing."""
+    stand.start()
+    codes = {row[0] for row in stand.ask(ask="view")["rooms"]}
+    stand.stop_keeper()
+    check("a keeper that starts then serves the copy", {"OLD", "COPY"} == codes, codes)
+
+
+def done_around(states):
+    """Which commands `stopped` of rooms-restore gives where systemd says this of socket and keeper."""
+    done: list[object] = []
+
+    def run(words, **_):
+        if words[1] != "is-active":
+            done.append(words)
+        return subprocess.CompletedProcess(words, 0, "\n".join([*states, ""]))
+
+    command = runpy.run_path(str(DEPLOY / "rooms-restore"))
+    with mock.patch.object(Path, "exists", return_value=True), mock.patch("subprocess.run", run), command["stopped"]():
+        done.append("in place")
+    return done
+
+
+def units():
+    """A keeper between two crashes is not active, but its socket is. Both are stopped, and both are started again."""
+    both = ["rooms-keeper.socket", "rooms-keeper.service"]
+    for states in (("active", "activating"), ("active", "active"), ("inactive", "activating")):
+        done = done_around(states)
+        wanted = [["systemctl", "stop", *both], "in place", ["systemctl", "start", *both]]
+        check(f"if socket and keeper are {' and '.join(states)}, both are started again", done == wanted, done)
+    done = done_around(("inactive", "failed"))
+    check("if they are inactive and failed, neither is", done == ["in place"], done)
 
 
 def in_use(stand, folder):
@@ -88,7 +139,9 @@ def try_restoring(program):
         copy_with(stand, folder / stand.file.name, "COPY")
         (folder / "why").write_text(KEPT_OFFICE, encoding="utf-8")
         cut_before(stand, folder)
+        no_office(stand, folder)
         in_use(stand, folder)
+    units()
 
 
 if __name__ == "__main__":
