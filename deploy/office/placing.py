@@ -78,7 +78,7 @@ class Place:
 
     def __init__(self, file: Path) -> None:
         self.file = file
-        self.part, self.next, self.second = (beside(file, end) for end in (".part", ".next", ".held"))
+        self.part, self.next, self.second = (beside(file, end) for end in (".part", ".next", ".second"))
         self.lock = threading.Lock()  # between the old log's end and the new file nobody may copy
         self.replaced: list[int] = []  # files that had this place, still locked, since another program has them open
 

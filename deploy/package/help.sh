@@ -134,7 +134,7 @@ explain_office() {
     if [ -r "$file" ] && [ -s "$file" ] && [ "$(head -c 15 -- "$file" | tr -d '\0')" != "SQLite format 3" ]; then
         hinders "$file is no database: is another file meant?"
     fi
-    if [ -e "$file.held" ] || [ -e "$file.next" ]; then
+    if [ -e "$file.second" ] || [ -e "$file.next" ]; then
         hinders "the keeper is replacing $file: use rooms-office, and start the keeper if it does not run"
     elif [ "$(stat -Lc %h -- "$file")" != 1 ]; then
         hinders "$file has a second name (a hard link): remove that name"
