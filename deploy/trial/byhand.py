@@ -62,9 +62,12 @@ def bundles(stand, count):
 
 
 def bundles_and_kills(stand, count):
-    """The same, but the keeper is killed at some moment of each bundle, and started again."""
-    accepted, longest, drawn = [], 1.0, random.Random(count)
-    for number in range(count):
+    """The same, but the keeper is killed at some moment of each bundle but the first, and started again. The first says how
+    long a bundle takes: with a slow program a fixed time would be over before any was answered."""
+    began = time.monotonic()
+    accepted = bundles(stand, 1)
+    longest, drawn = 2 * (time.monotonic() - began), random.Random(count)
+    for number in range(1, count):
         codes = [f"K{number}-1", f"K{number}-2"]
         answer = killed(stand, {"ask": "do", "lines": [f"room {code}" for code in codes]}, longest * drawn.random())
         accepted += codes if answer.get("done") else []
