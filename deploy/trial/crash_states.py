@@ -112,7 +112,7 @@ def seen_by_sqlite(file: Path) -> Office | str | None:
 def has_rows(file: Path, rows: Rows) -> bool:
     """Whether a file has these rows, whatever its version."""
     _, found = rows_of(file)
-    return all(found[name] == wanted for name, wanted in rows.items())
+    return all(set(wanted) <= set(found[name]) for name, wanted in rows.items())
 
 
 def goes_on(program: str, file: Path, office: Office | None) -> str:
