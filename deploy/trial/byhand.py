@@ -111,7 +111,8 @@ def try_byhand(program, many=BUNDLES):
     """One with a pause, and several without; and beside a keeper that is killed."""
     for count, pause in HANDS:
         try_hands(program, count, pause, many)
-    try_hands(program, 2, 0.01, many, bundles_and_kills)
+    # With long pauses: after each kill the server has to find the file free, and tries less and less often.
+    try_hands(program, 2, 0.3, many, bundles_and_kills)
 
 
 if __name__ == "__main__":
