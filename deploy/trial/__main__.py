@@ -66,8 +66,8 @@ def gate_parts(program):
     """
     of_program: list[Callable[..., None]] = [
         try_crash_states, try_keeping, try_clock, try_watch, try_flush, try_byhand, try_restoring, try_earlier,
-        partial(try_kills, kills=1), partial(try_copying, length=5), try_full, try_signing, try_noted, try_office_doors,
-        try_office_clerks, try_office_sheets, try_burst, try_limits, try_ciphers,
+        partial(try_kills, kills=1), partial(try_copying, length=5), try_full, try_signing, try_noted,
+        partial(try_office_doors, requests=150), try_office_clerks, try_office_sheets, try_burst, try_limits, try_ciphers,
     ]
     return [try_parts, try_replacing, *(partial(one, program) for one in of_program)]
 

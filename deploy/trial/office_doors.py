@@ -174,7 +174,7 @@ class Chance:
         return page.ask(self.random.choice(self.METHODS), path, self.word().encode(), fields)
 
 
-def try_random(stand, page, count=1000):
+def try_random(stand, page, count):
     """Random requests: each has an answer of the page's own, and nothing changes."""
     chance, before = Chance(page.hidden("/office/lists")), rows(stand)
     statuses: dict[int, int] = {}
@@ -358,8 +358,8 @@ def suppressed(page, form):
         pass
 
 
-def try_office_doors(program):
-    """All of it."""
+def try_office_doors(program, requests=1000):
+    """All of it, with so many random requests."""
     with Stand(program) as stand:
         stand.fill(ROOMS, PEOPLE)
         stand.start()
@@ -370,7 +370,7 @@ def try_office_doors(program):
         try_lists(stand, anna)
         try_keys(anna)
         try_markup(stand, anna)
-        try_random(stand, anna)
+        try_random(stand, anna, requests)
         try_two_clerks(stand, anna, bert)
         try_burst(stand, anna)
         try_kills(stand, anna)
