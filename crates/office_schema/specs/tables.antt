@@ -1,3 +1,4 @@
+pub mod Crashes
 pub mod Declaring
 pub mod Edits
 pub mod Holds

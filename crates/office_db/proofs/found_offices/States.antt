@@ -1,12 +1,14 @@
 -- What a query does to a connection that is outside a transaction.
-use Rattle.std.proofs.Common.{◌≡◌, ℕ, List, Option, Some, None, IsTrue, sym, ◌∙◌, subst, inl, inr, arith}
+use Rattle.std.proofs.Common.{◌≡◌, ℕ, List, Option, Some, None, IsSome, IsTrue, true≢false, sym, ◌∙◌, subst, inl, inr, arith}
 use Rattle.sqlite_trees.specs.Tree.{Trees}
 use Rattle.sqlite_value.specs.Order.{Row}
+use Rattle.sqlite_resolve.specs.declared.compiled.Compiled.{Compiled}
 use Rattle.sqlite_schema.specs.declared.command.Returning.{Returning}
 use Rattle.sqlite.specs.Clock.{timed}
 use Rattle.sqlite.specs.Listing.{understood}
 use Rattle.sqlite.specs.declared.error.Error.{Error}
-use Rattle.sqlite.specs.State.{State, HasCleanDisk, Survives, Shown, ShowsRows, IsUnchanged, FailsToQuery, FailsToShow, IsNotRun, IsRolledBack}
+use Rattle.sqlite.specs.State.{State, HasCleanDisk, CommitsShowing, Survives, Shown, ShowsRows, IsUnchanged, FailsToQuery, FailsToShow, IsNotRun, IsRolledBack}
+use Rattle.office_schema.specs.tables.Crashes.{LeavesNothingNew, ShowsCommitted}
 use Rattle.office_schema.specs.tables.Steps.{Follows}
 use Rattle.office_db.specs.loading.Asking.{NeverReturns, OnlyAsks}
 use Rattle.office_db.specs.loading.Reading.{OnlyReads}
@@ -66,18 +68,31 @@ module _ (sql : List ℕ) (params : Row) (old new : State) where
     closes = survives.closes;
   }
 
+  -- A query without a RETURNING clause commits nothing.
+  pub asks_nothing_new : OnlyAsks sql → Survives old new (CommitsShowing sql params old) → LeavesNothingNew old new
+  unfolding CommitsShowing
+  asks_nothing_new asks survives clean db may = elim (survives.crash clean db may) [
+    | inl was ↦ was
+    | inr shows ↦ absurd (never_returns shows.0 (subst NeverReturns shows.1.is (asks old.now.schema)) shows.2)
+  ]
+    where
+      never_returns : (c : Compiled) → c.returning ≡ None → IsSome c.returning → ⊥
+      never_returns c never some = true≢false (sym (subst IsSome never some))
+
   -- after its rows were returned
-  pub reads_shown : (Commits : Trees → Type 0) → Survives old new Commits → (rows : List Row) → OnlyAsks sql
+  pub reads_shown : Survives old new (CommitsShowing sql params old) → (rows : List Row) → OnlyAsks sql
       → (HasCleanDisk new → Shown sql params old new rows) → OnlyReads old new
-  reads_shown Commits survives rows asks h = record {
-    follows = survivor_follows Commits survives (λ clean o. shown_was_open rows (h clean));
+  reads_shown survives rows asks h = record {
+    follows = survivor_follows (CommitsShowing sql params old) survives (λ clean o. shown_was_open rows (h clean));
     same = λ intact. (shown_unchanged rows (asks old.now.schema) (h intact.0)).0.now_is;
+    crash = asks_nothing_new asks survives;
   }
 
   -- after it failed
-  pub reads_failed : (Commits : Trees → Type 0) → Survives old new Commits → (e : Error) → (IsTrue old.is_open → old.now ≡ old.committed)
+  pub reads_failed : (Commits : Trees → Type 0) → Survives old new Commits → LeavesNothingNew old new → (e : Error) → ShowsCommitted old
       → (HasCleanDisk new → FailsToQuery sql params old new e) → OnlyReads old new
-  reads_failed Commits survives e settled h = record {
+  reads_failed Commits survives nothing e settled h = record {
     follows = survivor_follows Commits survives (λ clean o. (failed_stays e (h clean) o).0);
     same = λ intact. let stays = failed_stays e (h intact.0) intact.1 in stays.1 stays.0 (settled stays.0);
+    crash = nothing;
   }

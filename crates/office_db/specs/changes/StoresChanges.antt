@@ -1,5 +1,6 @@
 -- The effect of calls on a database that has the tables of an office.
-use Rattle.std.specs.Prelude.{◌≡◌, List}
+use Rattle.std.specs.Prelude.{◌≡◌, ◌<◌, List, length, IsTrue}
+use Rattle.sqlite.specs.Effect.{Database}
 use Rattle.sqlite.specs.State.{State, HasCleanDisk}
 use Rattle.office_state.specs.Change.{applied, applied_all, Fits, AllFit}
 use Rattle.office_state.specs.declared.change.Change.{Change}
@@ -39,3 +40,11 @@ pub record StoresChanges (first : Office) (old new : State) (changes : List Chan
       → HoldsOffice new.now (applied_all office changes)
       × IsWellFormed (rows_of (applied_all office changes))
   pub mode : HasCleanDisk new → new.in_transaction ≡ old.in_transaction
+
+-- `after` is what a call commits that stores the changes in the database that `old` shows. If the tables held the rows
+-- of an office that the changes fit, `after` holds the rows of the office after all changes. If there are changes, the
+-- connection was open.
+pub record CommitsChanges (first : Office) (old : State) (changes : List Change) (after : Database) : Type 0 where
+  pub was_open : 0 < length changes → IsTrue old.is_open
+  pub stored : (office : Office) → AllFit first office changes → IsWellFormed (rows_of office)
+      → HoldsOffice old.now office → HoldsOffice after (applied_all office changes)

@@ -13,13 +13,20 @@ use Rattle.office_schema.specs.cells.Forms.{IsWordRow, IsResultRow, IsMoveRow, I
 use Rattle.office_schema.specs.cells.Forms.{IsGradeRow, IsGoingRow}
 use Rattle.office_db.specs.loading.Listing.{ShowRecords}
 use Rattle.office_schema.specs.tables.Layouts.{has_grades, has_leavers, trees_of}
+use Rattle.office_schema.specs.tables.Crashes.{LeavesNothingNew}
 use Rattle.office_schema.specs.tables.Steps.{Follows, IsIntact}
 use Rattle.office_schema.specs.declared.tables.layouts.Layout.{Layout}
 
 -- If the disk is clean and the connection open, the database is the same as before.
+pub record KeepsDatabase (old new : State) : Type 0 where
+  pub follows : Follows old new
+  pub same : IsIntact new → new.now ≡ old.now
+
+-- The same, and nothing was committed.
 pub record OnlyReads (old new : State) : Type 0 where
   pub follows : Follows old new
   pub same : IsIntact new → new.now ≡ old.now
+  pub crash : LeavesNothingNew old new
 
 -- If the table exists, its listed rows are these records. If it does not exist, there are no records.
 abbrev pub ShowIf : {X : Type 0} → Bool → (X → Row) → (Row → Type 0) → List Term → List Row → List X

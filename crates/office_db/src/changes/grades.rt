@@ -2,6 +2,7 @@
 ghost use Rattle.std.specs.Prelude.{◌≡◌, OnOk};
 ghost use Rattle.sqlite.specs.Held.{state};
 ghost use Rattle.office_state.specs.declared.change.Change.TheVariants.{PutGoing, PutGrade};
+ghost use Rattle.office_schema.specs.tables.Crashes.{WasOpen};
 ghost use Rattle.office_schema.specs.tables.Steps.{StaysInside};
 ghost use Rattle.office_db.specs.changes.StoresChanges.{StoresAlways, Turns};
 ghost use Rattle.office_db.specs.changes.Inner.Grading.{with_grade_recorded};
@@ -23,6 +24,8 @@ pub(crate) fn put_grade<S: Alter>(
     ensures made { OnOk result
         (StoresAlways (state S.Store tx.old.conn.now) (state S.Store tx.new.conn.now)
         (PutGrade person.now grade)) }
+    ensures was_open { OnOk result
+        (WasOpen (state S.Store tx.old.conn.now) (state S.Store tx.new.conn.now)) }
     ensures inside { StaysInside (state S.Store tx.old.conn.now) (state S.Store tx.new.conn.now) }
 {
     drop_grade(tx, person)?;
@@ -58,6 +61,8 @@ pub(crate) fn put_going<S: Alter>(
     ensures made { OnOk result
         (StoresAlways (state S.Store tx.old.conn.now) (state S.Store tx.new.conn.now)
         (PutGoing person.now)) }
+    ensures was_open { OnOk result
+        (WasOpen (state S.Store tx.old.conn.now) (state S.Store tx.new.conn.now)) }
     ensures inside { StaysInside (state S.Store tx.old.conn.now) (state S.Store tx.new.conn.now) }
 {
     lemma_text(person);

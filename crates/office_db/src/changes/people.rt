@@ -2,6 +2,7 @@
 ghost use Rattle.std.specs.Prelude.{◌≡◌, OnOk};
 ghost use Rattle.sqlite.specs.Held.{state};
 ghost use Rattle.office_state.specs.declared.change.Change.TheVariants.{PutPerson, DropPerson, PutHome, PutWithdrawn};
+ghost use Rattle.office_schema.specs.tables.Crashes.{WasOpen};
 ghost use Rattle.office_schema.specs.tables.Steps.{StaysInside};
 ghost use Rattle.office_db.specs.changes.StoresChanges.{StoresAlways};
 
@@ -23,6 +24,8 @@ pub(crate) fn put_person<S: Alter>(
     ensures made { OnOk result
         (StoresAlways (state S.Store tx.old.conn.now) (state S.Store tx.new.conn.now)
         (PutPerson person.now name.now key.now home.now)) }
+    ensures was_open { OnOk result
+        (WasOpen (state S.Store tx.old.conn.now) (state S.Store tx.new.conn.now)) }
     ensures inside { StaysInside (state S.Store tx.old.conn.now) (state S.Store tx.new.conn.now) }
 {
     lemma_text(person);
@@ -41,6 +44,8 @@ pub(crate) fn remove_person<S: Alter>(
     ensures made { OnOk result
         (StoresAlways (state S.Store tx.old.conn.now) (state S.Store tx.new.conn.now)
         (DropPerson person.now)) }
+    ensures was_open { OnOk result
+        (WasOpen (state S.Store tx.old.conn.now) (state S.Store tx.new.conn.now)) }
     ensures inside { StaysInside (state S.Store tx.old.conn.now) (state S.Store tx.new.conn.now) }
 {
     drop_grade(tx, person)?;
@@ -57,6 +62,8 @@ pub(crate) fn put_home<S: Alter>(
     ensures made { OnOk result
         (StoresAlways (state S.Store tx.old.conn.now) (state S.Store tx.new.conn.now)
         (PutHome person.now home.now)) }
+    ensures was_open { OnOk result
+        (WasOpen (state S.Store tx.old.conn.now) (state S.Store tx.new.conn.now)) }
     ensures inside { StaysInside (state S.Store tx.old.conn.now) (state S.Store tx.new.conn.now) }
 {
     lemma_optional_text(home);
@@ -72,6 +79,8 @@ pub(crate) fn put_withdrawn<S: Alter>(
     ensures made { OnOk result
         (StoresAlways (state S.Store tx.old.conn.now) (state S.Store tx.new.conn.now)
         (PutWithdrawn person.now)) }
+    ensures was_open { OnOk result
+        (WasOpen (state S.Store tx.old.conn.now) (state S.Store tx.new.conn.now)) }
     ensures inside { StaysInside (state S.Store tx.old.conn.now) (state S.Store tx.new.conn.now) }
 {
     set_withdrawn(tx, person)

@@ -2,6 +2,7 @@
 ghost use Rattle.std.specs.Prelude.{◌≡◌, OnOk};
 ghost use Rattle.sqlite.specs.Held.{state};
 ghost use Rattle.office_state.specs.declared.change.Change.TheVariants.{PutResult, AddMove};
+ghost use Rattle.office_schema.specs.tables.Crashes.{WasOpen};
 ghost use Rattle.office_schema.specs.tables.Steps.{StaysInside};
 ghost use Rattle.office_db.specs.changes.StoresChanges.{StoresAlways};
 
@@ -21,6 +22,8 @@ pub(crate) fn put_result<S: Alter>(
     ensures made { OnOk result
         (StoresAlways (state S.Store tx.old.conn.now) (state S.Store tx.new.conn.now)
         (PutResult person.now room.now)) }
+    ensures was_open { OnOk result
+        (WasOpen (state S.Store tx.old.conn.now) (state S.Store tx.new.conn.now)) }
     ensures inside { StaysInside (state S.Store tx.old.conn.now) (state S.Store tx.new.conn.now) }
 {
     lemma_text(person);
@@ -34,6 +37,8 @@ pub(crate) fn record_move<S: Alter>(tx: &mut Transaction<'_, S>, moved: &Move) -
     ensures made { OnOk result
         (StoresAlways (state S.Store tx.old.conn.now) (state S.Store tx.new.conn.now)
         (AddMove moved.now)) }
+    ensures was_open { OnOk result
+        (WasOpen (state S.Store tx.old.conn.now) (state S.Store tx.new.conn.now)) }
     ensures inside { StaysInside (state S.Store tx.old.conn.now) (state S.Store tx.new.conn.now) }
 {
     lemma_move(moved);

@@ -2,6 +2,7 @@
 ghost use Rattle.std.specs.Prelude.{◌≡◌, OnOk};
 ghost use Rattle.sqlite.specs.Held.{state};
 ghost use Rattle.office_state.specs.declared.change.Change.TheVariants.{PutRound, ClearRound};
+ghost use Rattle.office_schema.specs.tables.Crashes.{WasOpen};
 ghost use Rattle.office_schema.specs.tables.Steps.{StaysInside};
 ghost use Rattle.office_db.specs.changes.StoresChanges.{StoresAlways};
 
@@ -21,6 +22,8 @@ pub(crate) fn put_round<S: Alter>(
     ensures made { OnOk result
         (StoresAlways (state S.Store tx.old.conn.now) (state S.Store tx.new.conn.now)
         (PutRound number phase)) }
+    ensures was_open { OnOk result
+        (WasOpen (state S.Store tx.old.conn.now) (state S.Store tx.new.conn.now)) }
     ensures inside { StaysInside (state S.Store tx.old.conn.now) (state S.Store tx.new.conn.now) }
 {
     set_round(tx, number, phase)
@@ -32,6 +35,8 @@ pub(crate) fn clear_round<S: Alter>(tx: &mut Transaction<'_, S>) -> Result<(), E
     ensures made { OnOk result
         (StoresAlways (state S.Store tx.old.conn.now) (state S.Store tx.new.conn.now)
         (ClearRound)) }
+    ensures was_open { OnOk result
+        (WasOpen (state S.Store tx.old.conn.now) (state S.Store tx.new.conn.now)) }
     ensures inside { StaysInside (state S.Store tx.old.conn.now) (state S.Store tx.new.conn.now) }
 {
     clear_round_tables(tx)?;

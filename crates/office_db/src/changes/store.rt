@@ -1,10 +1,11 @@
 //! Storing all changes of a command in one transaction.
-ghost use Rattle.std.specs.Prelude.{◌≡◌, false, OnOk, OnErr, IsTrue};
+ghost use Rattle.std.specs.Prelude.{◌≡◌, ◌<◌, false, length, OnOk, OnErr, IsTrue};
 ghost use Rattle.sqlite.specs.Held.{state};
 ghost use Rattle.sqlite.specs.State.{HasCleanDisk};
 ghost use Rattle.office_state.specs.declared.change.Change.TheVariants.{PutRoom};
+ghost use Rattle.office_schema.specs.tables.Crashes.{LeavesOldOr, ShowsCommitted, WasOpen};
 ghost use Rattle.office_schema.specs.tables.Steps.{IsIntact, Follows, StaysInside};
-ghost use Rattle.office_db.specs.changes.StoresChanges.{StoresChange, StoresChanges};
+ghost use Rattle.office_db.specs.changes.StoresChanges.{CommitsChanges, StoresChange, StoresChanges};
 
 use crate::changes::choices::put_choices;
 use crate::changes::grades::{put_going, put_grade};
@@ -45,6 +46,10 @@ pub fn store_changes<S: Alter>(
     ensures undone { OnErr result
         (IsIntact (state S.Store conn.new)
         → (state S.Store conn.new).now ≡ (state S.Store conn.old).now) }
+    ensures committed { OnOk result (HasCleanDisk (state S.Store conn.new)
+        → ShowsCommitted (state S.Store conn.new)) }
+    ensures crash { LeavesOldOr (CommitsChanges office.now (state S.Store conn.old) changes.now)
+        (state S.Store conn.old) (state S.Store conn.new) }
 {
     // The proof needs these two lines: outside a transaction, an open connection shows what is committed.
     let outside = conn.is_autocommit();
@@ -66,6 +71,8 @@ fn apply_changes<S: Alter>(
     ensures made { OnOk result
         (StoresChanges first.now (state S.Store tx.old.conn.now) (state S.Store tx.new.conn.now)
         changes.now) }
+    ensures was_open { OnOk result (0 < length changes.now
+        → WasOpen (state S.Store tx.old.conn.now) (state S.Store tx.new.conn.now)) }
     ensures inside { StaysInside (state S.Store tx.old.conn.now) (state S.Store tx.new.conn.now) }
 {
     for change in changes {
@@ -85,6 +92,8 @@ fn apply_change<S: Alter>(
     ensures made { OnOk result
         (StoresChange first.now (state S.Store tx.old.conn.now) (state S.Store tx.new.conn.now)
         change.now) }
+    ensures was_open { OnOk result
+        (WasOpen (state S.Store tx.old.conn.now) (state S.Store tx.new.conn.now)) }
     ensures inside { StaysInside (state S.Store tx.old.conn.now) (state S.Store tx.new.conn.now) }
 {
     match change {
@@ -127,6 +136,8 @@ fn put_room<S: Alter>(
     ensures made { OnOk result
         (StoresChange first.now (state S.Store tx.old.conn.now) (state S.Store tx.new.conn.now)
         (PutRoom room.now shut)) }
+    ensures was_open { OnOk result
+        (WasOpen (state S.Store tx.old.conn.now) (state S.Store tx.new.conn.now)) }
     ensures inside { StaysInside (state S.Store tx.old.conn.now) (state S.Store tx.new.conn.now) }
 {
     if first.rooms.contains_key(room) {

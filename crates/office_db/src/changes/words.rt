@@ -2,6 +2,7 @@
 ghost use Rattle.std.specs.Prelude.{◌≡◌, OnOk};
 ghost use Rattle.sqlite.specs.Held.{state};
 ghost use Rattle.office_state.specs.declared.change.Change.TheVariants.{PutWord};
+ghost use Rattle.office_schema.specs.tables.Crashes.{WasOpen};
 ghost use Rattle.office_schema.specs.tables.Steps.{StaysInside};
 ghost use Rattle.office_db.specs.changes.StoresChanges.{StoresAlways};
 
@@ -22,6 +23,8 @@ pub(crate) fn put_word<S: Alter>(
     ensures made { OnOk result
         (StoresAlways (state S.Store tx.old.conn.now) (state S.Store tx.new.conn.now)
         (PutWord person.now word)) }
+    ensures was_open { OnOk result
+        (WasOpen (state S.Store tx.old.conn.now) (state S.Store tx.new.conn.now)) }
     ensures inside { StaysInside (state S.Store tx.old.conn.now) (state S.Store tx.new.conn.now) }
 {
     lemma_text(person);

@@ -5,6 +5,7 @@ ghost use Rattle.sqlite.specs.State.{HasCleanDisk};
 ghost use Rattle.office_state.specs.Office.{empty_office};
 ghost use Rattle.office_db.specs.creation.Created.{Starts};
 ghost use Rattle.office_db.specs.creation.Names.{NameIsTaken};
+ghost use Rattle.office_schema.specs.tables.Crashes.{LeavesOldOr};
 ghost use Rattle.office_schema.specs.tables.Schema.{no_schema};
 ghost use Rattle.office_schema.specs.tables.Steps.{Follows, IsIntact, StaysInside};
 ghost use Rattle.office_schema.specs.tables.Tables.{HoldsOffice};
@@ -43,6 +44,8 @@ pub fn create<S: Alter>(conn: &mut Connection<S>) -> Result<(), CreateFault>
         → HoldsOffice (state S.Store conn.new).now empty_office) }
     ensures is_open { OnOk result (HasCleanDisk (state S.Store conn.new)
         → IsTrue (state S.Store conn.new).is_open) }
+    ensures crash { LeavesOldOr (λ after. HoldsOffice after empty_office)
+        (state S.Store conn.old) (state S.Store conn.new) }
     ensures blank { OnOk result ((state S.Store conn.old).now.schema ≡ no_schema) }
     ensures undone { OnErr result (IsIntact (state S.Store conn.new)
         → (state S.Store conn.new).now ≡ (state S.Store conn.old).now) }
@@ -76,6 +79,9 @@ fn start_office<S: Alter>(conn: &mut Connection<S>) -> Result<(), Error>
         → IsTrue (state S.Store conn.new).is_open) }
     ensures undone { OnErr result (IsIntact (state S.Store conn.new)
         → (state S.Store conn.new).now ≡ (state S.Store conn.old).now) }
+    ensures crash { (state S.Store conn.old).now.schema ≡ no_schema
+        → LeavesOldOr (λ after. HoldsOffice after empty_office)
+        (state S.Store conn.old) (state S.Store conn.new) }
 {
     // The proof needs these two lines: outside a transaction, an open connection shows what is committed.
     let outside = conn.is_autocommit();

@@ -7,6 +7,7 @@ ghost use Rattle.office_state.specs.declared.office.Office.{Office as Books};
 ghost use Rattle.office_schema.specs.rows.Tables.{own_version, rows_of};
 ghost use Rattle.office_schema.specs.cells.WellFormed.{IsWellFormed};
 ghost use Rattle.office_db.specs.loading.Numbers.{IsLaidOut};
+ghost use Rattle.office_schema.specs.tables.Crashes.{LeavesNothingNew};
 ghost use Rattle.office_schema.specs.tables.Layouts.{schema_of, version_of};
 ghost use Rattle.office_schema.specs.tables.Steps.{Follows, IsIntact};
 ghost use Rattle.office_schema.specs.tables.Tables.{HoldsOfficeIn};
@@ -78,6 +79,7 @@ pub fn find<S: Alter>(alloc: Global, conn: &mut Connection<S>) -> Result<Found, 
     ensures follows { Follows (state S.Store conn.old) (state S.Store conn.new) }
     ensures same { IsIntact (state S.Store conn.new)
         → (state S.Store conn.new).now ≡ (state S.Store conn.old).now }
+    ensures crash { LeavesNothingNew (state S.Store conn.old) (state S.Store conn.new) }
     ensures is_open { OnOk result (HasCleanDisk (state S.Store conn.new)
         → IsTrue (state S.Store conn.new).is_open) }
     ensures lawful { IfOk result (λ found. IsLawful found.office) }

@@ -10,6 +10,7 @@ ghost use Rattle.office_state.specs.declared.office.Office.{Office as Books};
 ghost use Rattle.office_schema.specs.rows.ReadsOffice.{AreRecordsOf};
 ghost use Rattle.office_schema.specs.rows.Tables.{Tables, rows_at};
 ghost use Rattle.office_schema.specs.cells.WellFormed.{IsWellFormed};
+ghost use Rattle.office_schema.specs.tables.Crashes.{LeavesNothingNew};
 ghost use Rattle.office_schema.specs.tables.Holds.{Holds};
 ghost use Rattle.office_schema.specs.tables.Layouts.{version_of};
 ghost use Rattle.office_schema.specs.tables.Steps.{Follows, IsIntact};
@@ -44,6 +45,7 @@ pub fn load<S: Alter>(
         → IsTrue (state S.Store conn.new).is_open) }
     ensures same { IsIntact (state S.Store conn.new)
         → (state S.Store conn.new).now ≡ (state S.Store conn.old).now }
+    ensures crash { LeavesNothingNew (state S.Store conn.old) (state S.Store conn.new) }
     ensures lawful { IfOk result (λ found. IfSome found (λ office. IsLawful office)) }
     ensures shown { IfOk result (λ found. HasCleanDisk (state S.Store conn.new)
         → Begins layout (state S.Store conn.old).now.schema

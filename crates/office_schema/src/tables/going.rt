@@ -1,6 +1,7 @@
 //! The table of people who leave the college after the round.
 ghost use Rattle.std.specs.Prelude.{◌≡◌, OnOk, OnErr};
 ghost use Rattle.sqlite.specs.Held.{state};
+ghost use Rattle.office_schema.specs.tables.Crashes.{WasOpen};
 ghost use Rattle.office_schema.specs.tables.Edits.{with_going};
 ghost use Rattle.office_schema.specs.tables.Makes.{Makes};
 ghost use Rattle.office_schema.specs.tables.Steps.{IsUndone, StaysInside};
@@ -18,6 +19,8 @@ pub fn add_going<S: Alter>(tx: &mut Transaction<'_, S>, person: &PersonId) -> Re
         (with_going person.now)) }
     ensures undone { OnErr result
         (IsUndone (state S.Store tx.old.conn.now) (state S.Store tx.new.conn.now)) }
+    ensures was_open { OnOk result
+        (WasOpen (state S.Store tx.old.conn.now) (state S.Store tx.new.conn.now)) }
     ensures inside { StaysInside (state S.Store tx.old.conn.now) (state S.Store tx.new.conn.now) }
 {
     run(

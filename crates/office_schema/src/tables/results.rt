@@ -1,6 +1,7 @@
 //! The table of results.
 ghost use Rattle.std.specs.Prelude.{◌≡◌, OnOk, OnErr};
 ghost use Rattle.sqlite.specs.Held.{state};
+ghost use Rattle.office_schema.specs.tables.Crashes.{WasOpen};
 ghost use Rattle.office_schema.specs.tables.Edits.{with_result};
 ghost use Rattle.office_schema.specs.tables.Makes.{Makes};
 ghost use Rattle.office_schema.specs.tables.Steps.{IsUndone, StaysInside};
@@ -23,6 +24,8 @@ pub fn add_result<S: Alter>(
         (with_result person.now room.now)) }
     ensures undone { OnErr result
         (IsUndone (state S.Store tx.old.conn.now) (state S.Store tx.new.conn.now)) }
+    ensures was_open { OnOk result
+        (WasOpen (state S.Store tx.old.conn.now) (state S.Store tx.new.conn.now)) }
     ensures inside { StaysInside (state S.Store tx.old.conn.now) (state S.Store tx.new.conn.now) }
 {
     run(

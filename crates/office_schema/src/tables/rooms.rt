@@ -1,6 +1,7 @@
 //! The table of rooms.
 ghost use Rattle.std.specs.Prelude.{◌≡◌, OnOk, OnErr};
 ghost use Rattle.sqlite.specs.Held.{state};
+ghost use Rattle.office_schema.specs.tables.Crashes.{WasOpen};
 ghost use Rattle.office_schema.specs.tables.Edits.{with_room, with_shut};
 ghost use Rattle.office_schema.specs.tables.Makes.{Makes};
 ghost use Rattle.office_schema.specs.tables.Steps.{IsUndone, StaysInside};
@@ -21,6 +22,8 @@ pub fn add_room<S: Alter>(
         (with_room room.now shut)) }
     ensures undone { OnErr result
         (IsUndone (state S.Store tx.old.conn.now) (state S.Store tx.new.conn.now)) }
+    ensures was_open { OnOk result
+        (WasOpen (state S.Store tx.old.conn.now) (state S.Store tx.new.conn.now)) }
     ensures inside { StaysInside (state S.Store tx.old.conn.now) (state S.Store tx.new.conn.now) }
 {
     run(
@@ -42,6 +45,8 @@ pub fn set_shut<S: Alter>(
         (with_shut room.now shut)) }
     ensures undone { OnErr result
         (IsUndone (state S.Store tx.old.conn.now) (state S.Store tx.new.conn.now)) }
+    ensures was_open { OnOk result
+        (WasOpen (state S.Store tx.old.conn.now) (state S.Store tx.new.conn.now)) }
     ensures inside { StaysInside (state S.Store tx.old.conn.now) (state S.Store tx.new.conn.now) }
 {
     run(

@@ -1,6 +1,9 @@
 use Rattle.std.proofs.lemmas.Result.{on_ok_weaker}
 use Rattle.sqlite.specs.Held.{state}
 use Rattle.office_db.proofs.changed_rows.Calls.{stores_cleared}
+use Rattle.std.proofs.Common.{arith}
+use Rattle.office_schema.specs.tables.Crashes.{WasOpen}
+use Rattle.office_schema.proofs.statements.Crashes.{was_open_then}
 use Rattle.office_db.proofs.changes.round.clear_round.Goals as goal
 
 pub returns-clause-made : goal.returns-clause-made
@@ -11,3 +14,13 @@ returns-clause-made g c =
     on_ok_weaker c.clear_withdrawn.result
     (stores_cleared old mid new c.clear_withdrawn.ensures.inside c.in_ok-clear_round_tables.ensures.made)
     c.clear_withdrawn.ensures.made
+
+-- Its last statement ran.
+pub returns-clause-was_open : goal.returns-clause-was_open
+returns-clause-was_open g c =
+    let old = state g.S.Store c.args.tx.now.conn.now in
+    let mid = state g.S.Store c.clear_round_tables.new.tx.conn.now in
+    let new = state g.S.Store c.clear_withdrawn.new.tx.conn.now in
+    on_ok_weaker {Q = WasOpen old new} c.clear_withdrawn.result
+    (was_open_then old mid new c.clear_round_tables.ensures.inside (λ clean. omega (arith, clean, c.clear_withdrawn.ensures.inside.survives.clean)))
+    c.clear_withdrawn.ensures.was_open

@@ -5,6 +5,7 @@ use Rattle.office_state.specs.Change.{applied, applied_all, AllFit}
 use Rattle.office_schema.specs.cells.WellFormed.{IsWellFormed}
 use Rattle.office_schema.specs.rows.Tables.{rows_of}
 use Rattle.office_schema.specs.tables.Tables.{HoldsOffice}
+use Rattle.office_schema.proofs.statements.Crashes.{was_open_then}
 use Rattle.office_schema.proofs.statements.Steps.{inside_then, inside_none}
 use Rattle.office_db.proofs.changes.store.apply_changes.Goals as goal
 use Rattle.office_schema.proofs.statements.Refilled.{next_of}
@@ -14,6 +15,7 @@ loop-change-init g c = record {
   same_reference = refl;
   made = λ office clean fits well_formed was. (office, fits, well_formed, was, refl);
   mode = λ clean. refl;
+  was_open = λ some. absurd (omega (arith, some));
   inside = inside_none (state g.S.Store c.args.tx.now.conn.now);
 }
 
@@ -35,6 +37,9 @@ loop-change-preserved g c =
           (applied m.0 change, fit.1, now.1, now.0, ap (applied_all m.0) (sym here) ∙ m.4);
       mode = λ clean. c.in_ok-apply_change.ensures.made.mode clean
           ∙ c.loop-change.invariant.mode (omega (arith, c.apply_change.ensures.inside.survives.clean));
+      was_open = λ some. was_open_then (state g.S.Store c.args.tx.now.conn.now) (state g.S.Store c.loop-change.tx.conn.now) (state g.S.Store c.apply_change.new.tx.conn.now)
+          c.loop-change.invariant.inside
+          (λ clean. omega (arith, clean, c.apply_change.ensures.inside.survives.clean)) c.in_ok-apply_change.ensures.was_open;
       inside = inside_then _ _ _ c.loop-change.invariant.inside c.apply_change.ensures.inside;
     }
 
@@ -53,3 +58,6 @@ returns-clause-made g c =
           );
       mode = c.loop-change.invariant.mode;
     }
+
+pub returns-clause-was_open : goal.returns-clause-was_open
+returns-clause-was_open g c some = c.loop-change.invariant.was_open (omega arith)

@@ -1,10 +1,11 @@
-use Rattle.std.proofs.Common.{◌≡◌, drop}
+use Rattle.std.proofs.Common.{◌≡◌, ◌<◌, drop}
 use Rattle.sqlite.specs.State.{HasCleanDisk}
 use Rattle.sqlite.specs.Held.{state}
 use Rattle.office_state.specs.Change.{applied_all, AllFit}
 use Rattle.office_state.specs.declared.office.Office.{Office}
 use Rattle.office_schema.specs.cells.WellFormed.{IsWellFormed}
 use Rattle.office_schema.specs.rows.Tables.{rows_of}
+use Rattle.office_schema.specs.tables.Crashes.{WasOpen}
 use Rattle.office_schema.specs.tables.Steps.{StaysInside}
 use Rattle.office_schema.specs.tables.Tables.{HoldsOffice}
 use Rattle.office_db.proofs.changes.store.apply_changes.Given as goal
@@ -20,5 +21,6 @@ invariant-loop-change g l = record {
       × HoldsOffice (state g.S.Store l.tx.conn.now).now mid
       × (applied_all mid (drop l.change-index l.changes) ≡ applied_all office l.changes);
   mode : HasCleanDisk (state g.S.Store l.tx.conn.now) → l.tx.conn.now.in_transaction ≡ l.fn.tx.conn.now.in_transaction;
+  was_open : 0 < l.change-index → WasOpen (state g.S.Store l.fn.tx.conn.now) (state g.S.Store l.tx.conn.now);
   inside : StaysInside (state g.S.Store l.fn.tx.conn.now) (state g.S.Store l.tx.conn.now);
 }

@@ -1,15 +1,14 @@
-use Rattle.std.proofs.Common.{inr, refl, sym, ap, ◌∙◌, subst}
+use Rattle.std.proofs.Common.{inr, sym, ap, ◌∙◌, subst}
 use Rattle.sqlite.specs.Held.{state}
-use Rattle.office_schema.proofs.statements.Steps.{follows-refl}
 use Rattle.office_db.specs.loading.Causes.{HasCause, IsAllowed, version_fault}
 use Rattle.office_db.specs.loading.Finding.{AreDeclared}
 use Rattle.office_db.specs.loading.FirstTables.{BeginsOffice, begins_office}
 use Rattle.office_db.proofs.found_offices.Finding.{version_fault_allowed, version_fault_cause}
+use Rattle.office_db.proofs.found_offices.Following.{reads-refl}
 use Rattle.office_db.proofs.loading.finding.unknown_layout_fault.Goals as goal
 
 pub returns-then-not-begins_office-clause-reads : goal.returns-then-not-begins_office-clause-reads
-returns-then-not-begins_office-clause-reads g c =
-    record { follows = follows-refl (state g.S.Store c.args.conn.now); same = λ intact. refl }
+returns-then-not-begins_office-clause-reads g c = reads-refl (state g.S.Store c.args.conn.now)
 
 pub returns-in-Ok-clause-cause : goal.returns-in-Ok-clause-cause
 returns-in-Ok-clause-cause g c clean declared =

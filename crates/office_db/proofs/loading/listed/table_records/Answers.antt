@@ -3,20 +3,22 @@ use Rattle.sqlite.specs.Held.{state}
 use Rattle.sqlite.specs.State.{Shown}
 use Rattle.office_db.specs.loading.Asking.{OnlyAsks}
 use Rattle.office_db.proofs.loaded.Listings.{shows_table, read_all, found_is, shown_is}
-use Rattle.office_db.proofs.found_offices.States.{reads_shown, reads_failed, shown_is_open}
+use Rattle.office_db.proofs.found_offices.States.{asks_nothing_new, reads_shown, reads_failed, shown_is_open}
 use Rattle.office_db.proofs.loading.listed.table_records.Goals as goal
 
 pub returns-in_err-rows-clause-reads : goal.returns-in_err-rows-clause-reads
 returns-in_err-rows-clause-reads g c =
-    reads_failed c.query.result.now [] _ _ _ c.query_all.ensures.survives _ (c.is_autocommit-outside.ensures.settled (c.is_autocommit-outside.ensures.value ∙ ap not c.requires.outside)) c.in_err-rows.ensures.err
+    reads_failed c.query.result.now [] _ _ _ c.query_all.ensures.survives
+    (asks_nothing_new c.query.result.now [] _ _ (subst OnlyAsks (sym c.query.ensures.text) c.query.ensures.asks) c.query_all.ensures.survives) _
+    (c.is_autocommit-outside.ensures.settled (c.is_autocommit-outside.ensures.value ∙ ap not c.requires.outside)) c.in_err-rows.ensures.err
 
 pub returns-in-Ok-clause-reads : goal.returns-in-Ok-clause-reads
 returns-in-Ok-clause-reads g c =
-    reads_shown c.query.result.now [] _ _ _ c.query_all.ensures.survives _ (subst OnlyAsks (sym c.query.ensures.text) c.query.ensures.asks) c.in_ok-rows.ensures.ok
+    reads_shown c.query.result.now [] _ _ c.query_all.ensures.survives _ (subst OnlyAsks (sym c.query.ensures.text) c.query.ensures.asks) c.in_ok-rows.ensures.ok
 
 pub returns-clause-reads : goal.returns-clause-reads
 returns-clause-reads g c =
-    reads_shown c.query.result.now [] _ _ _ c.query_all.ensures.survives _ (subst OnlyAsks (sym c.query.ensures.text) c.query.ensures.asks) c.in_ok-rows.ensures.ok
+    reads_shown c.query.result.now [] _ _ c.query_all.ensures.survives _ (subst OnlyAsks (sym c.query.ensures.text) c.query.ensures.asks) c.in_ok-rows.ensures.ok
 
 pub returns-in-Ok-clause-found : goal.returns-in-Ok-clause-found
 returns-in-Ok-clause-found g c clean has records holds well_formed =

@@ -3,16 +3,17 @@ use Rattle.sqlite.specs.Held.{state}
 use Rattle.office_db.specs.loading.Versions.{only_version}
 use Rattle.office_db.proofs.loaded.Listings.{shows_table}
 use Rattle.office_db.proofs.loaded.VersionMeanings.{versions_asked, versions_listed}
-use Rattle.office_db.proofs.found_offices.States.{reads_shown, reads_failed, shown_is_open}
+use Rattle.office_db.proofs.found_offices.States.{asks_nothing_new, reads_shown, reads_failed, shown_is_open}
 use Rattle.office_db.proofs.loading.versions.versions.Goals as goal
 
 pub returns-in_err-rows-clause-reads : goal.returns-in_err-rows-clause-reads
 returns-in_err-rows-clause-reads g c =
-    reads_failed (codes "SELECT version FROM round") [] _ _ _ c.query_all.ensures.survives _ (c.is_autocommit-outside.ensures.settled (c.is_autocommit-outside.ensures.value ∙ ap not c.requires)) c.in_err-rows.ensures.err
+    reads_failed (codes "SELECT version FROM round") [] _ _ _ c.query_all.ensures.survives (asks_nothing_new (codes "SELECT version FROM round") [] _ _ versions_asked c.query_all.ensures.survives) _
+    (c.is_autocommit-outside.ensures.settled (c.is_autocommit-outside.ensures.value ∙ ap not c.requires)) c.in_err-rows.ensures.err
 
 pub returns-clause-reads : goal.returns-clause-reads
 returns-clause-reads g c =
-    reads_shown (codes "SELECT version FROM round") [] _ _ _ c.query_all.ensures.survives _ versions_asked c.in_ok-rows.ensures.ok
+    reads_shown (codes "SELECT version FROM round") [] _ _ c.query_all.ensures.survives _ versions_asked c.in_ok-rows.ensures.ok
 
 pub returns-clause-shown : goal.returns-clause-shown
 returns-clause-shown g c clean has =

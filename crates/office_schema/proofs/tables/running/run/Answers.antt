@@ -24,3 +24,10 @@ returns-in_err-execute-clause-undone g c =
       | inl inside ↦ undone_by 0 _ _ _ old new (c.in_err-execute.ensures.runs intact.0 inside) intact
       | inr ended ↦ subst (λ s. IsUndone old (state g.S.Store s)) (sym (c.execute.ensures.ended ended).1) (undone_none old) intact
     ])
+
+pub returns-clause-was_open : goal.returns-clause-was_open
+returns-clause-was_open g c clean =
+    elim (cases_Bool c.args.tx.now.conn.now.in_transaction) [
+      | inl inside ↦ (c.in_ok-execute.ensures.runs clean inside).1.was_open
+      | inr ended ↦ let e = (c.in_ok-execute.ensures.ended ended).0 in absurd (cc)
+    ]
