@@ -6,6 +6,7 @@ ghost use Rattle.office_state.specs.Office.Invariants.{IsLawful};
 ghost use Rattle.office_state.specs.declared.office.Office.{Office as Books};
 ghost use Rattle.office_schema.specs.rows.Tables.{rows_at};
 ghost use Rattle.office_schema.specs.cells.WellFormed.{IsWellFormed};
+ghost use Rattle.office_schema.specs.tables.Crashes.{LeavesOldOr};
 ghost use Rattle.office_schema.specs.tables.Layouts.{schema_of, version_of};
 ghost use Rattle.office_schema.specs.tables.Steps.{Follows, IsIntact};
 ghost use Rattle.office_schema.specs.tables.Tables.{HoldsOffice, HoldsOfficeIn};
@@ -17,6 +18,7 @@ ghost use Rattle.office_migration.specs.Causes.{HasCause, HoldsEarlier, HoldsLay
 ghost use Rattle.office_migration.specs.Causes.{AreRowsAsStated, MayReturn, StatesVersion, HoldsEarlierFirst};
 ghost use Rattle.office_db.specs.loading.FirstTables.{BeginsOffice, begins_office};
 ghost use Rattle.office_migration.specs.Names.{uses_missing_name, takes_name};
+ghost use Rattle.office_migration.specs.Renewed.{HoldsMigratedOffice};
 ghost use Rattle.office_migration.specs.Versions.{IsEarlier, IsEarlierLayout, IsNotEarlier, IsOfVersion};
 ghost use Rattle.sqlite_catalog.specs.Change.{is_used};
 
@@ -97,6 +99,8 @@ pub fn migrate<S: Alter>(alloc: Global, conn: &mut Connection<S>) -> Result<Offi
         × HoldsOffice (state S.Store conn.new).now office) }
     ensures undone { OnErr result (IsIntact (state S.Store conn.new)
         → (state S.Store conn.new).now ≡ (state S.Store conn.old).now) }
+    ensures crash { LeavesOldOr (HoldsMigratedOffice (state S.Store conn.old).now)
+        (state S.Store conn.old) (state S.Store conn.new) }
     ensures cause { IfErr result (λ fault. HasCleanDisk (state S.Store conn.new)
         → AreDeclared (state S.Store conn.old).now.schema
         → HasCause (state S.Store conn.old).now fault) }

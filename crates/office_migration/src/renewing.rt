@@ -8,11 +8,14 @@ ghost use Rattle.office_state.specs.declared.office.Office.{Office as Books};
 ghost use Rattle.office_schema.specs.rows.Tables.{Tables, own_version, rows_at};
 ghost use Rattle.office_schema.specs.cells.WellFormed.{IsWellFormed};
 ghost use Rattle.office_db.specs.loading.Numbers.{IsLaidOut};
+ghost use Rattle.office_schema.specs.tables.Crashes.{LeavesOldOr};
 ghost use Rattle.office_schema.specs.tables.Edits.{with_version};
 ghost use Rattle.office_schema.specs.tables.Layouts.{version_of};
 ghost use Rattle.office_schema.specs.tables.Refilling.{Migrates};
 ghost use Rattle.office_schema.specs.tables.Steps.{Follows, IsIntact};
 ghost use Rattle.office_schema.specs.tables.Tables.{HasTables, HasTablesIn, HoldsOffice, HoldsOfficeIn};
+ghost use Rattle.office_migration.specs.Inner.Renewed.{HoldsRecords, HoldsSameTables};
+ghost use Rattle.office_migration.specs.Renewed.{HoldsSameOffice};
 ghost use Rattle.office_migration.specs.Versions.{IsOfVersion};
 
 use crate::versions::is_of_version;
@@ -58,6 +61,8 @@ pub fn renewed_office<S: Alter>(
         → (state S.Store conn.new).now ≡ (state S.Store conn.old).now) }
     ensures undone { OnErr result (IsIntact (state S.Store conn.new)
         → (state S.Store conn.new).now ≡ (state S.Store conn.old).now) }
+    ensures crash { LeavesOldOr (HoldsSameOffice layout (state S.Store conn.old).now)
+        (state S.Store conn.old) (state S.Store conn.new) }
 {
     let Some(office) = held(alloc, conn, layout)? else {
         return Ok(None);
@@ -85,6 +90,8 @@ fn renew_read<S: Alter>(
         → HasTables (state S.Store conn.new).now (with_version own_version tables)) }
     ensures undone { OnErr result (IsIntact (state S.Store conn.new)
         → (state S.Store conn.new).now ≡ (state S.Store conn.old).now) }
+    ensures crash { LeavesOldOr (HoldsSameTables layout (state S.Store conn.old).now)
+        (state S.Store conn.old) (state S.Store conn.new) }
 {
     let Some(records) = read_records(alloc, conn, layout)? else {
         return Err(Error::SqliteFailure(ErrorCode::DatabaseCorrupt));
@@ -109,6 +116,8 @@ fn renew<S: Alter>(
         → IsTrue (state S.Store conn.new).is_open) }
     ensures undone { OnErr result (IsIntact (state S.Store conn.new)
         → (state S.Store conn.new).now ≡ (state S.Store conn.old).now) }
+    ensures crash { LeavesOldOr (HoldsRecords layout records.now (state S.Store conn.old).now)
+        (state S.Store conn.old) (state S.Store conn.new) }
 {
     // The proof needs these two lines: outside a transaction, an open connection shows what is committed.
     let outside = conn.is_autocommit();

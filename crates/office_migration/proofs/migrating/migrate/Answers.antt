@@ -1,18 +1,23 @@
-use Rattle.std.proofs.Common.{◌≡◌, true, false, true≢false, pos, IsSome, sym, ap, ap₂, ◌∙◌, subst, inl, inr}
+use Rattle.std.proofs.Common.{◌≡◌, true, false, true≢false, pos, IsSome, Some, sym, ap, ap₂, ◌∙◌, subst, inl, inr}
 use Rattle.std.specs.Option.{is_some}
 use Rattle.std.proofs.lemmas.Result.{err_from_is_err_and}
 use Rattle.sqlite.specs.Effect.{Database}
 use Rattle.sqlite.specs.Held.{state}
+use Rattle.sqlite.specs.State.{State}
+use Rattle.office_schema.specs.declared.tables.layouts.Layout.{Layout}
+use Rattle.office_schema.specs.tables.Crashes.{LeavesOldOr}
 use Rattle.office_schema.specs.cells.WellFormed.{IsWellFormed}
 use Rattle.office_schema.specs.rows.Tables.{rows_at}
 use Rattle.office_schema.specs.tables.Layouts.{schema_of, version_of}
 use Rattle.office_schema.specs.tables.Tables.{HoldsOfficeIn}
+use Rattle.office_schema.proofs.statements.Crashes.{old_or_weaker}
 use Rattle.office_schema.proofs.statements.Steps.{intact_before}
 use Rattle.office_db.specs.loading.Finding.{AreDeclared, AreWhole, HoldsVersion, names_round}
 use Rattle.office_db.specs.loading.FirstTables.{BeginsOffice, begins_office}
 use Rattle.office_db.specs.loading.Layout.{layout_in}
 use Rattle.office_db.specs.loading.Numbers.{IsLaidOut}
 use Rattle.office_db.proofs.found_offices.Finding.{same_layout}
+use Rattle.office_db.proofs.found_offices.Following.{committed_after_reading}
 use Rattle.office_db.proofs.found_offices.Versions.{none_some, own_round}
 use Rattle.office_db.proofs.found_offices.Versions.{layout_states_version, same_some}
 use Rattle.office_db.proofs.loaded.VersionMeanings.{same_begins_office}
@@ -21,6 +26,7 @@ use Rattle.office_migration.specs.Causes.{AreEarlierRows, AreNoEarlierRows, Begi
 use Rattle.office_migration.specs.First.{first_layout}
 use Rattle.office_migration.specs.declared.migrating.MigrateFault.TheVariants.{AlreadyThere}
 use Rattle.office_migration.specs.Names.{uses_missing_name, takes_name}
+use Rattle.office_migration.specs.Renewed.{HoldsMigratedOffice, HoldsSameOffice}
 use Rattle.office_migration.specs.Versions.{IsOfVersion}
 use Rattle.office_migration.proofs.earlier.Causes.{none_in_layout, none_of_other, only_unavailable}
 use Rattle.office_migration.proofs.earlier.Causes.{may_return, name_allowed, name_cause}
@@ -370,3 +376,39 @@ returns-in-Ok-None-clause-returned g c clean first_tables =
     ∙ sym c.takes_name.ensures ∙ c.if-takes_name.false) in
     read_as_none start.now first_tables c.in_ok-version.version c.in_ok-version.ensures.earlier
     (c.in_ok-version.ensures.held at_one.0 first_tables) (inr (ap is_some laid, free))
+
+-- ---- after a crash
+
+-- The office of an earlier version that the tables hold is in the layout that was found.
+migrated_once : (layout : Layout) (old new : State) → layout_in old.now.schema ≡ Some layout
+    → LeavesOldOr (HoldsSameOffice layout old.now) old new → LeavesOldOr (HoldsMigratedOffice old.now) old new
+migrated_once layout old new laid = old_or_weaker (HoldsSameOffice layout old.now) (HoldsMigratedOffice old.now) old new (λ clean after h other office it.
+    let here = subst (λ l. HoldsEarlier l old.now office) (sym (same_layout other layout old.now it.rows.schema laid)) it in
+    h office here.lawful here.well_formed here.kind here.rows)
+
+pub returns-in-Ok-Some-clause-crash : goal.returns-in-Ok-Some-clause-crash
+returns-in-Ok-Some-clause-crash g c =
+    let start = state g.S.Store c.args.conn.now in
+    let one = state g.S.Store c.earlier_version.new.conn in
+    let two = state g.S.Store c.renewed_office.new.conn in
+    let laid = ap layout_in (sym c.schema-3.ensures.value) ∙ sym c.of-declared.ensures.layout ∙ c.in-Some.is in
+    migrated_once c.in-Some.layout start two laid
+    (committed_after_reading (HoldsSameOffice c.in-Some.layout) start one two c.earlier_version.ensures.reads c.in_ok-version.ensures.is_open c.renewed_office.ensures.follows.clean c.renewed_office.ensures.crash)
+
+pub returns-in-Ok-None-clause-crash : goal.returns-in-Ok-None-clause-crash
+returns-in-Ok-None-clause-crash g c =
+    let start = state g.S.Store c.args.conn.now in
+    let one = state g.S.Store c.earlier_version.new.conn in
+    let two = state g.S.Store c.renewed_office.new.conn in
+    let laid = ap layout_in (sym c.schema-3.ensures.value) ∙ sym c.of-declared.ensures.layout ∙ c.in-Some.is in
+    migrated_once c.in-Some.layout start two laid
+    (committed_after_reading (HoldsSameOffice c.in-Some.layout) start one two c.earlier_version.ensures.reads c.in_ok-version.ensures.is_open c.renewed_office.ensures.follows.clean c.renewed_office.ensures.crash)
+
+pub returns-in-Err-clause-crash : goal.returns-in-Err-clause-crash
+returns-in-Err-clause-crash g c =
+    let start = state g.S.Store c.args.conn.now in
+    let one = state g.S.Store c.earlier_version.new.conn in
+    let two = state g.S.Store c.renewed_office.new.conn in
+    let laid = ap layout_in (sym c.schema-3.ensures.value) ∙ sym c.of-declared.ensures.layout ∙ c.in-Some.is in
+    migrated_once c.in-Some.layout start two laid
+    (committed_after_reading (HoldsSameOffice c.in-Some.layout) start one two c.earlier_version.ensures.reads c.in_ok-version.ensures.is_open c.renewed_office.ensures.follows.clean c.renewed_office.ensures.crash)

@@ -5,8 +5,11 @@ use Rattle.office_schema.specs.rows.Tables.{rows_at}
 use Rattle.office_schema.specs.tables.Edits.{with_version}
 use Rattle.office_schema.specs.tables.Layouts.{version_of}
 use Rattle.office_schema.proofs.statements.Steps.{intact_before}
-use Rattle.office_db.proofs.found_offices.Following.{still_has}
+use Rattle.office_schema.proofs.statements.Crashes.{old_or_weaker}
+use Rattle.office_db.proofs.found_offices.Following.{committed_after_reading, still_has}
 use Rattle.office_db.proofs.found_offices.Versions.{same_some}
+use Rattle.office_migration.specs.Inner.Renewed.{HoldsSameTables}
+use Rattle.office_migration.specs.Renewed.{HoldsSameOffice}
 use Rattle.office_migration.specs.Versions.{IsOfVersion}
 use Rattle.office_migration.proofs.renewing.renewed_office.Goals as goal
 
@@ -53,3 +56,25 @@ returns-then-not-is_of_version-clause-found g c clean office lawful well_formed 
     let here = subst (λ (o : Office). IsOfVersion (version_of layout) o) (sym is) kind in
     let passes = c.is_of_version.ensures.1 (subst (λ v. IsOfVersion v c.in-Some.office) (sym c.version.ensures) here) in
     absurd (true≢false (sym passes ∙ c.if-not-is_of_version.true))
+
+pub returns-in_err-renew_read-clause-crash : goal.returns-in_err-renew_read-clause-crash
+unfolding rows_at with_version
+returns-in_err-renew_read-clause-crash g c =
+    let layout = c.args.layout in
+    let start = state g.S.Store c.args.conn.now in
+    let one = state g.S.Store c.held.new.conn in
+    let two = state g.S.Store c.renew_read.new.conn in
+    old_or_weaker (HoldsSameTables layout start.now) (HoldsSameOffice layout start.now) start two
+    (λ clean after h office lawful well_formed kind holds. h (rows_at (version_of layout) office) holds well_formed)
+    (committed_after_reading (HoldsSameTables layout) start one two c.held.ensures.reads c.in_ok-office.ensures.is_open c.renew_read.ensures.follows.clean c.renew_read.ensures.crash)
+
+pub returns-clause-crash : goal.returns-clause-crash
+unfolding rows_at with_version
+returns-clause-crash g c =
+    let layout = c.args.layout in
+    let start = state g.S.Store c.args.conn.now in
+    let one = state g.S.Store c.held.new.conn in
+    let two = state g.S.Store c.renew_read.new.conn in
+    old_or_weaker (HoldsSameTables layout start.now) (HoldsSameOffice layout start.now) start two
+    (λ clean after h office lawful well_formed kind holds. h (rows_at (version_of layout) office) holds well_formed)
+    (committed_after_reading (HoldsSameTables layout) start one two c.held.ensures.reads c.in_ok-office.ensures.is_open c.renew_read.ensures.follows.clean c.renew_read.ensures.crash)
