@@ -1,5 +1,6 @@
 //! Reads the tables of an office: the records of each table, and the lawful office that has these records.
 
+pub mod declared;
 pub mod finding;
 pub mod first_tables;
 pub mod holding;

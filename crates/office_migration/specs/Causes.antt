@@ -1,5 +1,5 @@
 -- The causes for which a migration fails.
-use Rattle.std.specs.Prelude.{◌≡◌, ◌⊎◌, ℕ, ℤ, pos, false, Some, IsSome, IsTrue, take, ⊤}
+use Rattle.std.specs.Prelude.{◌≡◌, ◌⊎◌, ℕ, ℤ, pos, false, IsTrue, take, ⊤}
 use Rattle.sqlite_schema.specs.declared.schema.Schema.{Schema}
 use Rattle.sqlite.specs.Effect.{Database}
 use Rattle.office_state.specs.Office.Invariants.{IsLawful}
@@ -9,10 +9,8 @@ use Rattle.office_schema.specs.cells.WellFormed.{IsWellFormed}
 use Rattle.office_schema.specs.tables.Layouts.{schema_of, table_count, version_of}
 use Rattle.office_schema.specs.tables.Tables.{AreHeldIn, HoldsOfficeIn}
 use Rattle.office_schema.specs.declared.tables.layouts.Layout.{Layout}
-use Rattle.office_db.specs.loading.Finding.{AreWhole, HoldsVersion, names_round}
-use Rattle.office_db.specs.loading.FirstTables.{Begins, BeginsOffice, begins_office}
-use Rattle.office_db.specs.loading.Layout.{layout_in}
-use Rattle.office_migration.specs.First.{first_layout}
+use Rattle.office_db.specs.loading.Finding.{AreWhole, DeclaresTables, HoldsVersion, names_round}
+use Rattle.office_db.specs.loading.FirstTables.{Begins, BeginsOffice}
 use Rattle.office_migration.specs.Names.{uses_missing_name}
 use Rattle.office_migration.specs.Versions.{IsEarlier, IsNotEarlier, IsOfVersion}
 use Rattle.office_migration.specs.declared.migrating.MigrateFault.{MigrateFault}
@@ -49,13 +47,10 @@ IsLaid version schema =
     ((layout : Layout) × (schema ≡ schema_of layout))
     × (uses_missing_name version schema ≡ false)
 
--- A test of the names and trees of tables, which does not compare columns. Either the schema begins with the tables
--- of a layout of this version. Or it is that of some layout, and nothing has the name of a table that this version
--- lacks.
-abbrev pub HasKnownNames : ℕ → Schema → Type 0
-HasKnownNames version schema =
-    IsSome (first_layout version schema)
-    ⊎ (IsSome (layout_in schema) × (uses_missing_name version schema ≡ false))
+-- A table of this version is absent or declared in another way.
+abbrev pub LacksTable : ℕ → Schema → Type 0
+LacksTable version schema =
+    (layout : Layout) × (version_of layout ≡ version) × ¬ DeclaresTables layout schema
 
 -- If the schema begins with the tables of a layout of this version, and no row lacks a cell (`AreWhole`), the tables
 -- hold the rows of an office of this version.
@@ -73,11 +68,10 @@ abbrev pub AreNoEarlierRows : ℕ → Database → Type 0
 AreNoEarlierRows version db =
     (layout : Layout) → version_of layout ≡ version → (office : Office) → ¬ HoldsEarlierFirst layout db office
 
--- If the schema begins with the first three tables of an office (`BeginsOffice`) and has a layout (`layout_in`), the
--- row of table `round` holds the version of that layout.
+-- If the schema is that of a layout, the row of table `round` holds the version of that layout.
 abbrev pub HoldsLayoutVersion : Database → Type 0
 HoldsLayoutVersion db =
-    BeginsOffice db.schema → (layout : Layout) → layout_in db.schema ≡ Some layout → HoldsVersion db (pos (version_of layout))
+    (layout : Layout) → db.schema ≡ schema_of layout → HoldsVersion db (pos (version_of layout))
 
 -- The schema begins with the first three tables of an office, and the row of table `round` holds this version.
 abbrev pub StatesVersion : Database → ℤ → Type 0
@@ -85,15 +79,16 @@ StatesVersion db version = BeginsOffice db.schema × HoldsVersion db version
 
 -- The database holds no office of an earlier version. It begins with the first three tables of an office
 -- (`first_tables`). If the row of table `round` holds a version, that is 1 or 2 (`version`). The schema then begins
--- with the tables of a layout of that version, or it is exactly that of some layout and nothing has the name of a
--- table that the version lacks (`known`). So tables in an unknown order satisfy this record only if table `round`
--- holds no version (`HoldsVersion`); otherwise they may hold an office. In no layout of an earlier version do the
--- first tables hold the rows of an office of that version (`none`).
+-- with the tables of a layout of that version; or it is exactly that of some layout, and nothing has the name of a
+-- table that the version lacks; or a table of that version is absent or declared in another way (`known`). So tables in
+-- an unknown order satisfy this record only if table `round` holds no version (`HoldsVersion`); otherwise they may hold
+-- an office. In no layout of an earlier version do the first tables hold the rows of an office of that version
+-- (`none`).
 pub record HoldsNoEarlier (db : Database) : Type 0 where
   pub first_tables : BeginsOffice db.schema
   pub version : (version : ℤ) → IsNotEarlier version → ¬ HoldsVersion db version
   pub known : (version : ℕ) → IsEarlier version → HoldsVersion db (pos version)
-      → BeginsAt version db.schema ⊎ IsLaid version db.schema
+      → BeginsAt version db.schema ⊎ IsLaid version db.schema ⊎ LacksTable version db.schema
   pub none : (layout : Layout) (office : Office) → ¬ HoldsEarlierFirst layout db office
 
 -- The row of table `round` holds an earlier version, something has the name of a table that this version lacks, and
@@ -112,28 +107,13 @@ HasCause db (OtherVersion version) = StatesVersion db version × IsNotEarlier ve
 HasCause db NotAnOffice = (names_round db.schema ≡ false) ⊎ HoldsNoEarlier db
 HasCause db AlreadyThere = HasNameTaken db
 
--- If the row of table `round` holds a version, it is an earlier one, and `HasKnownNames` holds for it.
-pub record IsReadAsNone (db : Database) : Type 0 where
-  pub version : (version : ℤ) → IsNotEarlier version → ¬ HoldsVersion db version
-  pub known : (version : ℕ) → IsEarlier version → HoldsVersion db (pos version)
-      → HasKnownNames version db.schema
-
--- The cause that a database must have for a migration to return this fault, if the schema begins with the first three
--- tables of an office. The cause is required however the tables after them are declared. `Unavailable` needs no
--- cause.
-abbrev pub MayReturn : Database → MigrateFault → Type 0
-MayReturn db Unavailable = ⊤
-MayReturn db (OtherVersion version) = HoldsVersion db version × IsNotEarlier version
-MayReturn db NotAnOffice = IsReadAsNone db
-MayReturn db AlreadyThere = HasNameTaken db
-
 -- The condition on the schema under which a migration may return this fault, whatever the disk does.
 abbrev pub IsAllowed : Schema → MigrateFault → Type 0
 IsAllowed schema Unavailable = ⊤
-IsAllowed schema (OtherVersion version) = IsTrue (begins_office schema) × IsNotEarlier version
-IsAllowed schema NotAnOffice = (names_round schema ≡ false) ⊎ IsTrue (begins_office schema)
+IsAllowed schema (OtherVersion version) = BeginsOffice schema × IsNotEarlier version
+IsAllowed schema NotAnOffice = (names_round schema ≡ false) ⊎ BeginsOffice schema
 IsAllowed schema AlreadyThere =
-    IsTrue (begins_office schema) × IsTrue (uses_missing_name 1 schema)
+    BeginsOffice schema × IsTrue (uses_missing_name 1 schema)
 
 -- The fault is `Unavailable`, `NotAnOffice`, or `OtherVersion` with a version other than 1 and 2.
 abbrev pub IsVersionFault : MigrateFault → Type 0

@@ -1,5 +1,4 @@
 pub mod Causes
-pub mod First
 pub mod Inner
 pub mod Names
 pub mod Renewed

@@ -1,8 +1,9 @@
 -- What an office of an earlier version may hold.
-use Rattle.std.specs.Prelude.{◌≡◌, ◌≢◌, ◌<◌, ◌⊎◌, ℕ, ℤ, pos, Bool, true, false, IsSome, Option, Some, None}
+use Rattle.std.specs.Prelude.{◌≡◌, ◌≢◌, ◌<◌, ◌⊎◌, ℕ, ℤ, pos, Bool, true, false, IsSome, Some}
 use Rattle.std.specs.List.{list_all}
 use Rattle.std.specs.Option.{is_some}
 use Rattle.std.specs.FinMap as map
+use Rattle.sqlite_schema.specs.declared.schema.Schema.{Schema}
 use Rattle.room_types.specs.Texts.{Text}
 use Rattle.room_types.specs.declared.kinds.ListKind.TheVariants.{Rooms, People, Choices, Grades}
 use Rattle.office_state.specs.Office.Moves.{moves_of}
@@ -10,7 +11,7 @@ use Rattle.office_state.specs.declared.office.stored_import.StoredImport.{Stored
 use Rattle.office_state.specs.declared.office.moves.Moved.{Moved}
 use Rattle.office_state.specs.declared.office.moves.RoundMoves.{RoundMoves}
 use Rattle.office_state.specs.declared.office.Office.{Office}
-use Rattle.office_schema.specs.tables.Layouts.{version_of}
+use Rattle.office_schema.specs.tables.Layouts.{schema_of, version_of}
 use Rattle.office_schema.specs.declared.tables.layouts.Layout.{Layout}
 
 -- Nobody has a grade, and no imported list is a list of grades.
@@ -35,10 +36,9 @@ IsOfVersion version office =
 abbrev pub IsEarlier : ℕ → Type 0
 IsEarlier version = (version ≡ 1) ⊎ (version ≡ 2)
 
--- There is a layout, and its version is 1 or 2.
-abbrev pub IsEarlierLayout : Option Layout → Type 0
-IsEarlierLayout None = ⊥
-IsEarlierLayout (Some layout) = IsEarlier (version_of layout)
+-- The schema is that of a layout of version 1 or 2.
+abbrev pub HasEarlierLayout : Schema → Type 0
+HasEarlierLayout schema = (layout : Layout) × (schema ≡ schema_of layout) × IsEarlier (version_of layout)
 
 -- The number is neither 1 nor 2.
 abbrev pub IsNotEarlier : ℤ → Type 0

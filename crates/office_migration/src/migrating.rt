@@ -1,5 +1,5 @@
 //! Migrates the tables of an office of an earlier version to the version of this program.
-ghost use Rattle.std.specs.Prelude.{◌≡◌, ◌⊎◌, false, pos, codes, Some, Err, IfErr, IfOk, IfSome, IsErrAnd, IsTrue, MatchResult, OnErr, OnOk};
+ghost use Rattle.std.specs.Prelude.{◌≡◌, ◌⊎◌, ◌≢◌, ◌<◌, ◌≤◌, false, pos, codes, None as nothing, Err, Decides, IfErr, IfOk, IfSome, IsErrAnd, IsTrue, MatchResult, OnErr, OnOk};
 ghost use Rattle.sqlite.specs.Held.{state};
 ghost use Rattle.sqlite.specs.State.{HasCleanDisk};
 ghost use Rattle.office_state.specs.Office.Invariants.{IsLawful};
@@ -11,21 +11,20 @@ ghost use Rattle.office_schema.specs.tables.Layouts.{schema_of, version_of};
 ghost use Rattle.office_schema.specs.tables.Steps.{Follows, IsIntact};
 ghost use Rattle.office_schema.specs.tables.Tables.{HoldsOffice, HoldsOfficeIn};
 ghost use Rattle.office_schema.specs.declared.tables.layouts.Layout.{Layout as AnyLayout};
-ghost use Rattle.office_db.specs.loading.Finding.{AreDeclared, AreWhole, HoldsVersion, names_round};
-ghost use Rattle.office_db.specs.loading.Layout.{layout_in};
+ghost use Rattle.office_db.specs.loading.Finding.{AreWhole, DeclaresTables, HoldsVersion, names_round};
 ghost use Rattle.office_db.specs.loading.Reading.{OnlyReads};
 ghost use Rattle.office_migration.specs.Causes.{HasCause, HoldsEarlier, HoldsLayoutVersion, IsAllowed, IsVersionFault};
-ghost use Rattle.office_migration.specs.Causes.{AreRowsAsStated, MayReturn, StatesVersion, HoldsEarlierFirst};
-ghost use Rattle.office_db.specs.loading.FirstTables.{BeginsOffice, begins_office};
+ghost use Rattle.office_migration.specs.Causes.{AreRowsAsStated, StatesVersion, HoldsEarlierFirst};
+ghost use Rattle.office_db.specs.loading.FirstTables.{BeginsOffice};
 ghost use Rattle.office_migration.specs.Names.{uses_missing_name, takes_name};
 ghost use Rattle.office_migration.specs.Renewed.{HoldsMigratedOffice};
-ghost use Rattle.office_migration.specs.Versions.{IsEarlier, IsEarlierLayout, IsNotEarlier, IsOfVersion};
+ghost use Rattle.office_migration.specs.Versions.{HasEarlierLayout, IsEarlier, IsNotEarlier, IsOfVersion};
 ghost use Rattle.sqlite_catalog.specs.Change.{is_used};
 
 use crate::renewing::renewed_office;
 use crate::taken::refused_for_name;
 use office_db::loading::first_tables::begins_office;
-use office_db::loading::layout::{layout_in, names_round};
+use office_db::loading::layout::{declares_tables, layout_in, names_round};
 use office_db::loading::versions::version_held;
 use office_schema::tables::layouts::Layout;
 use office_state::Office;
@@ -42,8 +41,9 @@ pub enum MigrateFault {
     Unavailable,
     /// The row of table `round` holds this version, which is neither 1 nor 2.
     OtherVersion(i64),
-    /// Nothing has the name of table `round`, or the first tables of the schema do not hold the rows of an office of
-    /// version 1 or 2.
+    /// Nothing has the name of table `round`; or a table of the version in table `round` is absent or declared in
+    /// another way than an office's; or the first tables of the schema do not hold the rows of an office of version 1 or
+    /// 2.
     NotAnOffice,
     /// Something has the name of a table that the version in table `round` lacks, so the migration cannot create that
     /// table. If the migration finds that the rows are wrong too, it returns `NotAnOffice` instead.
@@ -53,20 +53,20 @@ pub enum MigrateFault {
 /// Migrates the tables of an office of version 1 or 2 to the version of this program, in one transaction. Returns the
 /// office that the tables hold. The office has no leavers, and it has no grades if its version was 1.
 ///
-/// The call compares the names of tables, but not their columns. It presupposes that each table with the name of one
-/// of an office's ten tables also has the declaration of that table.
+/// The call compares the whole declaration of each table.
 ///
 /// # Errors
 ///
 /// The fault is the first of these that applies:
 ///
 /// - `NotAnOffice` if nothing has the name of table `round`.
-/// - `Unavailable` if there is a view, or if the first three tables are not `room`, `person` and `round`, each in the
-///   tree where an office keeps it. Triggers, and tables that the engine does not understand, count as views. In this
-///   case and in the first one, no statement has run.
+/// - `Unavailable` if there is a view, or if the first three tables are not `room`, `person` and `round` as an office
+///   declares them, each in the tree where an office keeps it. Triggers, and tables that the engine does not understand,
+///   count as views. In this case and in the first one, no statement has run.
 /// - `NotAnOffice` if table `round` does not have exactly one row.
 /// - `Unavailable` if the version in this row is not an integer.
 /// - `OtherVersion` if the version in this row is neither 1 nor 2.
+/// - `NotAnOffice` if a table of the version in this row is absent or declared in another way than an office's.
 /// - `NotAnOffice` or `AlreadyThere` if something has the name of a table that the version in this row lacks. Version
 ///   1 lacks `grade` and `going`, and version 2 lacks `going`. The fault is `NotAnOffice` if the schema begins with
 ///   the tables of a layout of that version, but these tables do not hold the rows of an office of that version.
@@ -86,12 +86,11 @@ pub fn migrate<S: Alter>(alloc: Global, conn: &mut Connection<S>) -> Result<Offi
     ensures is_open { OnOk result (HasCleanDisk (state S.Store conn.new)
         → IsTrue (state S.Store conn.new).is_open) }
     ensures lawful { IfOk result IsLawful }
-    ensures laid { OnOk result (IsEarlierLayout (layout_in (state S.Store conn.old).now.schema)) }
+    ensures laid { OnOk result (HasEarlierLayout (state S.Store conn.old).now.schema) }
     ensures stated { OnOk result (HasCleanDisk (state S.Store conn.new)
         → HoldsLayoutVersion (state S.Store conn.old).now) }
     ensures migrated { IfOk result (λ office. HasCleanDisk (state S.Store conn.new)
-        → AreDeclared (state S.Store conn.old).now.schema → (layout : AnyLayout)
-        → layout_in (state S.Store conn.old).now.schema ≡ Some layout
+        → (layout : AnyLayout) → (state S.Store conn.old).now.schema ≡ schema_of layout
         → AreWhole layout (state S.Store conn.old).now.trees
         → IsOfVersion (version_of layout) office
         × HoldsOfficeIn layout (state S.Store conn.old).now office
@@ -102,15 +101,11 @@ pub fn migrate<S: Alter>(alloc: Global, conn: &mut Connection<S>) -> Result<Offi
     ensures crash { LeavesOldOr (HoldsMigratedOffice (state S.Store conn.old).now)
         (state S.Store conn.old) (state S.Store conn.new) }
     ensures cause { IfErr result (λ fault. HasCleanDisk (state S.Store conn.new)
-        → AreDeclared (state S.Store conn.old).now.schema
         → HasCause (state S.Store conn.old).now fault) }
-    ensures returned { IfErr result (λ fault. HasCleanDisk (state S.Store conn.new)
-        → BeginsOffice (state S.Store conn.old).now.schema
-        → MayReturn (state S.Store conn.old).now fault) }
     ensures allowed { IfErr result (IsAllowed (state S.Store conn.old).now.schema) }
     ensures absent { names_round (state S.Store conn.old).now.schema ≡ false
         → (result ≡ Err MigrateFault.NotAnOffice) × (conn.new ≡ conn.old) }
-    ensures unread { begins_office (state S.Store conn.old).now.schema ≡ false → conn.new ≡ conn.old }
+    ensures unread { ¬ BeginsOffice (state S.Store conn.old).now.schema → conn.new ≡ conn.old }
     ensures accepts { HasCleanDisk (state S.Store conn.new) → (layout : AnyLayout) → (office : Books)
         → HoldsEarlier layout (state S.Store conn.old).now office
         → MatchResult result
@@ -136,6 +131,9 @@ pub fn migrate<S: Alter>(alloc: Global, conn: &mut Connection<S>) -> Result<Offi
     }
     let declared = Declared::of(conn.schema());
     let version = earlier_version(conn)?;
+    if !declared.has_tables(version) {
+        return Err(MigrateFault::NotAnOffice);
+    }
     if declared.takes_name(version) {
         return Err(refused_for_name(alloc, conn, version));
     }
@@ -159,6 +157,10 @@ struct Declared {
     grade: bool,
     // Whether something has the name of the table of leavers.
     going: bool,
+    // Whether each table of version 1 is declared.
+    first: bool,
+    // Whether each table of version 2 is declared.
+    second: bool,
     layout: Option<Layout>,
 }
 
@@ -166,15 +168,26 @@ impl Declared {
     fn of(schema: &Schema) -> Declared
         ensures grade { result.grade ≡ is_used schema.now (codes "grade") }
         ensures going { result.going ≡ is_used schema.now (codes "going") }
-        ensures layout { result.layout ≡ layout_in schema.now }
-        ensures whole { IfSome result.layout (λ layout. AreDeclared schema.now
-            → schema.now ≡ schema_of layout) }
+        ensures first { Decides result.first (DeclaresTables AnyLayout.DocumentedFirst schema.now) }
+        ensures second { Decides result.second (DeclaresTables AnyLayout.DocumentedSecond schema.now) }
+        ensures laid { IfSome result.layout (λ layout. schema.now ≡ schema_of layout) }
+        ensures unknown { result.layout ≡ nothing → (layout : AnyLayout) → schema.now ≢ schema_of layout }
     {
         Declared {
             grade: is_used(schema, b"grade"),
             going: is_used(schema, b"going"),
+            first: declares_tables(schema, Layout::DocumentedFirst),
+            second: declares_tables(schema, Layout::DocumentedSecond),
             layout: layout_in(schema),
         }
+    }
+
+    // Returns whether each table of this version is declared.
+    fn has_tables(&self, version: u16) -> bool
+        ensures first { version < 2 → result ≡ self.now.first }
+        ensures second { 2 ≤ version → result ≡ self.now.second }
+    {
+        if version < 2 { self.first } else { self.second }
     }
 
     // Returns whether something has the name of a table that this version lacks.

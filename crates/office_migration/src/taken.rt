@@ -1,16 +1,14 @@
 //! Decides how a migration fails if something has the name of a table that the earlier version lacks.
-ghost use Rattle.std.specs.Prelude.{◌≡◌, ◌⊎◌, false, IsSome};
+ghost use Rattle.std.specs.Prelude.{◌≡◌, ◌⊎◌, false, None as nothing};
 ghost use Rattle.std.specs.Option.{IfSome};
 ghost use Rattle.sqlite.specs.Held.{state};
 ghost use Rattle.sqlite.specs.State.{HasCleanDisk};
 ghost use Rattle.office_state.specs.declared.office.Office.{Office as Books};
 ghost use Rattle.office_schema.specs.tables.Layouts.{version_of};
 ghost use Rattle.office_schema.specs.declared.tables.layouts.Layout.{Layout as AnyLayout};
-ghost use Rattle.office_db.specs.loading.Finding.{AreDeclared};
 ghost use Rattle.office_db.specs.loading.FirstTables.{Begins};
 ghost use Rattle.office_db.specs.loading.Reading.{OnlyReads};
 ghost use Rattle.office_migration.specs.Causes.{AreEarlierRows, AreNoEarlierRows, BeginsAt, IsNameFault, HoldsEarlierFirst};
-ghost use Rattle.office_migration.specs.First.{first_layout};
 ghost use Rattle.office_migration.specs.Versions.{IsEarlier};
 
 use crate::migrating::MigrateFault;
@@ -41,10 +39,8 @@ pub fn refused_for_name<S: Alter>(
     ensures kind { IsNameFault result }
     ensures none { result ≡ MigrateFault.NotAnOffice → HasCleanDisk (state S.Store conn.new)
         → AreNoEarlierRows version (state S.Store conn.old).now }
-    ensures known { result ≡ MigrateFault.NotAnOffice → AreDeclared (state S.Store conn.old).now.schema
+    ensures known { result ≡ MigrateFault.NotAnOffice
         → BeginsAt version (state S.Store conn.old).now.schema }
-    ensures named { result ≡ MigrateFault.NotAnOffice
-        → IsSome (first_layout version (state S.Store conn.old).now.schema) }
     ensures rows { result ≡ MigrateFault.AlreadyThere → HasCleanDisk (state S.Store conn.new)
         → AreEarlierRows version (state S.Store conn.old).now }
     ensures returned { HasCleanDisk (state S.Store conn.new) → (layout : AnyLayout) → (office : Books)
@@ -70,9 +66,10 @@ pub fn refused_for_name<S: Alter>(
 // Returns the layout of this version whose tables the schema begins with, if there is one.
 fn first_layout(schema: &Schema, version: u16) -> Option<Layout>
     requires { IsEarlier version }
-    ensures tested { result ≡ first_layout version schema.now }
-    ensures whole { IfSome result (λ layout. AreDeclared schema.now → Begins layout schema.now) }
+    ensures begun { IfSome result (λ layout. Begins layout schema.now) }
     ensures version { IfSome result (λ layout. version_of layout ≡ version) }
+    ensures other { result ≡ nothing → (layout : AnyLayout) → version_of layout ≡ version
+        → ¬ Begins layout schema.now }
 {
     if version < 2 {
         if begins_with(schema, Layout::DocumentedFirst) {

@@ -1,7 +1,8 @@
 -- Lists that are tested element by element.
-use Rattle.std.proofs.Common.{◌≡◌, ◌≢◌, ◌<◌, ◌+◌, ℕ, suc, Bool, true, false, ◌&&◌, List, [], ◌∷◌, length, drop, map, get_or, refl, sym, ap, ap₂, ◌∙◌, arith}
-use Rattle.std.proofs.lemmas.List.{drop_more, get_or-map, length-map}
-use Rattle.office_db.specs.loading.Layout.{pass_all}
+use Rattle.std.proofs.Common.{◌≡◌, ◌≢◌, ◌<◌, ◌≤◌, ◌+◌, ℕ, suc, Bool, true, false, ◌&&◌, List, [], ◌∷◌, length, drop, map, get_or, refl, sym, ap, ap₂, ◌∙◌, subst, arith}
+use Rattle.std.specs.List.{AllByRecursion}
+use Rattle.std.proofs.lemmas.List.{drop_all, drop_more, get_or-map, length-map}
+use Rattle.office_db.specs.loading.Inner.Lists.{pass_all}
 
 module _ {X Y : Type 0} (test : Y → X → Bool) where
   -- Lists of different lengths do not pass.
@@ -53,3 +54,46 @@ module _ {X Y O : Type 0} (f : O → Y) (test : Y → X → Bool) (owns : List O
     passes_at passes left =
         sym (ap (λ b. b && pass_all test (drop (i + 1) (map f owns)) (drop (i + 1) xs)) passes)
         ∙ sym from_place ∙ left
+
+-- Each element is compared with the value of its counterpart. `left` says that the lists are equal if their rests are.
+module _ {X O : Type 0} (f : O → X) (owns : List O) (xs : List X) where
+  -- Lists of different lengths are not equal.
+  pub uneven_differ : length xs ≢ length owns → xs ≡ map f owns → ⊥
+  uneven_differ uneven p = uneven (ap length p ∙ length-map owns f)
+
+  module _ (i : ℕ) (d : O) (x : X) (even : length xs ≡ length owns) (low : i < length owns) (here : x ≡ get_or xs i x) where
+    -- This element differs.
+    pub differ_at : (x ≡ f (get_or owns i d) → ⊥) → xs ≡ map f owns → ⊥
+    differ_at differs p = differs (here ∙ ap (λ l. get_or l i x) p ∙ get_or-map f owns i d x low)
+
+    -- This element is equal.
+    pub agree_at : x ≡ f (get_or owns i d) → (drop i xs ≡ drop i (map f owns) → xs ≡ map f owns)
+        → drop (i + 1) xs ≡ drop (i + 1) (map f owns) → xs ≡ map f owns
+    agree_at same left rest =
+        left (drop_more xs i x (omega (arith, low, even)) ∙ ap (λ y. y ∷ drop (i + 1) xs) (sym here ∙ same)
+        ∙ ap (λ ys. f (get_or owns i d) ∷ ys) rest
+        ∙ sym (drop_more (map f owns) i (f (get_or owns i d)) (omega (arith, low, length-map owns f))
+        ∙ ap (λ y. y ∷ drop (i + 1) (map f owns)) (get_or-map f owns i d (f (get_or owns i d)) low)))
+
+  -- All elements were compared.
+  pub agree_all : (i : ℕ) → length xs ≡ length owns → length owns ≤ i → (drop i xs ≡ drop i (map f owns) → xs ≡ map f owns)
+      → xs ≡ map f owns
+  agree_all i even past left =
+      left (drop_all i xs (omega (arith, even, past))
+      ∙ sym (drop_all i (map f owns) (omega (arith, past, length-map owns f))))
+
+-- Each element is tested.
+module _ {X : Type 0} (P : X → Type 0) (xs : List X) (i : ℕ) (d : X) (low : i < length xs) where
+  -- P holds of this element.
+  pub all_more : P (get_or xs i d) → (AllByRecursion P (drop i xs) → AllByRecursion P xs) → AllByRecursion P (drop (i + 1) xs)
+      → AllByRecursion P xs
+  all_more here left rest = left (subst (AllByRecursion P) (sym (drop_more xs i d low)) (here, rest))
+
+  -- If P holds of all, it holds of this element and of the others after it.
+  pub all_here : (AllByRecursion P xs → AllByRecursion P (drop i xs)) → AllByRecursion P xs
+      → P (get_or xs i d) × AllByRecursion P (drop (i + 1) xs)
+  all_here whole h = subst (AllByRecursion P) (drop_more xs i d low) (whole h)
+
+pub all_tested : {X : Type 0} (P : X → Type 0) (xs : List X) (i : ℕ) → length xs ≤ i → (AllByRecursion P (drop i xs) → AllByRecursion P xs)
+    → AllByRecursion P xs
+all_tested P xs i past left = left (subst (AllByRecursion P) (sym (drop_all i xs past)) tt)

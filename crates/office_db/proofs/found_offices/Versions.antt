@@ -17,7 +17,6 @@ use Rattle.office_schema.specs.tables.Tables.{HoldsOfficeIn}
 use Rattle.office_schema.specs.declared.tables.layouts.Layout.{Layout}
 use Rattle.office_schema.specs.declared.tables.layouts.Layout.TheVariants.{Own, Documented, DocumentedSecond, DocumentedFirst, EarlierFirst}
 use Rattle.office_db.specs.loading.Finding.{HoldsVersion, names_round}
-use Rattle.office_db.specs.loading.Layout.{layout_in}
 
 module _ (db : Database) where
   one_round : (r : RoundRecord) (entries : List (ℤ × RoundRecord)) → IsPermutation (r ∷ []) (map (λ (e : ℤ × RoundRecord). e.1) entries) → db.trees 6 ≡ map (stored round_columns) entries → HoldsVersion db (pos r.version)
@@ -47,15 +46,6 @@ own_round Documented = refl
 own_round DocumentedSecond = refl
 own_round DocumentedFirst = refl
 own_round EarlierFirst = refl
-
--- `layout_in` finds each layout in its own schema.
-pub own_layout : (layout : Layout) → layout_in (schema_of layout) ≡ Some layout
-unfolding same_name
-own_layout Own = refl
-own_layout Documented = refl
-own_layout DocumentedSecond = refl
-own_layout DocumentedFirst = refl
-own_layout EarlierFirst = refl
 
 pub same_some : {T : Type 0} (a b : T) → Some a ≡ Some b → a ≡ b
 same_some a b e = ap (λ o. unwrap_or o a) e

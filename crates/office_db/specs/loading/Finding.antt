@@ -1,18 +1,17 @@
 -- Conditions under which `find` finds an office in a database.
-use Rattle.std.specs.Prelude.{◌≡◌, ◌≢◌, ℤ, pos, Bool, [], ◌∷◌, codes, IsTrue}
+use Rattle.std.specs.Prelude.{◌≡◌, ◌≢◌, ℕ, ℤ, pos, Bool, [], ◌∷◌, codes, take, Contains}
 use Rattle.std.specs.List.{AllByRecursion}
 use Rattle.sqlite_value.specs.Order.{Row, column}
 use Rattle.sqlite_value.specs.declared.value.Value.TheVariants.{Int}
 use Rattle.sqlite_trees.specs.Tree.{Trees}
 use Rattle.sqlite_schema.specs.declared.schema.Schema.{Schema}
 use Rattle.sqlite_schema.specs.declared.schema.Table.{Table}
-use Rattle.sqlite_schema.specs.Names.{same_name}
 use Rattle.sqlite_catalog.specs.Change.{is_used}
 use Rattle.sqlite.specs.Effect.{Database}
 use Rattle.office_schema.specs.rows.Tables.{own_version}
 use Rattle.office_db.specs.loading.Numbers.{IsWhole}
-use Rattle.office_schema.specs.tables.Layouts.{trees_of}
-use Rattle.office_schema.specs.tables.Schema.{office_schema}
+use Rattle.office_schema.specs.tables.Layouts.{table_count, trees_of}
+use Rattle.office_schema.specs.tables.Schema.{documented_schema}
 use Rattle.office_schema.specs.declared.tables.layouts.Layout.{Layout}
 
 -- A table, an index or a view has the name of table `round`. A table that the engine does not understand counts as a
@@ -20,14 +19,15 @@ use Rattle.office_schema.specs.declared.tables.layouts.Layout.{Layout}
 abbrev pub names_round : Schema → Bool
 names_round schema = is_used schema (codes "round")
 
--- If `table` has the name of `own`, it also has the declaration of `own`. The trees of the two may differ.
-abbrev pub IsDeclaredAs : Table → Table → Type 0
-IsDeclaredAs own table = IsTrue (same_name table.name own.name) → table ≡ record own { tree = table.tree }
+-- Some table of the schema has this declaration, in whatever tree.
+abbrev pub Declares : Schema → Table → Type 0
+Declares schema own = (tree : ℕ) × Contains schema.tables (record own { tree = tree })
 
--- Each table with the name of one of the office's ten tables also has its declaration.
-abbrev pub AreDeclared : Schema → Type 0
-AreDeclared schema =
-    AllByRecursion (λ own. AllByRecursion (IsDeclaredAs own) schema.tables) office_schema.tables
+-- Each table of the layout is declared, in whatever tree and order. Other tables may be there, too. Of the ten tables in
+-- the order of `docs/formats.md`, version 1 has the first eight, and version 2 the first nine.
+abbrev pub DeclaresTables : Layout → Schema → Type 0
+DeclaresTables layout schema =
+    AllByRecursion (Declares schema) (take (table_count layout) documented_schema.tables)
 
 -- No row of tables `result` and `move` lacks a cell. Their last columns may be NULL; in the other tables, where the
 -- last column is never NULL, no row can lack a cell.

@@ -1,5 +1,5 @@
 //! Finds the office in a database that the caller hands in.
-ghost use Rattle.std.specs.Prelude.{◌≡◌, ◌⊎◌, false, Some, Err, IfErr, IfOk, IsErrAnd, IsTrue, MatchResult, OnOk};
+ghost use Rattle.std.specs.Prelude.{◌≡◌, ◌⊎◌, false, Err, IfErr, IfOk, IsErrAnd, IsTrue, MatchResult, OnOk};
 ghost use Rattle.sqlite.specs.Held.{state};
 ghost use Rattle.sqlite.specs.State.{HasCleanDisk};
 ghost use Rattle.office_state.specs.Office.Invariants.{IsLawful};
@@ -12,15 +12,14 @@ ghost use Rattle.office_schema.specs.tables.Layouts.{schema_of, version_of};
 ghost use Rattle.office_schema.specs.tables.Steps.{Follows, IsIntact};
 ghost use Rattle.office_schema.specs.tables.Tables.{HoldsOfficeIn};
 ghost use Rattle.office_schema.specs.declared.tables.layouts.Layout.{Layout as AnyLayout};
-ghost use Rattle.office_db.specs.loading.Causes.{HasCause, HasCauseIn, IsAllowed, IsNotOwn, version_fault};
-ghost use Rattle.office_db.specs.loading.Finding.{AreDeclared, AreWhole, HoldsOtherVersion, names_round};
-ghost use Rattle.office_db.specs.loading.FirstTables.{BeginsOffice, begins_office};
-ghost use Rattle.office_db.specs.loading.Layout.{layout_in};
+ghost use Rattle.office_db.specs.loading.Causes.{HasCause, HasCauseIn, IsAllowed, IsNotOwn, layout_fault};
+ghost use Rattle.office_db.specs.loading.Finding.{AreWhole, HoldsOtherVersion, names_round};
+ghost use Rattle.office_db.specs.loading.FirstTables.{BeginsOffice};
 ghost use Rattle.office_db.specs.loading.Reading.{OnlyReads};
 
 use crate::loading::first_tables::begins_office;
 use crate::loading::holding::held;
-use crate::loading::layout::{layout_in, names_round};
+use crate::loading::layout::{declares_tables, layout_in, names_round};
 use crate::loading::versions::other_version;
 use office_schema::tables::layouts::Layout;
 use office_state::Office;
@@ -30,17 +29,14 @@ use std::alloc::Global;
 /// Why no office was found.
 #[derive(Clone, Copy, Debug, PartialEq, Eq)]
 pub enum FindFault {
-    /// The database failed, memory ran out, the rowids of a table do not ascend, or the schema is in no known layout.
-    /// For a schema in no known layout there are two exceptions: `find` returns `NotAnOffice` if nothing has the name
-    /// of table `round`, and `OtherVersion` if it reads a version other than this program's from that table.
-    ///
-    /// A schema is in a known layout if it has exactly the tables of an office, of this or an earlier version, in a
-    /// known order. A missing table, a table that the engine does not understand, another order of creation, or any
-    /// other declaration puts a schema in no known layout.
+    /// The database failed, memory ran out, the rowids of a table do not ascend, or the tables are those of an office in
+    /// no known layout: they were created in an unknown order, or something else is declared next to them. If there is
+    /// a view, or if table `round` is not the third table or is declared in another way than an office's, it is
+    /// `Unavailable` too, since the version is then unknown.
     Unavailable,
-    /// Nothing has the name of table `round`, or the schema is in a known layout but the tables do not hold the rows
-    /// of a lawful office of this program's version. This includes the tables of an earlier version, unless the row
-    /// of table `round` holds a version other than this program's.
+    /// Nothing has the name of table `round`; or a table of an office is absent or declared in another way; or the
+    /// tables do not hold the rows of a lawful office of this program's version. This includes the tables of an earlier
+    /// version, unless the row of table `round` holds a version other than this program's.
     NotAnOffice,
     /// The row of table `round` holds the version in this fault, which is not the version of this program. Any tables
     /// may follow the first three.
@@ -55,9 +51,8 @@ pub struct Found {
     pub layout: Layout,
 }
 
-/// Finds the lawful office whose rows the tables hold, and the layout of the tables. Presupposes that each table with
-/// the name of one of the office's ten tables has the same declaration as that table of an office. Changes no table.
-/// On `Ok` the connection is open.
+/// Finds the lawful office whose rows the tables hold, and the layout of the tables. Compares the whole declaration of
+/// each table. Changes no table. On `Ok` the connection is open.
 ///
 /// # Errors
 ///
@@ -65,14 +60,14 @@ pub struct Found {
 ///
 /// - `OtherVersion` only if the row of table `round` holds the version in the fault, and this is not the version of
 ///   this program. Any tables may follow the first three.
-/// - `NotAnOffice` only if the schema is in a known layout but the tables do not hold the rows of a lawful office. In
-///   this case the row of table `round` holds no version other than this program's.
+/// - `NotAnOffice` only if the row of table `round` holds no version other than this program's. Either the schema is in
+///   a known layout, but the tables do not hold the rows of a lawful office; or a table is absent or declared in another
+///   way than an office's.
 /// - `Unavailable` if the database fails, if memory runs out, or if the rowids of a table do not ascend. `find` also
-///   returns it if the schema is in no known layout, unless `find` reads a version other than this program's from
-///   table `round`.
+///   returns it if all tables of an office are there, but in no known layout, and if the first three tables are not
+///   `room`, `person` and `round` as an office declares them, each in the tree that all layouts give it.
 ///
-/// `find` runs no statement if there is a view. It runs none either if the first three tables are not `room`,
-/// `person` and `round`, each in the tree that all layouts give it.
+/// `find` runs no statement if there is a view. It runs none either if the first three tables are not an office's.
 pub fn find<S: Alter>(alloc: Global, conn: &mut Connection<S>) -> Result<Found, FindFault>
     requires { conn.old.in_transaction ≡ false }
     ensures outside { conn.new.in_transaction ≡ false }
@@ -84,20 +79,18 @@ pub fn find<S: Alter>(alloc: Global, conn: &mut Connection<S>) -> Result<Found, 
         → IsTrue (state S.Store conn.new).is_open) }
     ensures lawful { IfOk result (λ found. IsLawful found.office) }
     ensures held { IfOk result (λ found. HasCleanDisk (state S.Store conn.new)
-        → AreDeclared (state S.Store conn.old).now.schema
         → AreWhole found.layout (state S.Store conn.old).now.trees
         → HoldsOfficeIn found.layout (state S.Store conn.old).now found.office
         × IsWellFormed (rows_of found.office)) }
     ensures laid { IfOk result (λ found.
-        layout_in (state S.Store conn.old).now.schema ≡ Some found.layout) }
+        (state S.Store conn.old).now.schema ≡ schema_of found.layout) }
     ensures own { IfOk result (λ found. version_of found.layout ≡ own_version) }
     ensures cause { IfErr result (λ fault. HasCleanDisk (state S.Store conn.new)
-        → AreDeclared (state S.Store conn.old).now.schema
         → HasCause (state S.Store conn.old).now fault) }
     ensures allowed { IfErr result (IsAllowed (state S.Store conn.old).now.schema) }
     ensures absent { names_round (state S.Store conn.old).now.schema ≡ false
         → (result ≡ Err FindFault.NotAnOffice) × (conn.new ≡ conn.old) }
-    ensures unread { begins_office (state S.Store conn.old).now.schema ≡ false → conn.new ≡ conn.old }
+    ensures unread { ¬ BeginsOffice (state S.Store conn.old).now.schema → conn.new ≡ conn.old }
     ensures found { HasCleanDisk (state S.Store conn.new) → (layout : AnyLayout)
         → version_of layout ≡ own_version → (office : Books) → IsLawful office
         → IsWellFormed (rows_of office) → HoldsOfficeIn layout (state S.Store conn.old).now office
@@ -127,10 +120,9 @@ fn unknown_layout_fault<S: Alter>(conn: &mut Connection<S>) -> FindFault
     ensures outside { conn.new.in_transaction ≡ false }
     ensures reads { OnlyReads (state S.Store conn.old) (state S.Store conn.new) }
     ensures cause { HasCleanDisk (state S.Store conn.new)
-        → AreDeclared (state S.Store conn.old).now.schema
         → HasCause (state S.Store conn.old).now result }
     ensures allowed { IsAllowed (state S.Store conn.old).now.schema result }
-    ensures unread { begins_office (state S.Store conn.old).now.schema ≡ false → conn.new ≡ conn.old }
+    ensures unread { ¬ BeginsOffice (state S.Store conn.old).now.schema → conn.new ≡ conn.old }
     ensures other { HasCleanDisk (state S.Store conn.new) → (version : _)
         → BeginsOffice (state S.Store conn.old).now.schema
         → HoldsOtherVersion (state S.Store conn.old).now version
@@ -139,19 +131,22 @@ fn unknown_layout_fault<S: Alter>(conn: &mut Connection<S>) -> FindFault
     if !begins_office(conn.schema()) {
         return FindFault::Unavailable;
     }
+    let all_there = declares_tables(conn.schema(), Layout::Own);
     match other_version(conn) {
-        Ok(found) => version_fault(found),
+        Ok(found) => layout_fault(all_there, found),
         Err(_) => FindFault::Unavailable,
     }
 }
 
-// Returns `OtherVersion` if another version was found, and `Unavailable` if none was found.
-fn version_fault(found: Option<i64>) -> FindFault
-    ensures { result ≡ version_fault found }
+// Returns `OtherVersion` if another version was found. If not, returns `Unavailable` if all tables are there, and
+// `NotAnOffice` if one is absent or declared in another way.
+fn layout_fault(all_there: bool, found: Option<i64>) -> FindFault
+    ensures { result ≡ layout_fault all_there found }
 {
     match found {
         Some(version) => FindFault::OtherVersion(version),
-        None => FindFault::Unavailable,
+        None if all_there => FindFault::Unavailable,
+        None => FindFault::NotAnOffice,
     }
 }
 

@@ -1,10 +1,14 @@
 //! Determines which layout the tables of a database have.
-ghost use Rattle.std.specs.Prelude.{◌≡◌, IfSome, map};
-ghost use Rattle.office_db.specs.loading.Finding.{AreDeclared, names_round};
-ghost use Rattle.office_db.specs.loading.Layout.{has_indexes, has_tables, is_this_index, is_this_table, is_laid_out};
-ghost use Rattle.office_db.specs.loading.Layout.{layout_in, pass_all, unique_index};
+ghost use Rattle.std.specs.Prelude.{◌≡◌, ◌≢◌, None as nothing, Decides, IfSome, map};
+ghost use Rattle.std.specs.List.{AllByRecursion};
+ghost use Rattle.office_db.specs.loading.Finding.{DeclaresTables, names_round};
+ghost use Rattle.office_db.specs.loading.Inner.Declared.{IsAmong, office_table};
+ghost use Rattle.office_db.specs.loading.Inner.Indexes.{has_indexes, is_this_index, unique_index};
+ghost use Rattle.office_db.specs.loading.Inner.Lists.{pass_all};
 ghost use Rattle.office_schema.specs.tables.Layouts.{schema_of};
+ghost use Rattle.office_schema.specs.declared.tables.layouts.Layout.{Layout as AnyLayout};
 
+use crate::loading::declared::{OfficeTable, is_declared};
 use office_schema::tables::layouts::Layout;
 use sqlite_catalog::layout::is_used;
 use sqlite_schema::schema::{Index, Schema, Table};
@@ -17,15 +21,12 @@ pub fn names_round(schema: &Schema) -> bool
     is_used(schema, b"round")
 }
 
-/// Returns the known layout that the schema has, or `None` if there is none. A schema has a layout if three
-/// conditions hold: the tables have the names and trees of the layout's tables, in the same order; the indexes are
-/// those of the layout; and there are no views.
-///
-/// The columns of tables are not compared. But if each table with the name of an office's table also has its
-/// declaration, the schema is exactly that of the layout.
+/// Returns the known layout whose schema this is, or `None` if there is none. The schema has exactly the tables of the
+/// layout, with their declarations, in the same order and in the same trees. It has their indexes, and no others. It has
+/// no views.
 pub fn layout_in(schema: &Schema) -> Option<Layout>
-    ensures tested { result ≡ layout_in schema.now }
-    ensures whole { IfSome result (λ layout. AreDeclared schema.now → schema.now ≡ schema_of layout) }
+    ensures laid { IfSome result (λ layout. schema.now ≡ schema_of layout) }
+    ensures unknown { result ≡ nothing → (layout : AnyLayout) → schema.now ≢ schema_of layout }
 {
     if is_laid_out(schema, Layout::Own) {
         return Some(Layout::Own);
@@ -45,115 +46,164 @@ pub fn layout_in(schema: &Schema) -> Option<Layout>
     None
 }
 
-// Returns whether the tables have the names and trees of the layout's tables, the indexes are those of the layout,
-// and there are no views.
+// Returns whether the schema is that of the layout.
 fn is_laid_out(schema: &Schema, layout: Layout) -> bool
-    ensures { result ≡ is_laid_out layout schema.now }
+    ensures { Decides result (schema.now ≡ schema_of layout) }
 {
-    schema.views.as_slice().is_empty()
-        && has_tables(schema.tables.as_slice(), layout)
-        && has_indexes(schema.indexes.as_slice(), layout)
-}
-
-// Returns whether the tables have the names and trees of the layout's tables, in the same order.
-pub(crate) fn has_tables(tables: &[Table], layout: Layout) -> bool
-    ensures { result ≡ has_tables layout tables.now }
-{
-    match layout {
-        Layout::Own => are_these_tables(
-            tables,
-            &[
-                ("room", 0),
-                ("person", 2),
-                ("round", 6),
-                ("move", 7),
-                ("list", 9),
-                ("grade", 11),
-                ("word", 13),
-                ("result", 15),
-                ("choice", 18),
-                ("going", 21),
-            ],
-        ),
-        Layout::Documented => are_these_tables(
-            tables,
-            &[
-                ("room", 0),
-                ("person", 2),
-                ("round", 6),
-                ("choice", 7),
-                ("word", 10),
-                ("result", 12),
-                ("move", 15),
-                ("list", 17),
-                ("grade", 19),
-                ("going", 21),
-            ],
-        ),
-        Layout::DocumentedSecond => are_these_tables(
-            tables,
-            &[
-                ("room", 0),
-                ("person", 2),
-                ("round", 6),
-                ("choice", 7),
-                ("word", 10),
-                ("result", 12),
-                ("move", 15),
-                ("list", 17),
-                ("grade", 19),
-            ],
-        ),
-        Layout::DocumentedFirst => are_these_tables(
-            tables,
-            &[
-                ("room", 0),
-                ("person", 2),
-                ("round", 6),
-                ("choice", 7),
-                ("word", 10),
-                ("result", 12),
-                ("move", 15),
-                ("list", 17),
-            ],
-        ),
-        Layout::EarlierFirst => are_these_tables(
-            tables,
-            &[
-                ("room", 0),
-                ("person", 2),
-                ("round", 6),
-                ("move", 7),
-                ("list", 9),
-                ("word", 11),
-                ("result", 13),
-                ("choice", 16),
-            ],
-        ),
-    }
-}
-
-// Returns whether the tables have the names and trees in `own`, in the same order.
-fn are_these_tables(tables: &[Table], own: &[(&str, u32)]) -> bool
-    ensures { result ≡ pass_all is_this_table (map (λ o. (o.0.now, o.1)) own.now) tables.now }
-{
-    if tables.len() != own.len() {
+    if !schema.views.as_slice().is_empty() {
         return false;
     }
+    if !has_tables(schema.tables.as_slice(), layout) {
+        return false;
+    }
+    has_indexes(schema.indexes.as_slice(), layout)
+}
+
+/// Returns whether each table of the layout is declared, in whatever tree and order. Other tables may be there, too.
+pub fn declares_tables(schema: &Schema, layout: Layout) -> bool
+    ensures { Decides result (DeclaresTables layout schema.now) }
+{
+    let own = [
+        OfficeTable::Rooms,
+        OfficeTable::People,
+        OfficeTable::Rounds,
+        OfficeTable::Choices,
+        OfficeTable::Words,
+        OfficeTable::Results,
+        OfficeTable::Moves,
+        OfficeTable::Lists,
+        OfficeTable::Grades,
+        OfficeTable::Leavers,
+    ];
+    are_declared(schema.tables.as_slice(), &own[..layout.tables()])
+}
+
+// Returns whether each of these tables of an office is among `tables`, in whatever tree.
+fn are_declared(tables: &[Table], own: &[OfficeTable]) -> bool
+    ensures { Decides result (AllByRecursion (λ o. IsAmong tables.now o) own.now) }
+{
     for place in 0..own.len() {
-        let (name, tree) = own[place];
-        if !is_this_table(&tables[place], name, tree) {
+        if !is_among(tables, own[place]) {
             return false;
         }
     }
     true
 }
 
-// Returns whether the table has this name and tree.
-pub(crate) fn is_this_table(table: &Table, name: &str, tree: u32) -> bool
-    ensures { result ≡ is_this_table (name.now, tree) table.now }
+// Returns whether this table of an office is among `tables`, in whatever tree.
+fn is_among(tables: &[Table], own: OfficeTable) -> bool
+    ensures { Decides result (IsAmong tables.now own) }
 {
-    table.is_named(name.as_bytes()) && table.tree == tree
+    for place in 0..tables.len() {
+        if is_declared(&tables[place], own) {
+            return true;
+        }
+    }
+    false
+}
+
+// Returns whether the tables are those of the layout, in the same order.
+pub(crate) fn has_tables(tables: &[Table], layout: Layout) -> bool
+    ensures { Decides result (tables.now ≡ (schema_of layout).tables) }
+{
+    match layout {
+        Layout::Own => are_these_tables(
+            tables,
+            &[
+                (OfficeTable::Rooms, 0),
+                (OfficeTable::People, 2),
+                (OfficeTable::Rounds, 6),
+                (OfficeTable::Moves, 7),
+                (OfficeTable::Lists, 9),
+                (OfficeTable::Grades, 11),
+                (OfficeTable::Words, 13),
+                (OfficeTable::Results, 15),
+                (OfficeTable::Choices, 18),
+                (OfficeTable::Leavers, 21),
+            ],
+        ),
+        Layout::Documented => are_these_tables(
+            tables,
+            &[
+                (OfficeTable::Rooms, 0),
+                (OfficeTable::People, 2),
+                (OfficeTable::Rounds, 6),
+                (OfficeTable::Choices, 7),
+                (OfficeTable::Words, 10),
+                (OfficeTable::Results, 12),
+                (OfficeTable::Moves, 15),
+                (OfficeTable::Lists, 17),
+                (OfficeTable::Grades, 19),
+                (OfficeTable::Leavers, 21),
+            ],
+        ),
+        Layout::DocumentedSecond => are_these_tables(
+            tables,
+            &[
+                (OfficeTable::Rooms, 0),
+                (OfficeTable::People, 2),
+                (OfficeTable::Rounds, 6),
+                (OfficeTable::Choices, 7),
+                (OfficeTable::Words, 10),
+                (OfficeTable::Results, 12),
+                (OfficeTable::Moves, 15),
+                (OfficeTable::Lists, 17),
+                (OfficeTable::Grades, 19),
+            ],
+        ),
+        Layout::DocumentedFirst => are_these_tables(
+            tables,
+            &[
+                (OfficeTable::Rooms, 0),
+                (OfficeTable::People, 2),
+                (OfficeTable::Rounds, 6),
+                (OfficeTable::Choices, 7),
+                (OfficeTable::Words, 10),
+                (OfficeTable::Results, 12),
+                (OfficeTable::Moves, 15),
+                (OfficeTable::Lists, 17),
+            ],
+        ),
+        Layout::EarlierFirst => are_these_tables(
+            tables,
+            &[
+                (OfficeTable::Rooms, 0),
+                (OfficeTable::People, 2),
+                (OfficeTable::Rounds, 6),
+                (OfficeTable::Moves, 7),
+                (OfficeTable::Lists, 9),
+                (OfficeTable::Words, 11),
+                (OfficeTable::Results, 13),
+                (OfficeTable::Choices, 16),
+            ],
+        ),
+    }
+}
+
+// Returns whether the tables are those in `own`, each in its tree, in the same order.
+pub(crate) fn are_these_tables(tables: &[Table], own: &[(OfficeTable, u32)]) -> bool
+    ensures { Decides result (tables.now ≡ map (λ o. office_table o.0 o.1) own.now) }
+{
+    if tables.len() != own.len() {
+        return false;
+    }
+    for place in 0..own.len() {
+        let (table, tree) = own[place];
+        if !is_this_table(&tables[place], table, tree) {
+            return false;
+        }
+    }
+    true
+}
+
+// Returns whether this is the table `own` of an office, in this tree.
+fn is_this_table(table: &Table, own: OfficeTable, tree: u32) -> bool
+    ensures { Decides result (table.now ≡ office_table own tree) }
+{
+    if !is_declared(table, own) {
+        return false;
+    }
+    table.tree == tree
 }
 
 // Returns whether the indexes are those that enforce the constraints of the layout's tables.

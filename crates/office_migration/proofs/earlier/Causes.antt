@@ -1,6 +1,5 @@
 -- Databases that hold no office of an earlier version.
-use Rattle.std.proofs.Common.{◌≡◌, ◌⊎◌, ℕ, ℤ, pos, Bool, true, false, IsSome, IsTrue, Some, codes, take, refl, sym, ap, ◌∙◌, subst, true≢false, inl, inr, arith}
-use Rattle.std.specs.Option.{is_some}
+use Rattle.std.proofs.Common.{◌≡◌, ◌⊎◌, ◌<◌, ◌≤◌, Decides, ℕ, ℤ, pos, Bool, true, false, IsTrue, codes, take, refl, sym, ap, ◌∙◌, subst, true≢false, inl, inr, arith}
 use Rattle.sqlite_schema.specs.declared.schema.Schema.{Schema}
 use Rattle.sqlite_schema.specs.Names.{same_name}
 use Rattle.sqlite_catalog.specs.Change.{is_used}
@@ -10,20 +9,17 @@ use Rattle.office_schema.specs.tables.Layouts.{schema_of, table_count, version_o
 use Rattle.office_schema.specs.declared.tables.layouts.Layout.{Layout}
 use Rattle.office_schema.specs.declared.tables.layouts.Layout.TheVariants.{Own, Documented, DocumentedSecond}
 use Rattle.office_schema.specs.declared.tables.layouts.Layout.TheVariants.{DocumentedFirst, EarlierFirst}
-use Rattle.office_db.specs.loading.Finding.{HoldsVersion}
-use Rattle.office_db.proofs.found_offices.Versions.{one_version, own_layout}
+use Rattle.office_db.specs.loading.Finding.{DeclaresTables, HoldsVersion}
+use Rattle.office_db.proofs.found_offices.Versions.{one_version}
 use Rattle.office_db.proofs.found_offices.Versions.{layout_states_version}
-use Rattle.office_db.specs.loading.FirstTables.{BeginsOffice, begins_office}
-use Rattle.office_db.specs.loading.Layout.{layout_in}
-use Rattle.office_migration.specs.Causes.{AreEarlierRows, AreNoEarlierRows, BeginsAt, HasCause, HasKnownNames, HoldsEarlier}
-use Rattle.office_migration.specs.Causes.{HoldsNoEarlier, IsAllowed, IsLaid, IsNameFault, IsVersionFault, IsReadAsNone, MayReturn, HoldsEarlierFirst}
-use Rattle.office_migration.specs.First.{first_layout}
+use Rattle.office_db.specs.loading.FirstTables.{BeginsOffice}
+use Rattle.office_migration.specs.Causes.{AreEarlierRows, AreNoEarlierRows, BeginsAt, HasCause, HoldsEarlier}
+use Rattle.office_migration.specs.Causes.{HoldsNoEarlier, IsAllowed, IsLaid, IsNameFault, IsVersionFault, HoldsEarlierFirst, LacksTable}
 use Rattle.office_migration.specs.Names.{uses_missing_name, takes_name}
 use Rattle.office_migration.specs.Versions.{IsEarlier, IsNotEarlier}
 use Rattle.office_migration.specs.declared.migrating.MigrateFault.{MigrateFault}
 use Rattle.office_migration.specs.declared.migrating.MigrateFault.TheVariants.{Unavailable, OtherVersion, NotAnOffice, AlreadyThere}
-use Rattle.office_migration.proofs.earlier.First.{first_found, first_if_holds, first_is_laid, holds_if_first}
-use Rattle.office_db.proofs.found_offices.LayoutTests.{office_names_round}
+use Rattle.office_migration.proofs.earlier.First.{declares_first, of_version, first_if_holds, first_is_laid, holds_if_first}
 
 -- In a layout of an earlier version, the names of the tables that it lacks are free.
 pub own_names_free : (layout : Layout) → IsEarlier (version_of layout)
@@ -80,6 +76,22 @@ first_states_version layout db office h =
     layout_states_version layout (record { schema = schema_of layout; trees = db.trees }) office
     (record { schema = refl; rows = h.rows })
 
+-- A table of the version is absent or declared in another way, where the test fails.
+pub declared_then : (schema start : Schema) (version : ℕ) (first second all : Bool) → IsEarlier version → schema ≡ start
+    → Decides first (DeclaresTables DocumentedFirst schema) → Decides second (DeclaresTables DocumentedSecond schema)
+    → (version < 2 → all ≡ first) → (2 ≤ version → all ≡ second) → all ≡ false
+    → (layout : Layout) → version_of layout ≡ version → DeclaresTables layout start → ⊥
+declared_then schema start version first second all is same one two low high fails layout of_it declares =
+    let here = of_version version layout schema is of_it (subst (DeclaresTables layout) (sym same) declares) in
+    elim is [
+      | inl e ↦
+          let below : version < 2 = omega (arith, e) in
+          true≢false (sym (one.1 (here.0 below)) ∙ sym (low below) ∙ fails)
+      | inr e ↦
+          let above : 2 ≤ version = omega (arith, e) in
+          true≢false (sym (two.1 (here.1 above)) ∙ sym (high above) ∙ fails)
+    ]
+
 module _ (db : Database) (first_tables : BeginsOffice db.schema) where
   -- where there is not exactly one row in table `round`
   pub none_without_version : ((version : ℤ) → HoldsVersion db version → ⊥) → HoldsNoEarlier db
@@ -100,10 +112,10 @@ module _ (db : Database) (first_tables : BeginsOffice db.schema) where
         (one_version db (pos (version_of layout)) (pos version) (first_states_version layout db office h) holds)
 
     -- where the first tables are not the rows of an office of the version in the row of table `round`
-    pub none_first : BeginsAt version db.schema ⊎ IsLaid version db.schema → AreNoEarlierRows version db → HoldsNoEarlier db
+    pub none_first : BeginsAt version db.schema ⊎ IsLaid version db.schema ⊎ LacksTable version db.schema → AreNoEarlierRows version db → HoldsNoEarlier db
     none_first known none = record {
       first_tables = first_tables;
-      known = λ other earlier h. subst (λ v. BeginsAt v db.schema ⊎ IsLaid v db.schema) (held_one other h) known;
+      known = λ other earlier h. subst (λ v. BeginsAt v db.schema ⊎ IsLaid v db.schema ⊎ LacksTable v db.schema) (held_one other h) known;
       version = λ other none_earlier h. not_no version is_earlier
           (subst IsNotEarlier (one_version db other (pos version) h holds) none_earlier);
       none = λ layout office h. none layout (same_version layout office h) office h;
@@ -124,34 +136,21 @@ module _ (db : Database) (first_tables : BeginsOffice db.schema) where
       rows = rows refl;
     }
 
-    -- why they are refused as no office's, where the names show a layout, whatever follows the first three tables
-    pub read_as_none : HasKnownNames version db.schema → IsReadAsNone db
-    read_as_none known = record {
-      version = λ other none_earlier h. not_no version is_earlier
-          (subst IsNotEarlier (one_version db other (pos version) h holds) none_earlier);
-      known = λ other earlier h. subst (λ v. HasKnownNames v db.schema) (held_one other h) known;
-    }
-
-    -- and so where a name is taken
-    pub name_returned : (fault : MigrateFault) → IsNameFault fault → IsTrue (uses_missing_name version db.schema)
-        → (fault ≡ NotAnOffice → IsSome (first_layout version db.schema))
-        → (fault ≡ AlreadyThere → AreEarlierRows version db) → MayReturn db fault
-    name_returned Unavailable is taken named rows = tt
-    name_returned (OtherVersion other) is taken named rows = absurd is
-    name_returned NotAnOffice is taken named rows = read_as_none (inl (named refl))
-    name_returned AlreadyThere is taken named rows = record {
-      version = version;
-      earlier = is_earlier;
-      states = (first_tables, holds);
-      taken = taken;
-      rows = rows refl;
-    }
+    -- where a table of the version is absent or declared in another way
+    pub none_declared : ((layout : Layout) → version_of layout ≡ version → DeclaresTables layout db.schema → ⊥) → HoldsNoEarlier db
+    none_declared lacks =
+        none_first
+        (inr (inr (elim is_earlier [
+          | inl e ↦ (DocumentedFirst, sym e, lacks DocumentedFirst (sym e))
+          | inr e ↦ (DocumentedSecond, sym e, lacks DocumentedSecond (sym e))
+        ])))
+        (λ layout same office h. lacks layout same (declares_first layout db.schema h.tables))
 
     module _ (layout : Layout) (has : db.schema ≡ schema_of layout)
         (free : uses_missing_name version db.schema ≡ false) where
       -- where the tables of the layout hold no office
       pub none_in_layout : ((office : Office) → HoldsEarlier layout db office → ⊥) → HoldsNoEarlier db
-      none_in_layout none = none_first (inr ((layout, has), free)) (λ other same office h.
+      none_in_layout none = none_first (inr (inl ((layout, has), free))) (λ other same office h.
           let here = subst (λ v. uses_missing_name v (schema_of layout) ≡ false) (sym same)
           (subst (λ (s : Schema). uses_missing_name version s ≡ false) has free) in
           let tables = subst (λ (s : Schema). take (table_count other) s.tables ≡ (schema_of other).tables) has h.tables in
@@ -163,28 +162,9 @@ module _ (db : Database) (first_tables : BeginsOffice db.schema) where
       none_of_other differs = none_in_layout (λ office h.
           differs (same_version layout office (first_if_holds layout db office h)))
 
--- the names of the tables of a layout show it
-known_names : (version : ℕ) (schema : Schema) → IsEarlier version → BeginsAt version schema ⊎ IsLaid version schema
-    → HasKnownNames version schema
-known_names version schema is (inl begins) =
-    let found = first_found begins.0 schema (subst IsEarlier (sym begins.1) is) begins.2 in
-    inl (ap is_some (subst (λ v. first_layout v schema ≡ Some begins.0) begins.1 found))
-known_names version schema is (inr laid) = inr (ap is_some (ap layout_in laid.0.1 ∙ own_layout laid.0.0), laid.1)
-
--- what may be said where each table is declared as an office's may be said whatever follows the first three
-pub may_return : (db : Database) (fault : MigrateFault) → BeginsOffice db.schema → HasCause db fault → MayReturn db fault
-may_return db Unavailable first_tables cause = tt
-may_return db (OtherVersion version) first_tables cause = (cause.0.1, cause.1)
-may_return db NotAnOffice first_tables (inl unnamed) = absurd (true≢false (sym (office_names_round db.schema first_tables) ∙ unnamed))
-may_return db NotAnOffice first_tables (inr h) = record {
-  version = h.version;
-  known = λ version is holds. known_names version db.schema is (h.known version is holds);
-}
-may_return db AlreadyThere first_tables cause = cause
-
 -- whatever the disk does
 pub name_allowed : (schema : Schema) (version : ℕ) (fault : MigrateFault) → IsNameFault fault → IsEarlier version
-    → IsTrue (begins_office schema) → IsTrue (uses_missing_name version schema) → IsAllowed schema fault
+    → BeginsOffice schema → IsTrue (uses_missing_name version schema) → IsAllowed schema fault
 name_allowed schema version Unavailable is earlier first_tables taken = tt
 name_allowed schema version (OtherVersion other) is earlier first_tables taken = absurd is
 name_allowed schema version NotAnOffice is earlier first_tables taken = inr first_tables

@@ -1,7 +1,8 @@
 -- Tables of an earlier version with which a database begins.
-use Rattle.std.proofs.Common.{◌≡◌, ◌⊎◌, ◌++◌, ℕ, nat_le, Bool, true, false, List, take, length, slice_index_or, Option, Some, None, if◌then◌else◌, refl, sym, ap, ◌∙◌, subst, true≢false, inl, inr, arith}
-use Rattle.std.proofs.lemmas.Bool.{and_from, le-leb}
-use Rattle.std.proofs.lemmas.List.{length-append}
+use Rattle.std.proofs.Common.{◌≡◌, ◌++◌, ◌<◌, ◌≤◌, ℕ, nat_lt, true, false, List, [], ◌∷◌, Contains, drop, take, length, slice_index_or, refl, sym, ap, ◌∙◌, subst, true≢false, inl, inr, arith}
+use Rattle.std.specs.List.{AllByRecursion}
+use Rattle.std.proofs.lemmas.Bool.{ltb-true}
+use Rattle.std.proofs.lemmas.List.{get_or_append_left, length-append, take-append-drop}
 use Rattle.sqlite_schema.specs.declared.schema.Index.{Index}
 use Rattle.sqlite_schema.specs.declared.schema.Schema.{Schema}
 use Rattle.sqlite_schema.specs.declared.schema.Table.{Table}
@@ -9,17 +10,15 @@ use Rattle.sqlite_schema.specs.Names.{same_name}
 use Rattle.sqlite.specs.Effect.{Database}
 use Rattle.office_state.specs.declared.office.Office.{Office}
 use Rattle.office_schema.specs.tables.Layouts.{schema_of, table_count, version_of}
-use Rattle.office_schema.specs.tables.Schema.{room}
+use Rattle.office_schema.specs.tables.Schema.{documented_schema, room, person, round, choice, word, result, move, list, grade, going}
 use Rattle.office_schema.specs.declared.tables.layouts.Layout.{Layout}
 use Rattle.office_schema.specs.declared.tables.layouts.Layout.TheVariants.{Own, Documented, DocumentedSecond}
 use Rattle.office_schema.specs.declared.tables.layouts.Layout.TheVariants.{DocumentedFirst, EarlierFirst}
-use Rattle.office_db.specs.loading.FirstTables.{Begins, BeginsOffice, begins_with, followed_by}
-use Rattle.office_db.specs.loading.Layout.{has_tables}
+use Rattle.office_db.specs.loading.Finding.{Declares, DeclaresTables}
+use Rattle.office_db.specs.loading.FirstTables.{Begins, BeginsOffice, followed_by}
 use Rattle.office_db.proofs.found_offices.First.{begins_if_laid}
-use Rattle.office_db.proofs.found_offices.LayoutTests.{tables_pass}
-use Rattle.office_db.proofs.found_offices.Versions.{none_some, same_some}
+use Rattle.office_db.proofs.found_offices.LayoutTests.{begins_tables, one_layout}
 use Rattle.office_migration.specs.Causes.{HoldsEarlier, HoldsEarlierFirst}
-use Rattle.office_migration.specs.First.{first_layout}
 use Rattle.office_migration.specs.Names.{uses_missing_name}
 use Rattle.office_migration.specs.Versions.{IsEarlier}
 
@@ -33,20 +32,6 @@ followed_begins_office EarlierFirst tables indexes = record { tables = refl; vie
 pub layout_begins_office : (layout : Layout) (schema : Schema) → Begins layout schema → BeginsOffice schema
 layout_begins_office layout schema begins =
     subst BeginsOffice (sym begins.is) (followed_begins_office layout begins.tables begins.indexes)
-
-tables_followed : (layout : Layout) (tables : List Table) (indexes : List Index)
-    → take (table_count layout) (followed_by layout tables indexes).tables ≡ (schema_of layout).tables
-tables_followed Own tables indexes = refl
-tables_followed Documented tables indexes = refl
-tables_followed DocumentedSecond tables indexes = refl
-tables_followed DocumentedFirst tables indexes = refl
-tables_followed EarlierFirst tables indexes = refl
-
-pub begins_tables : (layout : Layout) (schema : Schema) → Begins layout schema
-    → take (table_count layout) schema.tables ≡ (schema_of layout).tables
-begins_tables layout schema begins =
-    subst (λ (s : Schema). take (table_count layout) s.tables ≡ (schema_of layout).tables) (sym begins.is)
-    (tables_followed layout begins.tables begins.indexes)
 
 -- A database that holds exactly the tables of the layout begins with them.
 pub first_if_holds : (layout : Layout) (db : Database) (office : Office) → HoldsEarlier layout db office
@@ -74,115 +59,6 @@ holds_if_first layout db office has h = record {
   rows = record { schema = has; rows = h.rows };
 }
 
-enough : {A : Type 0} (xs ys : List A) → nat_le (length xs) (length (xs ++ ys)) ≡ true
-enough xs ys = le-leb (length xs) (length (xs ++ ys)) (omega (arith, length-append xs ys))
-
-if_true : {A : Type 0} (b : Bool) (x y : A) → b ≡ true → (if b then x else y) ≡ x
-if_true true x y e = refl
-if_true false x y e = absurd (true≢false (sym e))
-
-if_not_true : {A : Type 0} (b : Bool) (x y : A) → (b ≡ true → ⊥) → (if b then x else y) ≡ y
-if_not_true true x y differs = absurd (differs refl)
-if_not_true false x y differs = refl
-
--- Whatever follows the tables of the layout, they pass the test.
-begins_followed : (layout : Layout) → IsEarlier (version_of layout) → (tables : List Table) (indexes : List Index)
-    → begins_with layout (followed_by layout tables indexes) ≡ true
-unfolding same_name
-begins_followed Own (inl e) tables indexes = absurd (omega (arith, e))
-begins_followed Own (inr e) tables indexes = absurd (omega (arith, e))
-begins_followed Documented (inl e) tables indexes = absurd (omega (arith, e))
-begins_followed Documented (inr e) tables indexes = absurd (omega (arith, e))
-begins_followed DocumentedSecond e tables indexes =
-    let own = schema_of DocumentedSecond in
-    and_from _ _ (and_from _ _ refl (and_from _ _ (enough own.tables tables) refl))
-    (and_from _ _ (enough own.indexes indexes) refl)
-begins_followed DocumentedFirst e tables indexes =
-    let own = schema_of DocumentedFirst in
-    and_from _ _ (and_from _ _ refl (and_from _ _ (enough own.tables tables) refl))
-    (and_from _ _ (enough own.indexes indexes) refl)
-begins_followed EarlierFirst e tables indexes =
-    let own = schema_of EarlierFirst in
-    and_from _ _ (and_from _ _ refl (and_from _ _ (enough own.tables tables) refl))
-    (and_from _ _ (enough own.indexes indexes) refl)
-
--- The tables of version 1 as the program made them are not in the documented order.
-not_documented : (tables : List Table) (indexes : List Index)
-    → begins_with DocumentedFirst (followed_by EarlierFirst tables indexes) ≡ true → ⊥
-unfolding same_name
-not_documented tables indexes begins =
-    true≢false (sym (tables_pass DocumentedFirst (followed_by EarlierFirst tables indexes) begins))
-
-found_followed : (layout : Layout) → IsEarlier (version_of layout) → (tables : List Table) (indexes : List Index)
-    → first_layout (version_of layout) (followed_by layout tables indexes) ≡ Some layout
-found_followed Own (inl e) tables indexes = absurd (omega (arith, e))
-found_followed Own (inr e) tables indexes = absurd (omega (arith, e))
-found_followed Documented (inl e) tables indexes = absurd (omega (arith, e))
-found_followed Documented (inr e) tables indexes = absurd (omega (arith, e))
-found_followed DocumentedSecond e tables indexes =
-    if_true _ (Some DocumentedSecond) None (begins_followed DocumentedSecond e tables indexes)
-found_followed DocumentedFirst e tables indexes =
-    if_true _ (Some DocumentedFirst) _ (begins_followed DocumentedFirst e tables indexes)
-found_followed EarlierFirst e tables indexes =
-    if_not_true _ (Some DocumentedFirst) _ (not_documented tables indexes)
-    ∙ if_true _ (Some EarlierFirst) None (begins_followed EarlierFirst e tables indexes)
-
--- The layout with whose tables the schema begins is found.
-pub first_found : (layout : Layout) (schema : Schema) → IsEarlier (version_of layout) → Begins layout schema
-    → first_layout (version_of layout) schema ≡ Some layout
-first_found layout schema is begins =
-    subst (λ (s : Schema). first_layout (version_of layout) s ≡ Some layout) (sym begins.is)
-    (found_followed layout is begins.tables begins.indexes)
-
-picked : (b : Bool) (layout found : Layout) (rest : Option Layout)
-    → (if b then Some layout else rest) ≡ Some found → ((b ≡ true) × (layout ≡ found)) ⊎ (rest ≡ Some found)
-picked true layout found rest e = inl (refl, same_some layout found e)
-picked false layout found rest e = inr e
-
--- The layout that is found passes its test, and is of the version.
-pub found_begins : (version : ℕ) (schema : Schema) (found : Layout) → IsEarlier version
-    → first_layout version schema ≡ Some found → (begins_with found schema ≡ true) × (version_of found ≡ version)
-found_begins version schema found (inl e) is =
-    elim (picked (begins_with DocumentedFirst schema) DocumentedFirst found _
-    (subst (λ v. first_layout v schema ≡ Some found) e is)) [
-      | inl p ↦ (subst (λ l. begins_with l schema ≡ true) p.1 p.0, ap version_of (sym p.1) ∙ sym e)
-      | inr rest ↦
-          elim (picked (begins_with EarlierFirst schema) EarlierFirst found None rest) [
-            | inl p ↦ (subst (λ l. begins_with l schema ≡ true) p.1 p.0, ap version_of (sym p.1) ∙ sym e)
-            | inr none ↦ absurd (none_some found none)
-          ]
-    ]
-found_begins version schema found (inr e) is =
-    elim (picked (begins_with DocumentedSecond schema) DocumentedSecond found None
-    (subst (λ v. first_layout v schema ≡ Some found) e is)) [
-      | inl p ↦ (subst (λ l. begins_with l schema ≡ true) p.1 p.0, ap version_of (sym p.1) ∙ sym e)
-      | inr none ↦ absurd (none_some found none)
-    ]
-
--- Two layouts of the same earlier version whose tables pass the same test are equal.
-one_test : (layout found : Layout) → IsEarlier (version_of found) → version_of layout ≡ version_of found
-    → has_tables found (take (table_count found) (schema_of layout).tables) ≡ true → found ≡ layout
-unfolding same_name
-one_test layout Own (inl e) same pass = absurd (omega (arith, e))
-one_test layout Own (inr e) same pass = absurd (omega (arith, e))
-one_test layout Documented (inl e) same pass = absurd (omega (arith, e))
-one_test layout Documented (inr e) same pass = absurd (omega (arith, e))
-one_test Own DocumentedSecond e same pass = absurd (omega (arith, same))
-one_test Documented DocumentedSecond e same pass = absurd (omega (arith, same))
-one_test DocumentedSecond DocumentedSecond e same pass = refl
-one_test DocumentedFirst DocumentedSecond e same pass = absurd (omega (arith, same))
-one_test EarlierFirst DocumentedSecond e same pass = absurd (omega (arith, same))
-one_test Own DocumentedFirst e same pass = absurd (omega (arith, same))
-one_test Documented DocumentedFirst e same pass = absurd (omega (arith, same))
-one_test DocumentedSecond DocumentedFirst e same pass = absurd (omega (arith, same))
-one_test DocumentedFirst DocumentedFirst e same pass = refl
-one_test EarlierFirst DocumentedFirst e same pass = absurd (true≢false (sym pass))
-one_test Own EarlierFirst e same pass = absurd (omega (arith, same))
-one_test Documented EarlierFirst e same pass = absurd (omega (arith, same))
-one_test DocumentedSecond EarlierFirst e same pass = absurd (omega (arith, same))
-one_test DocumentedFirst EarlierFirst e same pass = absurd (true≢false (sym pass))
-one_test EarlierFirst EarlierFirst e same pass = refl
-
 same_count : (layout found : Layout) → IsEarlier (version_of found) → version_of layout ≡ version_of found
     → table_count found ≡ table_count layout
 same_count layout Own (inl e) same = absurd (omega (arith, e))
@@ -205,24 +81,90 @@ same_count DocumentedSecond EarlierFirst e same = absurd (omega (arith, same))
 same_count DocumentedFirst EarlierFirst e same = refl
 same_count EarlierFirst EarlierFirst e same = refl
 
-take_own : (layout : Layout) → take (table_count layout) (schema_of layout).tables ≡ (schema_of layout).tables
-take_own Own = refl
-take_own Documented = refl
-take_own DocumentedSecond = refl
-take_own DocumentedFirst = refl
-take_own EarlierFirst = refl
-
--- The layout that is found is the one with whose tables the schema begins.
-pub found_is_first : (layout found : Layout) (schema : Schema) → IsEarlier (version_of found)
-    → version_of layout ≡ version_of found → begins_with found schema ≡ true
+-- A layout of the same earlier version with whose tables the schema begins is this one.
+pub one_first : (layout found : Layout) (schema : Schema) → IsEarlier (version_of found)
+    → version_of layout ≡ version_of found → Begins found schema
     → take (table_count layout) schema.tables ≡ (schema_of layout).tables → found ≡ layout
-found_is_first layout found schema is same begins tables =
-    let count = same_count layout found is same in
-    let here : take (table_count found) schema.tables ≡ take (table_count found) (schema_of layout).tables =
-    ap (λ n. take n schema.tables) count ∙ tables ∙ sym (take_own layout)
-    ∙ ap (λ n. take n (schema_of layout).tables) (sym count) in
-    one_test layout found is same
-    (subst (λ ts. has_tables found ts ≡ true) here (tables_pass found schema begins))
+one_first layout found schema is same begins tables =
+    one_layout found layout
+    (sym (begins_tables found schema begins) ∙ ap (λ n. take n schema.tables) (same_count layout found is same) ∙ tables)
+
+-- ---- tables that are declared
+
+there : (tables : List Table) (k : ℕ) (table : Table) → nat_lt k (length tables) ≡ true → slice_index_or tables k table ≡ table
+    → Contains tables table
+there tables k table below is = (k, ltb-true k (length tables) below, is)
+
+own_declares : (layout : Layout) → DeclaresTables layout (schema_of layout)
+own_declares Own =
+    let at = there (schema_of Own).tables in
+    ((0, at 0 (room 0) refl refl), ((2, at 1 (person 2) refl refl), ((6, at 2 (round 6) refl refl),
+    ((18, at 8 (choice 18) refl refl), ((13, at 6 (word 13) refl refl), ((15, at 7 (result 15) refl refl),
+    ((7, at 3 (move 7) refl refl), ((9, at 4 (list 9) refl refl), ((11, at 5 (grade 11) refl refl),
+    ((21, at 9 (going 21) refl refl), tt))))))))))
+own_declares Documented =
+    let at = there (schema_of Documented).tables in
+    ((0, at 0 (room 0) refl refl), ((2, at 1 (person 2) refl refl), ((6, at 2 (round 6) refl refl),
+    ((7, at 3 (choice 7) refl refl), ((10, at 4 (word 10) refl refl), ((12, at 5 (result 12) refl refl),
+    ((15, at 6 (move 15) refl refl), ((17, at 7 (list 17) refl refl), ((19, at 8 (grade 19) refl refl),
+    ((21, at 9 (going 21) refl refl), tt))))))))))
+own_declares DocumentedSecond =
+    let at = there (schema_of DocumentedSecond).tables in
+    ((0, at 0 (room 0) refl refl), ((2, at 1 (person 2) refl refl), ((6, at 2 (round 6) refl refl),
+    ((7, at 3 (choice 7) refl refl), ((10, at 4 (word 10) refl refl), ((12, at 5 (result 12) refl refl),
+    ((15, at 6 (move 15) refl refl), ((17, at 7 (list 17) refl refl), ((19, at 8 (grade 19) refl refl), tt)))))))))
+own_declares DocumentedFirst =
+    let at = there (schema_of DocumentedFirst).tables in
+    ((0, at 0 (room 0) refl refl), ((2, at 1 (person 2) refl refl), ((6, at 2 (round 6) refl refl),
+    ((7, at 3 (choice 7) refl refl), ((10, at 4 (word 10) refl refl), ((12, at 5 (result 12) refl refl),
+    ((15, at 6 (move 15) refl refl), ((17, at 7 (list 17) refl refl), tt))))))))
+own_declares EarlierFirst =
+    let at = there (schema_of EarlierFirst).tables in
+    ((0, at 0 (room 0) refl refl), ((2, at 1 (person 2) refl refl), ((6, at 2 (round 6) refl refl),
+    ((16, at 7 (choice 16) refl refl), ((11, at 5 (word 11) refl refl), ((13, at 6 (result 13) refl refl),
+    ((7, at 3 (move 7) refl refl), ((9, at 4 (list 9) refl refl), tt))))))))
+
+-- What the first tables declare, all declare.
+all_declare : (few all : Schema) → ((table : Table) → Contains few.tables table → Contains all.tables table) → (owns : List Table)
+    → AllByRecursion (Declares few) owns → AllByRecursion (Declares all) owns
+all_declare few all more [] h = tt
+all_declare few all more (own ∷ owns) h =
+    ((h.0.0, more (record own { tree = h.0.0 }) h.0.1), all_declare few all more owns h.1)
+
+contains_more : (xs ys : List Table) (x : Table) → Contains xs x → Contains (xs ++ ys) x
+contains_more xs ys x h =
+    let below = h.1 in (
+      h.0,
+      omega (arith, below, length-append xs ys),
+      get_or_append_left xs ys x h.0 below ∙ h.2,
+    )
+
+-- A schema that begins with the tables of the layout declares them.
+pub declares_first : (layout : Layout) (schema : Schema) → take (table_count layout) schema.tables ≡ (schema_of layout).tables
+    → DeclaresTables layout schema
+declares_first layout schema tables =
+    all_declare (schema_of layout) schema
+    (λ table h. subst (λ (ts : List Table). Contains ts table)
+    (ap (λ (ts : List Table). ts ++ drop (table_count layout) schema.tables) (sym tables)
+    ∙ take-append-drop (table_count layout) schema.tables)
+    (contains_more (schema_of layout).tables (drop (table_count layout) schema.tables) table h))
+    (take (table_count layout) documented_schema.tables) (own_declares layout)
+
+-- So does the schema of the layout itself.
+pub declares_laid : (layout : Layout) (schema : Schema) → schema ≡ schema_of layout → DeclaresTables layout schema
+declares_laid layout schema has = subst (DeclaresTables layout) (sym has) (own_declares layout)
+
+-- The layouts of version 1 have the same tables, and version 2 has one layout.
+pub of_version : (version : ℕ) (layout : Layout) (schema : Schema) → IsEarlier version → version_of layout ≡ version
+    → DeclaresTables layout schema
+    → (version < 2 → DeclaresTables DocumentedFirst schema) × (2 ≤ version → DeclaresTables DocumentedSecond schema)
+of_version version Own schema (inl e) same h = absurd (omega (arith, e, same))
+of_version version Own schema (inr e) same h = absurd (omega (arith, e, same))
+of_version version Documented schema (inl e) same h = absurd (omega (arith, e, same))
+of_version version Documented schema (inr e) same h = absurd (omega (arith, e, same))
+of_version version DocumentedSecond schema is same h = (λ low. absurd (omega (arith, low, same)), λ high. h)
+of_version version DocumentedFirst schema is same h = (λ low. h, λ high. absurd (omega (arith, high, same)))
+of_version version EarlierFirst schema is same h = (λ low. h, λ high. absurd (omega (arith, high, same)))
 
 -- If no missing name is in use, a database that begins with the tables of a layout has exactly those.
 pub first_is_laid : (layout other : Layout) → IsEarlier (version_of other)

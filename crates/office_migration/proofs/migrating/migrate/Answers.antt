@@ -1,5 +1,4 @@
-use Rattle.std.proofs.Common.{◌≡◌, true, false, true≢false, pos, IsSome, Some, sym, ap, ap₂, ◌∙◌, subst, inl, inr}
-use Rattle.std.specs.Option.{is_some}
+use Rattle.std.proofs.Common.{◌≡◌, true, false, true≢false, pos, sym, ap, ap₂, ◌∙◌, subst, inl, inr}
 use Rattle.std.proofs.lemmas.Result.{err_from_is_err_and}
 use Rattle.sqlite.specs.Effect.{Database}
 use Rattle.sqlite.specs.Held.{state}
@@ -12,9 +11,8 @@ use Rattle.office_schema.specs.tables.Layouts.{schema_of, version_of}
 use Rattle.office_schema.specs.tables.Tables.{HoldsOfficeIn}
 use Rattle.office_schema.proofs.statements.Crashes.{old_or_weaker}
 use Rattle.office_schema.proofs.statements.Steps.{intact_before}
-use Rattle.office_db.specs.loading.Finding.{AreDeclared, AreWhole, HoldsVersion, names_round}
-use Rattle.office_db.specs.loading.FirstTables.{BeginsOffice, begins_office}
-use Rattle.office_db.specs.loading.Layout.{layout_in}
+use Rattle.office_db.specs.loading.Finding.{AreWhole, HoldsVersion, names_round}
+use Rattle.office_db.specs.loading.FirstTables.{BeginsOffice}
 use Rattle.office_db.specs.loading.Numbers.{IsLaidOut}
 use Rattle.office_db.proofs.found_offices.Finding.{same_layout}
 use Rattle.office_db.proofs.found_offices.Following.{committed_after_reading}
@@ -23,17 +21,15 @@ use Rattle.office_db.proofs.found_offices.Versions.{layout_states_version, same_
 use Rattle.office_db.proofs.loaded.VersionMeanings.{same_begins_office}
 use Rattle.office_db.proofs.loaded.WholeRows.{laid_if_sound}
 use Rattle.office_migration.specs.Causes.{AreEarlierRows, AreNoEarlierRows, BeginsAt, HoldsEarlier, IsVersionFault, HoldsEarlierFirst}
-use Rattle.office_migration.specs.First.{first_layout}
 use Rattle.office_migration.specs.declared.migrating.MigrateFault.TheVariants.{AlreadyThere}
 use Rattle.office_migration.specs.Names.{uses_missing_name, takes_name}
 use Rattle.office_migration.specs.Renewed.{HoldsMigratedOffice, HoldsSameOffice}
 use Rattle.office_migration.specs.Versions.{IsOfVersion}
 use Rattle.office_migration.proofs.earlier.Causes.{none_in_layout, none_of_other, only_unavailable}
-use Rattle.office_migration.proofs.earlier.Causes.{may_return, name_allowed, name_cause}
-use Rattle.office_migration.proofs.earlier.Causes.{name_returned, read_as_none}
+use Rattle.office_migration.proofs.earlier.Causes.{declared_then, name_allowed, name_cause, none_declared}
 use Rattle.office_migration.proofs.earlier.Causes.{pos_injective, takes_none}
 use Rattle.office_migration.proofs.earlier.Causes.{first_states_version, takes_used}
-use Rattle.office_migration.proofs.earlier.First.{layout_begins_office}
+use Rattle.office_migration.proofs.earlier.First.{declares_first, declares_laid, layout_begins_office}
 use Rattle.office_db.proofs.found_offices.LayoutTests.{office_names_round}
 use Rattle.office_migration.proofs.migrating.migrate.Goals as goal
 
@@ -53,9 +49,8 @@ returns-then-not-names_round-clause-other g c clean version states later =
 pub returns-in_err-version-clause-cause : goal.returns-in_err-version-clause-cause
 returns-in_err-version-clause-cause g c =
     let p = err_from_is_err_and c.from_residual.result c.from_residual.ensures.1 in
-    let first_tables = subst (λ s. AreDeclared s → BeginsOffice s) c.schema-2.ensures.value
-    (c.begins_office.ensures.whole c.if-not-begins_office.false) in
-    rw (p.1, p.2) (λ clean declared. c.in_err-version.ensures.cause clean (first_tables declared))
+    let first_tables = subst BeginsOffice c.schema-2.ensures.value (c.begins_office.ensures.0 c.if-not-begins_office.false) in
+    rw (p.1, p.2) (λ clean. c.in_err-version.ensures.cause clean first_tables)
 
 pub returns-in_err-version-clause-accepts : goal.returns-in_err-version-clause-accepts
 returns-in_err-version-clause-accepts g c clean layout office h =
@@ -85,12 +80,10 @@ returns-then-takes_name-clause-accepts g c clean layout office h =
     absurd (true≢false (sym c.if-takes_name.true ∙ c.takes_name.ensures ∙ free))
 
 pub returns-then-version-clause-cause : goal.returns-then-version-clause-cause
-returns-then-version-clause-cause g c clean declared =
+returns-then-version-clause-cause g c clean =
     let start = state g.S.Store c.args.conn.now in
-    let first_tables = subst (λ s. AreDeclared s → BeginsOffice s) c.schema-2.ensures.value
-    (c.begins_office.ensures.whole c.if-not-begins_office.false) declared in
-    let has = subst (λ s. AreDeclared s → s ≡ schema_of c.in-Some.layout) c.schema-3.ensures.value
-    (rw c.in-Some.is at c.of-declared.ensures.whole) declared in
+    let first_tables = subst BeginsOffice c.schema-2.ensures.value (c.begins_office.ensures.0 c.if-not-begins_office.false) in
+    let has = sym c.schema-3.ensures.value ∙ (rw c.in-Some.is at c.of-declared.ensures.laid) in
     let free = subst (λ s. uses_missing_name c.in_ok-version.version s ≡ false) c.schema-3.ensures.value
     (ap₂ (λ g n. takes_name g n c.in_ok-version.version) (sym c.of-declared.ensures.grade) (sym c.of-declared.ensures.going)
     ∙ sym c.takes_name.ensures ∙ c.if-takes_name.false) in
@@ -105,12 +98,12 @@ returns-then-version-clause-accepts g c clean layout office h =
     let version = pos_injective _ _
     (c.in_ok-version.ensures.returned clean first_tables (pos (version_of layout))
     (layout_states_version layout start.now office h.rows)) in
-    let laid = ap layout_in (sym c.schema-3.ensures.value) ∙ sym c.of-declared.ensures.layout ∙ c.in-Some.is in
-    let same = same_layout layout c.in-Some.layout start.now h.rows.schema laid in
+    let laid = sym c.schema-3.ensures.value ∙ (rw c.in-Some.is at c.of-declared.ensures.laid) in
+    let same = same_layout layout c.in-Some.layout start.now.schema h.rows.schema laid in
     absurd (c.if-version.true (c.version.ensures ∙ ap version_of same ∙ version))
 
 pub returns-in-Ok-Some-clause-migrated : goal.returns-in-Ok-Some-clause-migrated
-returns-in-Ok-Some-clause-migrated g c clean declared layout is wide =
+returns-in-Ok-Some-clause-migrated g c clean layout is wide =
     let start = state g.S.Store c.args.conn.now in
     let one = state g.S.Store c.earlier_version.new.conn in
     let two = state g.S.Store c.renewed_office.new.conn in
@@ -119,12 +112,10 @@ returns-in-Ok-Some-clause-migrated g c clean declared layout is wide =
     let same = c.earlier_version.ensures.reads.same at_one in
     let found = c.in-Some.layout in
     let office = c.in-Ok-Some.office in
-    let laid = ap layout_in (sym c.schema-3.ensures.value) ∙ sym c.of-declared.ensures.layout ∙ c.in-Some.is in
-    let layouts = same_some found layout (sym laid ∙ is) in
-    let has = subst (λ s. AreDeclared s → s ≡ schema_of found) c.schema-3.ensures.value
-    (rw c.in-Some.is at c.of-declared.ensures.whole) declared in
+    let laid = sym c.schema-3.ensures.value ∙ (rw c.in-Some.is at c.of-declared.ensures.laid) in
+    let layouts = same_layout layout found start.now.schema is laid in
     let sound = (c.schema-3.ensures.live (c.earlier_version.ensures.reads.follows.was_open at_one.0 at_one.1)).0 in
-    let whole = laid_if_sound found start.now sound has (subst (λ l. AreWhole l start.now.trees) (sym layouts) wide) in
+    let whole = laid_if_sound found start.now sound laid (subst (λ l. AreWhole l start.now.trees) (sym layouts) wide) in
     let here = subst (λ (d : Database). IsLaidOut found d) (sym same) whole in
     let done = (rw c.in-Ok-Some.field-0-is at c.in-Ok-Some.ensures.renewed) clean here in
     let kind = rw c.in-Ok-Some.field-0-is at c.in-Ok-Some.ensures.kind in
@@ -136,14 +127,15 @@ returns-in-Ok-Some-clause-migrated g c clean declared layout is wide =
     )
 
 pub returns-in-Ok-Some-clause-stated : goal.returns-in-Ok-Some-clause-stated
-returns-in-Ok-Some-clause-stated g c clean first_tables layout is =
+returns-in-Ok-Some-clause-stated g c clean layout is =
     let start = state g.S.Store c.args.conn.now in
     let one = state g.S.Store c.earlier_version.new.conn in
     let two = state g.S.Store c.renewed_office.new.conn in
     let at_one = intact_before one two c.renewed_office.ensures.follows
     (clean, c.in-Ok-Some.ensures.is_open clean) in
-    let laid = ap layout_in (sym c.schema-3.ensures.value) ∙ sym c.of-declared.ensures.layout ∙ c.in-Some.is in
-    let same = ap version_of (same_some c.in-Some.layout layout (sym laid ∙ is)) in
+    let laid = sym c.schema-3.ensures.value ∙ (rw c.in-Some.is at c.of-declared.ensures.laid) in
+    let same = ap version_of (same_layout layout c.in-Some.layout start.now.schema is laid) in
+    let first_tables = subst BeginsOffice c.schema-2.ensures.value (c.begins_office.ensures.0 c.if-not-begins_office.false) in
     let version : version_of c.in-Some.layout ≡ c.in_ok-version.version = cc in
     subst (λ v. HoldsVersion start.now (pos v)) (sym version ∙ same) (c.in_ok-version.ensures.held at_one.0 first_tables)
 
@@ -155,8 +147,8 @@ returns-in-Ok-Some-clause-accepts g c clean layout office h =
     let at_one = intact_before one two c.renewed_office.ensures.follows
     (clean, c.in-Ok-Some.ensures.is_open clean) in
     let same = c.earlier_version.ensures.reads.same at_one in
-    let laid = ap layout_in (sym c.schema-3.ensures.value) ∙ sym c.of-declared.ensures.layout ∙ c.in-Some.is in
-    let layouts = same_layout layout c.in-Some.layout start.now h.rows.schema laid in
+    let laid = sym c.schema-3.ensures.value ∙ (rw c.in-Some.is at c.of-declared.ensures.laid) in
+    let layouts = same_layout layout c.in-Some.layout start.now.schema h.rows.schema laid in
     let here = subst (λ l. HoldsEarlier l one.now office) (sym layouts)
     (subst (λ (d : Database). HoldsEarlier layout d office) (sym same) h) in
     let done = (rw c.in-Ok-Some.field-0-is at c.in-Ok-Some.ensures.found) clean office here.lawful here.well_formed here.kind
@@ -164,17 +156,15 @@ returns-in-Ok-Some-clause-accepts g c clean layout office h =
     (same_some c.in-Ok-Some.office office done.0, done.1)
 
 pub returns-in-Ok-None-clause-cause : goal.returns-in-Ok-None-clause-cause
-returns-in-Ok-None-clause-cause g c clean declared =
+returns-in-Ok-None-clause-cause g c clean =
     let start = state g.S.Store c.args.conn.now in
     let one = state g.S.Store c.earlier_version.new.conn in
     let two = state g.S.Store c.renewed_office.new.conn in
     let at_one = intact_before one two c.renewed_office.ensures.follows
     (clean, c.in-Ok-None.ensures.is_open clean) in
     let same = c.earlier_version.ensures.reads.same at_one in
-    let first_tables = subst (λ s. AreDeclared s → BeginsOffice s) c.schema-2.ensures.value
-    (c.begins_office.ensures.whole c.if-not-begins_office.false) declared in
-    let has = subst (λ s. AreDeclared s → s ≡ schema_of c.in-Some.layout) c.schema-3.ensures.value
-    (rw c.in-Some.is at c.of-declared.ensures.whole) declared in
+    let first_tables = subst BeginsOffice c.schema-2.ensures.value (c.begins_office.ensures.0 c.if-not-begins_office.false) in
+    let has = sym c.schema-3.ensures.value ∙ (rw c.in-Some.is at c.of-declared.ensures.laid) in
     let free = subst (λ s. uses_missing_name c.in_ok-version.version s ≡ false) c.schema-3.ensures.value
     (ap₂ (λ g n. takes_name g n c.in_ok-version.version) (sym c.of-declared.ensures.grade) (sym c.of-declared.ensures.going)
     ∙ sym c.takes_name.ensures ∙ c.if-takes_name.false) in
@@ -193,8 +183,8 @@ returns-in-Ok-None-clause-accepts g c clean layout office h =
     let at_one = intact_before one two c.renewed_office.ensures.follows
     (clean, c.in-Ok-None.ensures.is_open clean) in
     let same = c.earlier_version.ensures.reads.same at_one in
-    let laid = ap layout_in (sym c.schema-3.ensures.value) ∙ sym c.of-declared.ensures.layout ∙ c.in-Some.is in
-    let layouts = same_layout layout c.in-Some.layout start.now h.rows.schema laid in
+    let laid = sym c.schema-3.ensures.value ∙ (rw c.in-Some.is at c.of-declared.ensures.laid) in
+    let layouts = same_layout layout c.in-Some.layout start.now.schema h.rows.schema laid in
     let here = subst (λ l. HoldsEarlier l one.now office) (sym layouts)
     (subst (λ (d : Database). HoldsEarlier layout d office) (sym same) h) in
     absurd (none_some office
@@ -258,22 +248,53 @@ returns-in-Ok-None-clause-taken g c clean layout office h used =
     (version_of layout) c.of-declared.ensures.grade c.of-declared.ensures.going version here in
     absurd (true≢false (sym takes ∙ sym c.takes_name.ensures ∙ c.if-takes_name.false))
 
+-- ---- where a table of the version is absent or declared in another way
+
+pub returns-then-not-has_tables-clause-cause : goal.returns-then-not-has_tables-clause-cause
+returns-then-not-has_tables-clause-cause g c clean =
+    let start = state g.S.Store c.args.conn.now in
+    let first_tables = subst BeginsOffice c.schema-2.ensures.value (c.begins_office.ensures.0 c.if-not-begins_office.false) in
+    inr (none_declared start.now first_tables c.in_ok-version.version c.in_ok-version.ensures.earlier
+    (c.in_ok-version.ensures.held clean first_tables)
+    (declared_then c.schema-3.result.now start.now.schema c.in_ok-version.version _ _ _ c.in_ok-version.ensures.earlier
+    c.schema-3.ensures.value c.of-declared.ensures.first c.of-declared.ensures.second c.has_tables.ensures.first
+    c.has_tables.ensures.second c.if-not-has_tables.true))
+
+pub returns-then-not-has_tables-clause-accepts : goal.returns-then-not-has_tables-clause-accepts
+returns-then-not-has_tables-clause-accepts g c clean layout office h =
+    let start = state g.S.Store c.args.conn.now in
+    let first_tables = same_begins_office layout start.now.schema h.rows.schema in
+    let version = pos_injective _ _
+    (c.in_ok-version.ensures.returned clean first_tables (pos (version_of layout))
+    (layout_states_version layout start.now office h.rows)) in
+    absurd (declared_then c.schema-3.result.now start.now.schema c.in_ok-version.version _ _ _ c.in_ok-version.ensures.earlier
+    c.schema-3.ensures.value c.of-declared.ensures.first c.of-declared.ensures.second c.has_tables.ensures.first
+    c.has_tables.ensures.second c.if-not-has_tables.true layout version (declares_laid layout start.now.schema h.rows.schema))
+
+pub returns-then-not-has_tables-clause-taken : goal.returns-then-not-has_tables-clause-taken
+returns-then-not-has_tables-clause-taken g c clean layout office h used =
+    let start = state g.S.Store c.args.conn.now in
+    let version = pos_injective _ _
+    (c.in_ok-version.ensures.returned clean h.first_tables (pos (version_of layout))
+    (first_states_version layout start.now office h)) in
+    absurd (declared_then c.schema-3.result.now start.now.schema c.in_ok-version.version _ _ _ c.in_ok-version.ensures.earlier
+    c.schema-3.ensures.value c.of-declared.ensures.first c.of-declared.ensures.second c.has_tables.ensures.first
+    c.has_tables.ensures.second c.if-not-has_tables.true layout version (declares_first layout start.now.schema h.tables))
+
 -- ---- where the name of a missing table is taken
 
 pub returns-then-takes_name-clause-cause : goal.returns-then-takes_name-clause-cause
-returns-then-takes_name-clause-cause g c clean declared =
+returns-then-takes_name-clause-cause g c clean =
     let start = state g.S.Store c.args.conn.now in
     let clean_one = c.refused_for_name.ensures.reads.follows.clean clean in
     let same = c.earlier_version.ensures.reads.same (clean_one, c.in_ok-version.ensures.is_open clean_one) in
-    let first_tables = subst (λ s. AreDeclared s → BeginsOffice s) c.schema-2.ensures.value
-    (c.begins_office.ensures.whole c.if-not-begins_office.false) declared in
+    let first_tables = subst BeginsOffice c.schema-2.ensures.value (c.begins_office.ensures.0 c.if-not-begins_office.false) in
     let taken = subst (λ s. uses_missing_name c.in_ok-version.version s ≡ true) c.schema-3.ensures.value
     (ap₂ (λ g n. takes_name g n c.in_ok-version.version) (sym c.of-declared.ensures.grade) (sym c.of-declared.ensures.going)
     ∙ sym c.takes_name.ensures ∙ c.if-takes_name.true) in
     name_cause start.now first_tables c.in_ok-version.version c.in_ok-version.ensures.earlier
     (c.in_ok-version.ensures.held clean_one first_tables) c.refused_for_name.result c.refused_for_name.ensures.kind taken
-    (λ is. subst (λ (d : Database). BeginsAt c.in_ok-version.version d.schema) same (c.refused_for_name.ensures.known is
-    (subst (λ (d : Database). AreDeclared d.schema) (sym same) declared)))
+    (λ is. subst (λ (d : Database). BeginsAt c.in_ok-version.version d.schema) same (c.refused_for_name.ensures.known is))
     (λ is. subst (AreNoEarlierRows c.in_ok-version.version) same (c.refused_for_name.ensures.none is clean))
     (λ is. subst (AreEarlierRows c.in_ok-version.version) same (c.refused_for_name.ensures.rows is clean))
 
@@ -283,8 +304,7 @@ returns-then-takes_name-clause-allowed g c =
     let taken = subst (λ s. uses_missing_name c.in_ok-version.version s ≡ true) c.schema-3.ensures.value
     (ap₂ (λ g n. takes_name g n c.in_ok-version.version) (sym c.of-declared.ensures.grade) (sym c.of-declared.ensures.going)
     ∙ sym c.takes_name.ensures ∙ c.if-takes_name.true) in
-    let first_tables = subst (λ s. begins_office s ≡ true) c.schema-2.ensures.value
-    (sym c.begins_office.ensures.tested ∙ c.if-not-begins_office.false) in
+    let first_tables = subst BeginsOffice c.schema-2.ensures.value (c.begins_office.ensures.0 c.if-not-begins_office.false) in
     name_allowed start.now.schema c.in_ok-version.version c.refused_for_name.result c.refused_for_name.ensures.kind
     c.in_ok-version.ensures.earlier first_tables taken
 
@@ -323,64 +343,10 @@ returns-in_err-version-clause-rows g c =
     let there : c.in_err-version.field-0.0 ≡ AlreadyThere = cc in
     absurd (subst IsVersionFault there c.in_err-version.ensures.number))
 
--- ---- where the first three tables are an office's, whatever follows them
-
-pub returns-then-not-names_round-clause-returned :
-    goal.returns-then-not-names_round-clause-returned
-returns-then-not-names_round-clause-returned g c clean first_tables =
-    let start = state g.S.Store c.args.conn.now in
-    absurd (true≢false (sym (office_names_round start.now.schema first_tables) ∙ ap names_round (sym c.schema.ensures.value)
-    ∙ sym c.names_round.ensures ∙ c.if-not-names_round.true))
-
-pub returns-in_err-version-clause-returned : goal.returns-in_err-version-clause-returned
-returns-in_err-version-clause-returned g c =
-    let start = state g.S.Store c.args.conn.now in
-    let p = err_from_is_err_and c.from_residual.result c.from_residual.ensures.1 in
-    rw (p.1, p.2) (λ clean first_tables. may_return start.now c.in_err-version.field-0.0 first_tables
-    (c.in_err-version.ensures.cause clean first_tables))
-
-pub returns-then-takes_name-clause-returned : goal.returns-then-takes_name-clause-returned
-returns-then-takes_name-clause-returned g c clean first_tables =
-    let start = state g.S.Store c.args.conn.now in
-    let version = c.in_ok-version.version in
-    let clean_one = c.refused_for_name.ensures.reads.follows.clean clean in
-    let same = c.earlier_version.ensures.reads.same (clean_one, c.in_ok-version.ensures.is_open clean_one) in
-    let taken = subst (λ s. uses_missing_name version s ≡ true) c.schema-3.ensures.value
-    (ap₂ (λ g n. takes_name g n version) (sym c.of-declared.ensures.grade) (sym c.of-declared.ensures.going)
-    ∙ sym c.takes_name.ensures ∙ c.if-takes_name.true) in
-    name_returned start.now first_tables version c.in_ok-version.ensures.earlier
-    (c.in_ok-version.ensures.held clean_one first_tables) c.refused_for_name.result c.refused_for_name.ensures.kind taken
-    (λ is. subst (λ (d : Database). IsSome (first_layout version d.schema)) same (c.refused_for_name.ensures.named is))
-    (λ is. subst (AreEarlierRows version) same (c.refused_for_name.ensures.rows is clean))
-
-pub returns-then-version-clause-returned : goal.returns-then-version-clause-returned
-returns-then-version-clause-returned g c clean first_tables =
-    let start = state g.S.Store c.args.conn.now in
-    let laid = ap layout_in (sym c.schema-3.ensures.value) ∙ sym c.of-declared.ensures.layout ∙ c.in-Some.is in
-    let free = subst (λ s. uses_missing_name c.in_ok-version.version s ≡ false) c.schema-3.ensures.value
-    (ap₂ (λ g n. takes_name g n c.in_ok-version.version) (sym c.of-declared.ensures.grade) (sym c.of-declared.ensures.going)
-    ∙ sym c.takes_name.ensures ∙ c.if-takes_name.false) in
-    read_as_none start.now first_tables c.in_ok-version.version c.in_ok-version.ensures.earlier
-    (c.in_ok-version.ensures.held clean first_tables) (inr (ap is_some laid, free))
-
-pub returns-in-Ok-None-clause-returned : goal.returns-in-Ok-None-clause-returned
-returns-in-Ok-None-clause-returned g c clean first_tables =
-    let start = state g.S.Store c.args.conn.now in
-    let one = state g.S.Store c.earlier_version.new.conn in
-    let two = state g.S.Store c.renewed_office.new.conn in
-    let at_one = intact_before one two c.renewed_office.ensures.follows
-    (clean, c.in-Ok-None.ensures.is_open clean) in
-    let laid = ap layout_in (sym c.schema-3.ensures.value) ∙ sym c.of-declared.ensures.layout ∙ c.in-Some.is in
-    let free = subst (λ s. uses_missing_name c.in_ok-version.version s ≡ false) c.schema-3.ensures.value
-    (ap₂ (λ g n. takes_name g n c.in_ok-version.version) (sym c.of-declared.ensures.grade) (sym c.of-declared.ensures.going)
-    ∙ sym c.takes_name.ensures ∙ c.if-takes_name.false) in
-    read_as_none start.now first_tables c.in_ok-version.version c.in_ok-version.ensures.earlier
-    (c.in_ok-version.ensures.held at_one.0 first_tables) (inr (ap is_some laid, free))
-
 -- ---- after a crash
 
 -- The office of an earlier version that the tables hold is in the layout that was found.
-migrated_once : (layout : Layout) (old new : State) → layout_in old.now.schema ≡ Some layout
+migrated_once : (layout : Layout) (old new : State) → old.now.schema ≡ schema_of layout
     → LeavesOldOr (HoldsSameOffice layout old.now) old new → LeavesOldOr (HoldsMigratedOffice old.now) old new
 migrated_once layout old new laid = old_or_weaker (HoldsSameOffice layout old.now) (HoldsMigratedOffice old.now) old new (λ clean after h other office it.
     let here = subst (λ l. HoldsEarlier l old.now office) (sym (same_layout other layout old.now it.rows.schema laid)) it in
@@ -391,7 +357,7 @@ returns-in-Ok-Some-clause-crash g c =
     let start = state g.S.Store c.args.conn.now in
     let one = state g.S.Store c.earlier_version.new.conn in
     let two = state g.S.Store c.renewed_office.new.conn in
-    let laid = ap layout_in (sym c.schema-3.ensures.value) ∙ sym c.of-declared.ensures.layout ∙ c.in-Some.is in
+    let laid = sym c.schema-3.ensures.value ∙ (rw c.in-Some.is at c.of-declared.ensures.laid) in
     migrated_once c.in-Some.layout start two laid
     (committed_after_reading (HoldsSameOffice c.in-Some.layout) start one two c.earlier_version.ensures.reads c.in_ok-version.ensures.is_open c.renewed_office.ensures.follows.clean c.renewed_office.ensures.crash)
 
@@ -400,7 +366,7 @@ returns-in-Ok-None-clause-crash g c =
     let start = state g.S.Store c.args.conn.now in
     let one = state g.S.Store c.earlier_version.new.conn in
     let two = state g.S.Store c.renewed_office.new.conn in
-    let laid = ap layout_in (sym c.schema-3.ensures.value) ∙ sym c.of-declared.ensures.layout ∙ c.in-Some.is in
+    let laid = sym c.schema-3.ensures.value ∙ (rw c.in-Some.is at c.of-declared.ensures.laid) in
     migrated_once c.in-Some.layout start two laid
     (committed_after_reading (HoldsSameOffice c.in-Some.layout) start one two c.earlier_version.ensures.reads c.in_ok-version.ensures.is_open c.renewed_office.ensures.follows.clean c.renewed_office.ensures.crash)
 
@@ -409,6 +375,6 @@ returns-in-Err-clause-crash g c =
     let start = state g.S.Store c.args.conn.now in
     let one = state g.S.Store c.earlier_version.new.conn in
     let two = state g.S.Store c.renewed_office.new.conn in
-    let laid = ap layout_in (sym c.schema-3.ensures.value) ∙ sym c.of-declared.ensures.layout ∙ c.in-Some.is in
+    let laid = sym c.schema-3.ensures.value ∙ (rw c.in-Some.is at c.of-declared.ensures.laid) in
     migrated_once c.in-Some.layout start two laid
     (committed_after_reading (HoldsSameOffice c.in-Some.layout) start one two c.earlier_version.ensures.reads c.in_ok-version.ensures.is_open c.renewed_office.ensures.follows.clean c.renewed_office.ensures.crash)

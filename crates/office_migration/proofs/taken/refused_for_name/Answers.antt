@@ -1,37 +1,31 @@
-use Rattle.std.proofs.Common.{◌≡◌, Some, refl, sym, ap, ◌∙◌, subst, true≢false}
-use Rattle.std.specs.Option.{is_some}
+use Rattle.std.proofs.Common.{refl, sym, ◌∙◌, subst, true≢false}
 use Rattle.sqlite.specs.Held.{state}
-use Rattle.office_db.specs.loading.Finding.{AreDeclared, AreWhole}
+use Rattle.office_db.specs.loading.Finding.{AreWhole}
 use Rattle.office_db.specs.loading.FirstTables.{Begins}
 use Rattle.office_db.proofs.found_offices.Versions.{none_some, same_some}
 use Rattle.office_db.proofs.loaded.WholeRows.{first_if_sound}
 use Rattle.office_migration.specs.Causes.{HoldsEarlierFirst}
-use Rattle.office_migration.specs.First.{first_layout}
-use Rattle.office_migration.specs.Versions.{IsEarlier, IsOfVersion}
-use Rattle.office_migration.proofs.earlier.First.{first_found}
+use Rattle.office_migration.specs.Versions.{IsOfVersion}
 use Rattle.office_migration.proofs.earlier.Taken.{begins_is_found, held_in_found, first_if_held}
 use Rattle.office_migration.proofs.earlier.Taken.{first_in_found}
 use Rattle.office_migration.proofs.taken.refused_for_name.Goals as goal
 
 pub returns-in_default-clause-rows : goal.returns-in_default-clause-rows
 returns-in_default-clause-rows g c already clean other same begins whole =
-    let start = state g.S.Store c.args.conn.now in
-    let none = ap (first_layout c.args.version) (sym c.schema.ensures.value) ∙ sym c.in_default.ensures.tested in
-    absurd (none_some other (sym none ∙ subst (λ v. first_layout v start.now.schema ≡ Some other) same
-    (first_found other start.now.schema (subst IsEarlier (sym same) c.requires.earlier) begins)))
+    absurd (c.in_default.ensures.other refl other same (subst (Begins other) (sym c.schema.ensures.value) begins))
 
 pub returns-then-is_of_version-clause-rows : goal.returns-then-is_of_version-clause-rows
 returns-then-is_of_version-clause-rows g c already clean other same begins whole =
     let start = state g.S.Store c.args.conn.now in
     let layout = c.in-Some.layout in
-    let tested = ap (first_layout c.args.version) (sym c.schema.ensures.value) ∙ sym c.in-Some.ensures.tested in
-    let is = begins_is_found c.args.version c.requires.earlier start.now layout tested other same begins in
+    let begun = subst (Begins layout) c.schema.ensures.value c.in-Some.ensures.begun in
+    let is = begins_is_found c.args.version c.requires.earlier start.now layout begun c.in-Some.ensures.version other same begins in
     let open_ = c.held.ensures.reads.follows.was_open clean (c.in-Ok-Some.ensures.is_open clean) in
     let sound = (c.schema.ensures.live open_).0 in
     let laid = first_if_sound layout start.now sound (subst (λ l. Begins l start.now.schema) (sym is) begins)
     (subst (λ l. AreWhole l start.now.trees) (sym is) whole) in
     let office = c.in-Ok-Some.office in
-    let holding = first_if_held c.args.version c.requires.earlier start.now layout tested office
+    let holding = first_if_held c.args.version c.requires.earlier start.now layout begun c.in-Some.ensures.version office
     (rw c.in-Ok-Some.field-0-is at c.in-Ok-Some.ensures.lawful)
     ((rw c.in-Ok-Some.field-0-is at c.in-Ok-Some.ensures.well_formed_first) clean laid)
     (c.is_of_version.ensures.0 c.if-is_of_version.true)
@@ -42,9 +36,9 @@ pub returns-else-is_of_version-clause-none : goal.returns-else-is_of_version-cla
 returns-else-is_of_version-clause-none g c is_none clean other same office h =
     let start = state g.S.Store c.args.conn.now in
     let layout = c.in-Some.layout in
-    let tested = ap (first_layout c.args.version) (sym c.schema.ensures.value) ∙ sym c.in-Some.ensures.tested in
-    let here = first_in_found c.args.version c.requires.earlier start.now layout tested other office same h in
-    let held = held_in_found c.args.version c.requires.earlier start.now layout tested office here in
+    let begun = subst (Begins layout) c.schema.ensures.value c.in-Some.ensures.begun in
+    let here = first_in_found c.args.version c.requires.earlier start.now layout begun c.in-Some.ensures.version other office same h in
+    let held = held_in_found c.args.version c.requires.earlier start.now layout begun c.in-Some.ensures.version office here in
     let found = (rw c.in-Ok-Some.field-0-is at c.in-Ok-Some.ensures.first) clean office h.lawful here.well_formed held in
     let one = same_some c.in-Ok-Some.office office found in
     let kind = c.is_of_version.ensures.1 (subst (IsOfVersion c.args.version) (sym one) (subst (λ v. IsOfVersion v office) same h.kind)) in
@@ -58,9 +52,9 @@ pub returns-in-Ok-None-clause-none : goal.returns-in-Ok-None-clause-none
 returns-in-Ok-None-clause-none g c is_none clean other same office h =
     let start = state g.S.Store c.args.conn.now in
     let layout = c.in-Some.layout in
-    let tested = ap (first_layout c.args.version) (sym c.schema.ensures.value) ∙ sym c.in-Some.ensures.tested in
-    let here = first_in_found c.args.version c.requires.earlier start.now layout tested other office same h in
-    let held = held_in_found c.args.version c.requires.earlier start.now layout tested office here in
+    let begun = subst (Begins layout) c.schema.ensures.value c.in-Some.ensures.begun in
+    let here = first_in_found c.args.version c.requires.earlier start.now layout begun c.in-Some.ensures.version other office same h in
+    let held = held_in_found c.args.version c.requires.earlier start.now layout begun c.in-Some.ensures.version office here in
     none_some office ((rw c.in-Ok-None.field-0-is at c.in-Ok-None.ensures.first) clean office h.lawful here.well_formed held)
 
 pub returns-in-Ok-None-clause-returned : goal.returns-in-Ok-None-clause-returned
@@ -68,27 +62,15 @@ returns-in-Ok-None-clause-returned g c clean other office same h =
     absurd (returns-in-Ok-None-clause-none g c refl clean other same office h)
 
 pub returns-else-is_of_version-clause-known : goal.returns-else-is_of_version-clause-known
-returns-else-is_of_version-clause-known g c is_none declared = (
+returns-else-is_of_version-clause-known g c is_none = (
   c.in-Some.layout,
   c.in-Some.ensures.version,
-  subst (λ s. AreDeclared s → Begins c.in-Some.layout s) c.schema.ensures.value
-      c.in-Some.ensures.whole declared,
+  subst (Begins c.in-Some.layout) c.schema.ensures.value c.in-Some.ensures.begun,
 )
 
 pub returns-in-Ok-None-clause-known : goal.returns-in-Ok-None-clause-known
-returns-in-Ok-None-clause-known g c is_none declared = (
+returns-in-Ok-None-clause-known g c is_none = (
   c.in-Some.layout,
   c.in-Some.ensures.version,
-  subst (λ s. AreDeclared s → Begins c.in-Some.layout s) c.schema.ensures.value
-      c.in-Some.ensures.whole declared,
+  subst (Begins c.in-Some.layout) c.schema.ensures.value c.in-Some.ensures.begun,
 )
-
--- ---- the layout that comes first, as far as the names tell
-
-pub returns-else-is_of_version-clause-named : goal.returns-else-is_of_version-clause-named
-returns-else-is_of_version-clause-named g c is_none =
-    ap is_some (ap (first_layout c.args.version) (sym c.schema.ensures.value) ∙ sym c.in-Some.ensures.tested)
-
-pub returns-in-Ok-None-clause-named : goal.returns-in-Ok-None-clause-named
-returns-in-Ok-None-clause-named g c is_none =
-    ap is_some (ap (first_layout c.args.version) (sym c.schema.ensures.value) ∙ sym c.in-Some.ensures.tested)

@@ -1,12 +1,12 @@
-use Rattle.std.proofs.Common.{◌≡◌, sym, ap, ◌∙◌, subst, true≢false}
+use Rattle.std.proofs.Common.{refl, sym, ap, ◌∙◌, subst, true≢false}
 use Rattle.sqlite.specs.Held.{state}
-use Rattle.office_schema.specs.tables.Layouts.{schema_of, version_of}
+use Rattle.office_schema.specs.tables.Layouts.{version_of}
 use Rattle.office_schema.specs.tables.Tables.{HoldsOfficeIn}
-use Rattle.office_db.specs.loading.Finding.{AreDeclared, names_round}
-use Rattle.office_db.specs.loading.Layout.{layout_in}
+use Rattle.office_db.specs.loading.Finding.{names_round}
 use Rattle.office_db.proofs.found_offices.Finding.{laid_allowed, same_layout}
-use Rattle.office_db.proofs.found_offices.LayoutTests.{known_begins_office, office_names_round}
-use Rattle.office_db.proofs.found_offices.Versions.{none_some, own_layout, own_round}
+use Rattle.office_db.proofs.found_offices.LayoutTests.{office_names_round}
+use Rattle.office_db.proofs.found_offices.Versions.{own_round}
+use Rattle.office_db.proofs.loaded.VersionMeanings.{same_begins_office}
 use Rattle.office_db.proofs.loaded.WholeRows.{laid_if_sound}
 use Rattle.office_db.proofs.loading.finding.find.Goals as goal
 
@@ -14,27 +14,30 @@ pub returns-then-not-names_round-clause-found : goal.returns-then-not-names_roun
 returns-then-not-names_round-clause-found g c clean layout own office lawful well_formed holds =
     absurd (true≢false (sym (own_round layout) ∙ ap names_round (sym holds.schema) ∙ ap names_round (sym c.schema.ensures.value) ∙ sym c.names_round.ensures ∙ c.if-not-names_round.true))
 
+pub returns-in-Ok-clause-laid : goal.returns-in-Ok-clause-laid
+returns-in-Ok-clause-laid g c = sym c.schema-2.ensures.value ∙ c.in-Some.ensures.laid
+
 pub returns-in-Ok-clause-held : goal.returns-in-Ok-clause-held
-returns-in-Ok-clause-held g c clean declared wide =
+returns-in-Ok-clause-held g c clean wide =
     let start = state g.S.Store c.args.conn.now in
     let layout = c.in-Some.layout in
-    let laid = subst (λ s. AreDeclared s → s ≡ schema_of layout) c.schema-2.ensures.value c.in-Some.ensures.whole in
+    let laid = sym c.schema-2.ensures.value ∙ c.in-Some.ensures.laid in
     let sound = (c.schema-2.ensures.live (c.read.ensures.reads.follows.was_open clean (c.in-Ok.ensures.is_open clean))).0 in
-    c.in-Ok.ensures.held clean (laid_if_sound layout start.now sound (laid declared) wide)
+    c.in-Ok.ensures.held clean (laid_if_sound layout start.now sound laid wide)
 
 pub returns-in-Ok-clause-found : goal.returns-in-Ok-clause-found
 returns-in-Ok-clause-found g c clean layout own office lawful well_formed holds =
     let start = state g.S.Store c.args.conn.now in
-    let laid = ap layout_in (sym c.schema-2.ensures.value) ∙ sym c.in-Some.ensures.tested in
-    let same = same_layout layout c.in-Some.layout start.now holds.schema laid in
+    let laid = sym c.schema-2.ensures.value ∙ c.in-Some.ensures.laid in
+    let same = same_layout layout c.in-Some.layout start.now.schema holds.schema laid in
     let holding = subst (λ l. HoldsOfficeIn l start.now office) (sym same) holds in
     (c.in-Ok.ensures.found clean (ap version_of same ∙ own) office lawful well_formed holding, same)
 
 pub returns-in-Err-clause-found : goal.returns-in-Err-clause-found
 returns-in-Err-clause-found g c clean layout own office lawful well_formed holds =
     let start = state g.S.Store c.args.conn.now in
-    let laid = ap layout_in (sym c.schema-2.ensures.value) ∙ sym c.in-Some.ensures.tested in
-    let same = same_layout layout c.in-Some.layout start.now holds.schema laid in
+    let laid = sym c.schema-2.ensures.value ∙ c.in-Some.ensures.laid in
+    let same = same_layout layout c.in-Some.layout start.now.schema holds.schema laid in
     let holding = subst (λ l. HoldsOfficeIn l start.now office) (sym same) holds in
     c.in-Err.ensures.found clean (ap version_of same ∙ own) office lawful well_formed holding
 
@@ -42,22 +45,17 @@ returns-in-Err-clause-found g c clean layout own office lawful well_formed holds
 
 pub returns-in_default-clause-found : goal.returns-in_default-clause-found
 returns-in_default-clause-found g c clean layout own office lawful well_formed holds =
-    let laid = ap layout_in (sym c.schema-2.ensures.value) ∙ sym c.in_default.ensures.tested in
-    absurd (none_some layout (sym laid ∙ ap layout_in holds.schema ∙ own_layout layout))
+    absurd (c.in_default.ensures.unknown refl layout (c.schema-2.ensures.value ∙ holds.schema))
 
 -- ---- where the tables are in a known layout, the first three are an office's
 
 pub returns-in-Ok-clause-unread : goal.returns-in-Ok-clause-unread
 returns-in-Ok-clause-unread g c none =
-    let start = state g.S.Store c.args.conn.now in
-    let laid = ap layout_in (sym c.schema-2.ensures.value) ∙ sym c.in-Some.ensures.tested in
-    absurd (true≢false (sym (known_begins_office start.now.schema c.in-Some.layout laid) ∙ none))
+    absurd (none (same_begins_office c.in-Some.layout _ (sym c.schema-2.ensures.value ∙ c.in-Some.ensures.laid)))
 
 pub returns-in-Err-clause-unread : goal.returns-in-Err-clause-unread
 returns-in-Err-clause-unread g c none =
-    let start = state g.S.Store c.args.conn.now in
-    let laid = ap layout_in (sym c.schema-2.ensures.value) ∙ sym c.in-Some.ensures.tested in
-    absurd (true≢false (sym (known_begins_office start.now.schema c.in-Some.layout laid) ∙ none))
+    absurd (none (same_begins_office c.in-Some.layout _ (sym c.schema-2.ensures.value ∙ c.in-Some.ensures.laid)))
 
 pub returns-then-not-names_round-clause-other : goal.returns-then-not-names_round-clause-other
 returns-then-not-names_round-clause-other g c clean version front other =
@@ -67,5 +65,5 @@ returns-then-not-names_round-clause-other g c clean version front other =
 pub returns-in-Err-clause-allowed : goal.returns-in-Err-clause-allowed
 returns-in-Err-clause-allowed g c =
     let start = state g.S.Store c.args.conn.now in
-    let laid = ap layout_in (sym c.schema-2.ensures.value) ∙ sym c.in-Some.ensures.tested in
+    let laid = sym c.schema-2.ensures.value ∙ c.in-Some.ensures.laid in
     laid_allowed start.now.schema c.in-Some.layout c.in-Err.fault laid c.in-Err.ensures.number

@@ -1,5 +1,5 @@
 use Rattle.std.proofs.Common.{sym}
-use Rattle.office_db.specs.loading.Layout.{is_this_index, unique_index}
+use Rattle.office_db.specs.loading.Inner.Indexes.{is_this_index, unique_index}
 use Rattle.office_db.proofs.found_offices.Passing.{fails_at, passes_at}
 use Rattle.office_db.proofs.loading.layout.are_these_indexes.Goals as goal
 

@@ -1,5 +1,6 @@
 use Rattle.std.proofs.Common.{◌≡◌, drop, length, map}
-use Rattle.office_db.specs.loading.Layout.{is_this_index, pass_all, unique_index}
+use Rattle.office_db.specs.loading.Inner.Indexes.{is_this_index, unique_index}
+use Rattle.office_db.specs.loading.Inner.Lists.{pass_all}
 use Rattle.office_db.proofs.loading.layout.are_these_indexes.Given as goal
 
 -- The rest of the lists passes if and only if the whole lists pass.

@@ -1,18 +1,27 @@
-use Rattle.std.proofs.Common.{sym}
-use Rattle.office_db.specs.loading.Layout.{is_this_table}
-use Rattle.office_db.proofs.found_offices.Passing.{fails_at, passes_at}
+use Rattle.std.proofs.Common.{arith, refl}
+use Rattle.std.proofs.lemmas.Bool.Decides.{not_from_Decides}
+use Rattle.office_db.specs.loading.Inner.Declared.{office_table}
+use Rattle.office_db.proofs.found_offices.Declarations.{never}
+use Rattle.office_db.proofs.found_offices.Passing.{agree_all, agree_at, differ_at}
 use Rattle.office_db.proofs.loading.layout.are_these_tables.Goals as goal
 
 pub returns-then-not-is_this_table : goal.returns-then-not-is_this_table
 returns-then-not-is_this_table c =
-    sym (fails_at (λ o. (o.0.now, o.1)) is_this_table c.args.own.now c.args.tables.now c.loop-place.place _
+    never (differ_at (λ o. office_table o.0 o.1) c.args.own.now c.args.tables.now c.loop-place.place _
     c.index-tables-place.result c.loop-place.invariant.even c.loop-place-test.true c.index-tables-place.is
-    (sym c.if-not-is_this_table.ensures) c.loop-place.invariant.left)
+    (not_from_Decides _ c.is_this_table.ensures c.if-not-is_this_table.true))
 
 pub loop-place-preserved : goal.loop-place-preserved
 loop-place-preserved c = record {
-  left = passes_at (λ o. (o.0.now, o.1)) is_this_table c.args.own.now c.args.tables.now c.loop-place.place _
+  left = agree_at (λ o. office_table o.0 o.1) c.args.own.now c.args.tables.now c.loop-place.place _
       c.index-tables-place.result c.loop-place.invariant.even c.loop-place-test.true c.index-tables-place.is
-      (sym c.if-not-is_this_table.ensures) c.loop-place.invariant.left;
+      (c.is_this_table.ensures.0 c.if-not-is_this_table.false) c.loop-place.invariant.left;
   even = c.loop-place.invariant.even;
 }
+
+pub returns : goal.returns
+returns c = (
+  λ _. agree_all (λ o. office_table o.0 o.1) c.args.own.now c.args.tables.now c.loop-place.place c.loop-place.invariant.even
+      (omega (arith, c.loop-place-test.false)) c.loop-place.invariant.left,
+  λ _. refl,
+)
