@@ -10,6 +10,8 @@ use Rattle.sqlite.specs.declared.error.Error.TheVariants.{SqliteFailure}
 use Rattle.sqlite.specs.declared.error.ErrorCode.TheVariants as code
 use Rattle.sqlite.specs.State.{State, HasCleanDisk, HasCause, Survives, FailsToQuery, IsNoStatement, IsNotRun, IsUnchanged, store_error}
 use Rattle.office_state.specs.declared.office.Office.{Office}
+use Rattle.office_schema.specs.tables.Crashes.{ShowsCommitted}
+use Rattle.office_schema.proofs.statements.Crashes.{survives_nothing_new}
 use Rattle.office_db.specs.loading.Reading.{OnlyReads}
 use Rattle.office_db.proofs.found_offices.States.{reads_failed}
 use Rattle.office_store.proofs.desks.Requests.{represents_still}
@@ -53,12 +55,13 @@ module _ (sql : List ℕ) (params : Row) (old new : State) where
       closes = survives.closes;
     };
     same = λ intact. (same intact.0).0.now_is;
+    crash = survives_nothing_new old new survives;
   }
 
-  reads_not_run : Survives old new (λ _. ⊥) → (e : Error) → (IsTrue old.is_open → old.now ≡ old.committed)
+  reads_not_run : Survives old new (λ _. ⊥) → (e : Error) → ShowsCommitted old
       → (HasCleanDisk new → IsNotRun old new sql params e) → OnlyReads old new
   unfolding FailsToQuery
-  reads_not_run survives e settled failed = reads_failed sql params old new (λ _. ⊥) survives e settled (λ clean. inl (failed clean))
+  reads_not_run survives e settled failed = reads_failed sql params old new (λ _. ⊥) survives (survives_nothing_new old new survives) e settled (λ clean. inl (failed clean))
 
 module _ {S : Type 0} (g : Ghosts S) (old new : Held S) (cached : Option Office) (survives : Survives (state g old) (state g new) (λ _. ⊥)) where
   -- what the desk says if its connection prepared the empty statement
@@ -74,7 +77,7 @@ module _ {S : Type 0} (g : Ghosts S) (old new : Held S) (cached : Option Office)
       }
 
   -- what the desk says if its connection did not prepare it
-  pub tells_failed : (IsTrue (state g old).is_open → (state g old).now ≡ (state g old).committed) → (e : Error)
+  pub tells_failed : ShowsCommitted (state g old) → (e : Error)
       → (HasCleanDisk (state g new) → (params : Row) → IsNotRun (state g old) (state g new) [] params e)
       → (answer : Result Bool NoAnswer) → IfOk answer (λ is_open. (is_open ≡ false) × (e ≡ SqliteFailure code.Closed))
       → TellsIfOpen g (record { conn = old; cached = cached }) answer (record { conn = new; cached = cached })

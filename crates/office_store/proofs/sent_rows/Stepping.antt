@@ -13,7 +13,7 @@ use Rattle.sqlite_resolve.specs.declared.error.CompileError.{CompileError}
 use Rattle.sqlite.specs.Given.{Advances, HasBegun, HasGiven, IsPlain, Returns}
 use Rattle.sqlite.specs.Held.{Held, state}
 use Rattle.sqlite.specs.Listing.{understood}
-use Rattle.sqlite.specs.State.{State, HasCleanDisk, Survives, Shown, ShowsRows, IsUnchanged, FailsToQuery, FailsToShow, IsNotRun, IsRolledBack}
+use Rattle.sqlite.specs.State.{State, HasCleanDisk, CommitsShowing, Survives, Shown, ShowsRows, IsUnchanged, FailsToQuery, FailsToShow, IsNotRun, IsRolledBack}
 use Rattle.sqlite.proofs.Callers.{begins_as, begun_plain, given_begin, reads_as, unchanged_then}
 use Rattle.sqlite.proofs.StateLemmas.{survives_then}
 use Rattle.room_types.specs.Streams.{Output, Puts}
@@ -21,13 +21,16 @@ use Rattle.office_state.specs.declared.office.Office.{Office}
 use Rattle.office_lists.specs.Exports.{export_bytes, header_of, record_bytes}
 use Rattle.office_lists.specs.Records.{Record}
 use Rattle.office_lists.specs.declared.exports.ExportKind.{ExportKind}
+use Rattle.office_schema.specs.tables.Crashes.{LeavesNothingNew, ShowsCommitted}
 use Rattle.office_schema.specs.tables.Schema.{office_schema}
 use Rattle.office_schema.specs.tables.Steps.{Follows}
 use Rattle.office_schema.specs.tables.Tables.{HoldsOffice}
 use Rattle.office_schema.specs.tables.Queries.{alone}
+use Rattle.office_schema.proofs.statements.Crashes.{nothing_new_then, survives_nothing_new}
 use Rattle.office_schema.proofs.statements.Steps.{follows_then}
 use Rattle.office_db.specs.loading.Asking.{NeverReturns, OnlyAsks}
 use Rattle.office_db.specs.loading.Reading.{OnlyReads}
+use Rattle.office_db.proofs.found_offices.States.{asks_nothing_new}
 use Rattle.office_store.specs.exports.Asking.{AsksForExport}
 use Rattle.office_store.specs.exports.Ending.{EndsBetween, PutsCount, PutsExport, PutsPrefix}
 use Rattle.office_store.specs.declared.exports.ending.ExportEnd.TheVariants.{Unavailable}
@@ -84,11 +87,12 @@ export_follows a b Commits survives was_open = record {
 }
 
 -- A query that did not begin only reads.
-pub reads_refused : (sql : List ℕ) (params : Row) (a b : State) (Commits : Trees → Type 0) (e : Error) → Survives a b Commits → (IsTrue a.is_open → a.now ≡ a.committed)
+pub reads_refused : (sql : List ℕ) (params : Row) (a b : State) (Commits : Trees → Type 0) (e : Error) → Survives a b Commits → LeavesNothingNew a b → ShowsCommitted a
     → (HasCleanDisk b → FailsToQuery sql params a b e) → OnlyReads a b
-reads_refused sql params a b Commits e survives settled h = record {
+reads_refused sql params a b Commits e survives nothing settled h = record {
   follows = export_follows a b Commits survives (λ clean o. (keeps_failed sql params a b e (h clean) o).0);
   same = λ intact. let keeps = keeps_failed sql params a b e (h intact.0) intact.1 in (keeps.1 (settled keeps.0)).0;
+  crash = nothing;
 }
 
 never_both : (r : Result Compiled CompileError) → NeverReturns r → Returns r → ⊥
@@ -96,20 +100,22 @@ never_both (Ok c) never some = true≢false (sym (subst IsSome never some))
 never_both (Err e) never none = none
 
 -- A query that began, and whose rows were read, only reads.
-pub reads_through : {S : Type 0} (g : Ghosts S) (sql : List ℕ) (params : Row) (a b c : Held S) (Commits : Trees → Type 0) → OnlyAsks sql
-    → Survives (state g a) (state g b) Commits → (HasCleanDisk (state g b) → HasBegun g sql params a b)
-    → (IsTrue (state g a).is_open → (state g a).now ≡ (state g a).committed)
+pub reads_through : {S : Type 0} (g : Ghosts S) (sql : List ℕ) (params : Row) (a b c : Held S) → OnlyAsks sql
+    → Survives (state g a) (state g b) (CommitsShowing sql params (state g a)) → (HasCleanDisk (state g b) → HasBegun g sql params a b)
+    → ShowsCommitted (state g a)
     → Survives (state g b) (state g c) (λ _. ⊥) → (HasCleanDisk (state g c) → KeepsTables (state g b) (state g c)) → OnlyReads (state g a) (state g c)
-reads_through g sql params a b c Commits asks first begun settled next keeps =
+reads_through g sql params a b c asks first begun settled next keeps =
     let before : HasCleanDisk (state g c) → HasCleanDisk (state g b) = λ clean. omega (arith, clean, next.clean) in
     record {
       follows = follows_then (state g a) (state g b) (state g c)
-          (export_follows (state g a) (state g b) Commits first (λ clean o. was_open (begun clean)))
+          (export_follows (state g a) (state g b) (CommitsShowing sql params (state g a)) first (λ clean o. was_open (begun clean)))
           (export_follows (state g b) (state g c) (λ _. ⊥) next (λ clean o. (keeps clean o).0));
       same = λ intact.
           let same = unchanged (begun (before intact.0)) in
           let kept = keeps_then (state g a) (state g b) (state g c) (keeps_unchanged _ _ same) (keeps intact.0) intact.1 in
           (kept.1 (settled kept.0)).0;
+      crash = nothing_new_then (state g a) (state g b) (state g c) before (asks_nothing_new sql params (state g a) (state g b) asks first)
+          (survives_nothing_new (state g b) (state g c) next);
     }
   where
     was_open : HasBegun g sql params a b → IsTrue (state g a).is_open

@@ -3,6 +3,7 @@ ghost use Rattle.std.specs.Prelude.{◌≡◌, ◌⊎◌, ℤ, false, IfErr, IfO
 ghost use Rattle.sqlite.specs.Held.{state};
 ghost use Rattle.sqlite.specs.State.{HasCleanDisk};
 ghost use Rattle.office_state.specs.declared.office.Office.{Office as AnyOffice};
+ghost use Rattle.office_schema.specs.tables.Crashes.{LeavesOldOr};
 ghost use Rattle.office_schema.specs.tables.Layouts.{version_of};
 ghost use Rattle.office_schema.specs.tables.Steps.{Follows, IsIntact};
 ghost use Rattle.office_schema.specs.tables.Tables.{HoldsOfficeIn};
@@ -12,6 +13,7 @@ ghost use Rattle.office_db.specs.loading.Layout.{layout_in};
 ghost use Rattle.office_migration.specs.Causes.{AreRowsAsStated, HoldsEarlier, HoldsLayoutVersion, StatesVersion, HoldsEarlierFirst};
 ghost use Rattle.office_db.specs.loading.FirstTables.{BeginsOffice, begins_office};
 ghost use Rattle.office_migration.specs.Names.{uses_missing_name};
+ghost use Rattle.office_migration.specs.Renewed.{HoldsMigratedOffice};
 ghost use Rattle.office_migration.specs.Versions.{IsEarlierLayout, IsNotEarlier, IsOfVersion};
 ghost use Rattle.office_store.specs.Desk.{Shows};
 ghost use Rattle.office_store.specs.Migrating.{IsFaultOfMigration, MayNotMigrate, MayReturnFault, migrating_fault};
@@ -74,6 +76,11 @@ impl<S: Alter> Desk<S> {
             (λ back. Follows (state S.Store connection) (state S.Store back.connection)) }
         ensures undone { IfErr result (λ back. IsIntact (state S.Store back.connection)
             → (state S.Store back.connection).now ≡ (state S.Store connection).now) }
+        ensures crash { MatchResult result
+            (λ desk. LeavesOldOr (HoldsMigratedOffice (state S.Store connection).now)
+            (state S.Store connection) (state S.Store desk.conn))
+            (λ back. LeavesOldOr (HoldsMigratedOffice (state S.Store connection).now)
+            (state S.Store connection) (state S.Store back.connection)) }
         ensures allowed { IfErr result
             (λ back. IsFaultOfMigration (state S.Store connection).now.schema back.fault) }
         ensures cause { IfErr result (λ back. HasCleanDisk (state S.Store back.connection)

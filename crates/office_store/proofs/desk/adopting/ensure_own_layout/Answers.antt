@@ -1,4 +1,9 @@
+use Rattle.std.proofs.Common.{◌≢◌}
 use Rattle.std.proofs.lemmas.Result.{IfOk-weaker, on_ok_weaker}
+use Rattle.sqlite.specs.Held.{state}
+use Rattle.office_schema.specs.declared.tables.layouts.Layout.TheVariants.{Own}
+use Rattle.office_schema.proofs.statements.Crashes.{old_or_weaker}
+use Rattle.office_migration.specs.Renewed.{HoldsSameOffice}
 use Rattle.office_store.proofs.desk.adopting.ensure_own_layout.Goals as goal
 
 pub returns-in_default : goal.returns-in_default
@@ -11,4 +16,8 @@ returns-in_default g c = record {
   stored =
       IfOk-weaker c.renew_office.result _ _ (λ office stored clean lawful well_formed kind holds. stored clean c.args.found.office lawful well_formed kind holds) c.renew_office.ensures.stored;
   undone = c.renew_office.ensures.undone;
+  crash =
+      let before = (state g.S.Store c.args.conn.now).now in
+      old_or_weaker (HoldsSameOffice c.args.found.layout before) (λ after. (c.args.found.layout ≢ Own) × HoldsSameOffice c.args.found.layout before after)
+      (state g.S.Store c.args.conn.now) (state g.S.Store c.renew_office.new.conn) (λ clean after holds. (c.in_default.not-Own, holds)) c.renew_office.ensures.crash;
 }

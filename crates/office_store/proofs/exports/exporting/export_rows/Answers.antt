@@ -3,6 +3,7 @@ use Rattle.sqlite.specs.Held.{Held, state}
 use Rattle.sqlite.specs.State.{CommitsShowing, FailsToQuery, HasCleanDisk, Survives}
 use Rattle.office_db.specs.loading.Reading.{OnlyReads}
 use Rattle.office_db.specs.loading.Asking.{OnlyAsks}
+use Rattle.office_db.proofs.found_offices.States.{asks_nothing_new}
 use Rattle.office_store.proofs.sent_rows.Stepping.{asked_of, reads_refused, reads_through}
 use Rattle.office_store.proofs.exports.exporting.export_rows.Goals as goal
 
@@ -13,14 +14,15 @@ returns-in_default-clause-reads g c =
     let held = c.query-2.follows.holds-at-none in
     let kept : Survives old new (CommitsShowing c.query.result.now [] old) = search rules in
     let fails : HasCleanDisk new → FailsToQuery c.query.result.now [] old new c.in_default.field-0 = search rules in
-    reads_refused c.query.result.now [] old new _ c.in_default.field-0 kept (c.is_autocommit-outside.ensures.settled (c.is_autocommit-outside.ensures.value ∙ ap not c.requires)) fails
+    let asks = subst OnlyAsks (sym c.query.ensures.text) c.query.ensures.asks.asks in
+    reads_refused c.query.result.now [] old new _ c.in_default.field-0 kept (asks_nothing_new c.query.result.now [] old new asks kept) (c.is_autocommit-outside.ensures.settled (c.is_autocommit-outside.ensures.value ∙ ap not c.requires)) fails
 
 pub returns-clause-reads : goal.returns-clause-reads
 returns-clause-reads g c =
     let same : c.conn-2-1.given.0 ≡ c.send_rows.new.rows.conn.now = search rules in
     let asks = subst OnlyAsks (sym c.query.ensures.text) c.query.ensures.asks.asks in
     subst (λ (h : Held g.row.S.Denot). OnlyReads (state g.S.Store c.args.conn.now) (state g.S.Store h)) (sym same)
-    (reads_through g.S.Store c.query.result.now [] c.args.conn.now c.in-Ok.rows.conn.now c.send_rows.new.rows.conn.now _ asks c.in-Ok.ensures.survives c.in-Ok.ensures.begun
+    (reads_through g.S.Store c.query.result.now [] c.args.conn.now c.in-Ok.rows.conn.now c.send_rows.new.rows.conn.now asks c.in-Ok.ensures.survives c.in-Ok.ensures.begun
     (c.is_autocommit-outside.ensures.settled (c.is_autocommit-outside.ensures.value ∙ ap not c.requires)) c.send_rows.ensures.survives c.send_rows.ensures.keeps)
 
 pub returns-clause-whole : goal.returns-clause-whole
