@@ -8,10 +8,11 @@ use Rattle.office_file.specs.Access.{FileAccess}
 use Rattle.office_db.specs.loading.Finding.{AreDeclared, AreWhole, HoldsOtherVersion, names_round}
 use Rattle.office_db.specs.loading.FirstTables.{BeginsOffice, begins_office}
 use Rattle.office_db.specs.loading.Layout.{layout_in}
-use Rattle.office_store.specs.Adopting.{IsFaultOf, MayRefuse, HasOwnLayout}
+use Rattle.office_store.specs.Adopting.{CommitsAdopted, IsFaultOf, MayRefuse, HasOwnLayout}
 use Rattle.office_store.specs.Desk.{DeskState, Shows}
 use Rattle.office_store.specs.declared.desk.faults.DeskFault.{DeskFault}
 use Rattle.office_store.specs.declared.desk.faults.DeskFault.TheVariants.{NotAnOffice, OtherVersion, Unavailable}
+use Rattle.office_schema.specs.tables.Crashes.{LeavesOldOr}
 use Rattle.office_schema.specs.tables.Steps.{Follows, IsIntact}
 use Rattle.office_schema.specs.tables.Tables.{HoldsOfficeIn}
 use Rattle.office_schema.specs.declared.tables.layouts.Layout.{Layout}
@@ -38,7 +39,7 @@ module _ {S : Type 0} (g : Ghosts S) where
   -- which is in no transaction. If `refused` is intact, the tables are unchanged (`undone`). If the schema does not
   -- begin with the first three tables of an office, the connection is unchanged (`unread`). If nothing has the name
   -- of table `round`, the fault is `NotAnOffice` (`absent`). The schema allows the fault, whatever the disk does
-  -- (`allowed`).
+  -- (`allowed`). A crash leaves what it could leave before, or the same office in tables made anew (`crash`).
   --
   -- If the disk returned what was written and the tables are declared as those of an office, the database has a cause
   -- for the fault (`cause`). If the disk returned what was written, the first three tables are an office's, and the
@@ -55,13 +56,15 @@ module _ {S : Type 0} (g : Ghosts S) where
         → MayRefuse (state g connection).now fault
     pub other : (version : ℤ) → BeginsOffice (state g connection).now.schema → HoldsOtherVersion (state g connection).now version
         → HasCleanDisk (state g refused) → (fault ≡ Unavailable) ⊎ (fault ≡ OtherVersion version)
+    pub crash : LeavesOldOr (CommitsAdopted (state g connection).now) (state g connection) (state g refused)
 
 module _ {F S : Type 0} (access : FileAccess F S) where
   -- The desk uses the database that was opened. Its tables had a layout of the version of this program (`laid`). The
   -- desk caches an office (`cached`). It shows the office that the tables held (`shows`), and leaves tables in the
   -- layout that this program creates unchanged (`unchanged`); `ShowsFound` and `LeavesFound` state the premises. If
   -- the first three tables are an office's and the row of table `round` holds another version, the disk did not
-  -- return what was written (`other`).
+  -- return what was written (`other`). A crash leaves what it could leave before, or the same office in tables made
+  -- anew (`crash`).
   pub record OpensFound (files : F) (path : List ℕ) (desk : DeskState S) (files' : F) : Type 0 where
     pub connection : Held S
     pub opened : access.finds files path connection files'
@@ -72,6 +75,8 @@ module _ {F S : Type 0} (access : FileAccess F S) where
     pub unchanged : LeavesFound access.base connection desk
     pub other : (version : ℤ) → BeginsOffice (state access.base connection).now.schema
         → HoldsOtherVersion (state access.base connection).now version → ¬ HasCleanDisk (state access.base desk.conn)
+    pub crash : LeavesOldOr (CommitsAdopted (state access.base connection).now) (state access.base connection)
+        (state access.base desk.conn)
 
   -- The file was opened, its database was refused with this fault (`RefusesFound`), and the connection was closed.
   pub record ClosesFound (files : F) (path : List ℕ) (fault : DeskFault) (files' : F) : Type 0 where

@@ -2,19 +2,23 @@
 use Rattle.std.specs.Prelude.{◌≡◌, ◌≢◌, ◌⊎◌, ℕ, List, IfErr, Result, false}
 use Rattle.sqlite.specs.Held.{Held, state}
 use Rattle.sqlite_trees.specs.declared.store.Store.{Ghosts}
+use Rattle.office_state.specs.Office.{empty_office}
 use Rattle.office_db.specs.creation.Names.{NameIsTaken}
 use Rattle.office_file.specs.Access.{FileAccess}
 use Rattle.office_store.specs.Desk.{DeskState}
 use Rattle.office_store.specs.declared.desk.faults.DeskFault.{DeskFault}
 use Rattle.office_store.specs.declared.desk.faults.DeskFault.TheVariants.{AlreadyThere, Unavailable}
+use Rattle.office_schema.specs.tables.Crashes.{LeavesOldOr}
 use Rattle.office_schema.specs.tables.Schema.{no_schema}
 use Rattle.office_schema.specs.tables.Steps.{Follows, IsIntact}
+use Rattle.office_schema.specs.tables.Tables.{HoldsOffice}
 
 module _ {S : Type 0} (g : Ghosts S) where
   -- `Desk::create` refuses the database of `connection` with this fault, and returns the connection as `refused`,
   -- which is in no transaction. The fault is `AlreadyThere` if and only if something has the name of one of an
   -- office's tables; otherwise it is `Unavailable`. If the schema is not empty, the connection is unchanged (`taken`,
-  -- `foreign`). If `refused` is intact, the tables are unchanged (`undone`).
+  -- `foreign`). If `refused` is intact, the tables are unchanged (`undone`). A crash leaves what it could leave before,
+  -- or the empty office (`crash`).
   pub record RefusesNew (connection refused : Held S) (fault : DeskFault) : Type 0 where
     pub outside : refused.in_transaction ≡ false
     pub follows : Follows (state g connection) (state g refused)
@@ -23,14 +27,18 @@ module _ {S : Type 0} (g : Ghosts S) where
     pub taken : NameIsTaken (state g connection).now → (fault ≡ AlreadyThere) × (refused ≡ connection)
     pub foreign : ¬ NameIsTaken (state g connection).now → (state g connection).now.schema ≢ no_schema
         → (fault ≡ Unavailable) × (refused ≡ connection)
+    pub crash : LeavesOldOr (λ after. HoldsOffice after empty_office) (state g connection) (state g refused)
 
 module _ {F S : Type 0} (access : FileAccess F S) where
-  -- The desk uses the database that was opened, whose schema was empty.
+  -- The desk uses the database that was opened, whose schema was empty. A crash leaves what it could leave before, or
+  -- the empty office (`crash`).
   pub record OpensBlank (files : F) (path : List ℕ) (desk : DeskState S) (files' : F) : Type 0 where
     pub connection : Held S
     pub opened : access.opens files path connection files'
     pub blank : (state access.base connection).now.schema ≡ no_schema
     pub follows : Follows (state access.base connection) (state access.base desk.conn)
+    pub crash : LeavesOldOr (λ after. HoldsOffice after empty_office) (state access.base connection)
+        (state access.base desk.conn)
 
   -- The file was opened, its database was refused with this fault (`RefusesNew`), and the connection was closed.
   pub record ClosesNew (files : F) (path : List ℕ) (fault : DeskFault) (files' : F) : Type 0 where

@@ -10,11 +10,13 @@ use Rattle.office_db.specs.loading.Layout.{layout_in}
 use Rattle.office_db.specs.loading.FirstTables.{BeginsOffice, begins_office}
 use Rattle.office_migration.specs.Causes.{AreRowsAsStated, HoldsLayoutVersion, StatesVersion, HoldsEarlierFirst}
 use Rattle.office_migration.specs.Names.{uses_missing_name}
+use Rattle.office_migration.specs.Renewed.{HoldsMigratedOffice}
 use Rattle.office_migration.specs.Versions.{IsEarlierLayout, IsNotEarlier, IsOfVersion}
 use Rattle.office_store.specs.Desk.{DeskState, Shows}
 use Rattle.office_store.specs.Migrating.{IsFaultOfMigration, MayNotMigrate, MayReturnFault}
 use Rattle.office_store.specs.declared.desk.faults.DeskFault.{DeskFault}
 use Rattle.office_store.specs.declared.desk.faults.DeskFault.TheVariants.{AlreadyThere, NotAnOffice, OtherVersion, Unavailable}
+use Rattle.office_schema.specs.tables.Crashes.{LeavesOldOr}
 use Rattle.office_schema.specs.tables.Layouts.{version_of}
 use Rattle.office_schema.specs.tables.Steps.{Follows, IsIntact}
 use Rattle.office_schema.specs.tables.Tables.{HoldsOfficeIn}
@@ -35,7 +37,7 @@ module _ {S : Type 0} (g : Ghosts S) where
   -- which is in no transaction. If `refused` is intact, the tables are unchanged (`undone`). If the schema does not
   -- begin with the first three tables of an office, the connection is unchanged (`unread`). If nothing has the name
   -- of table `round`, the fault is `NotAnOffice` (`absent`). The schema allows the fault, whatever the disk does
-  -- (`allowed`).
+  -- (`allowed`). A crash leaves what it could leave before, or the same office in migrated tables (`crash`).
   --
   -- The other fields hold if the disk returned what was written. If the tables are declared as those of an office,
   -- the database has a cause for the fault (`cause`). If the first three tables are an office's, whatever tables
@@ -61,6 +63,7 @@ module _ {S : Type 0} (g : Ghosts S) where
     pub rows : fault ≡ AlreadyThere → HasCleanDisk (state g refused) → AreRowsAsStated (state g connection).now
     pub other : (version : ℤ) → StatesVersion (state g connection).now version → IsNotEarlier version
         → HasCleanDisk (state g refused) → (fault ≡ Unavailable) ⊎ (fault ≡ OtherVersion version)
+    pub crash : LeavesOldOr (HoldsMigratedOffice (state g connection).now) (state g connection) (state g refused)
 
 module _ {F S : Type 0} (access : FileAccess F S) where
   -- The desk uses the database that was opened. Its tables had a layout of an earlier version (`laid`). The desk
@@ -68,7 +71,7 @@ module _ {F S : Type 0} (access : FileAccess F S) where
   -- written, the row of table `round` held the version of that layout (`stated`). In two cases the disk did not
   -- return what was written: the row of table `round` held a version other than 1 and 2 (`other`); or the database
   -- began with the rows of an office of an earlier version, and something had the name of a table that this version
-  -- lacks (`taken`).
+  -- lacks (`taken`). A crash leaves what it could leave before, or the same office in migrated tables (`crash`).
   pub record OpensMigrated (files : F) (path : List ℕ) (desk : DeskState S) (files' : F) : Type 0 where
     pub connection : Held S
     pub opened : access.finds files path connection files'
@@ -82,6 +85,8 @@ module _ {F S : Type 0} (access : FileAccess F S) where
         → ¬ HasCleanDisk (state access.base desk.conn)
     pub other : (version : ℤ) → StatesVersion (state access.base connection).now version → IsNotEarlier version
         → ¬ HasCleanDisk (state access.base desk.conn)
+    pub crash : LeavesOldOr (HoldsMigratedOffice (state access.base connection).now) (state access.base connection)
+        (state access.base desk.conn)
 
   -- The file was opened, its database was refused with this fault (`RefusesMigration`), and the connection was
   -- closed.

@@ -14,6 +14,7 @@ returns-in-Err-create-clause-cause g c = inr (record {
     cause = c.in-Err-create.ensures.cause;
     taken = c.in-Err-create.ensures.taken;
     foreign = c.in-Err-create.ensures.foreign;
+    crash = c.in-Err-create.ensures.crash;
   };
   closed = c.close.ensures;
 })

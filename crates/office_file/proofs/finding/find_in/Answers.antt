@@ -1,6 +1,19 @@
 use Rattle.std.proofs.Common.{inr}
 use Rattle.office_file.proofs.finding.find_in.Goals as goal
 
+pub returns-in-Ok-adopt-clause-shows : goal.returns-in-Ok-adopt-clause-shows
+returns-in-Ok-adopt-clause-shows g c = record {
+  connection = c.in-Ok.connection;
+  opened = c.in-Ok.ensures.found;
+  laid = c.in-Ok-adopt.ensures.laid;
+  follows = c.in-Ok-adopt.ensures.follows;
+  cached = c.in-Ok-adopt.ensures.cached;
+  shows = c.in-Ok-adopt.ensures.shows;
+  unchanged = c.in-Ok-adopt.ensures.unchanged;
+  other = c.in-Ok-adopt.ensures.other;
+  crash = c.in-Ok-adopt.ensures.crash;
+}
+
 pub returns-in-Err-adopt-clause-cause : goal.returns-in-Err-adopt-clause-cause
 returns-in-Err-adopt-clause-cause g c = inr (record {
   connection = c.in-Ok.connection;
@@ -16,6 +29,7 @@ returns-in-Err-adopt-clause-cause g c = inr (record {
     allowed = c.in-Err-adopt.ensures.allowed;
     cause = c.in-Err-adopt.ensures.cause;
     other = c.in-Err-adopt.ensures.other;
+    crash = c.in-Err-adopt.ensures.crash;
   };
   closed = c.close.ensures;
 })

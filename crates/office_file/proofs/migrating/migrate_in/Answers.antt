@@ -12,6 +12,7 @@ returns-in-Ok-migrate-clause-shows g c = record {
   shows = c.in-Ok-migrate.ensures.shows;
   taken = c.in-Ok-migrate.ensures.taken;
   other = c.in-Ok-migrate.ensures.other;
+  crash = c.in-Ok-migrate.ensures.crash;
 }
 
 pub returns-in-Err-migrate-clause-cause : goal.returns-in-Err-migrate-clause-cause
@@ -32,6 +33,7 @@ returns-in-Err-migrate-clause-cause g c = inr (record {
     taken = c.in-Err-migrate.ensures.taken;
     rows = c.in-Err-migrate.ensures.rows;
     other = c.in-Err-migrate.ensures.other;
+    crash = c.in-Err-migrate.ensures.crash;
   };
   closed = c.close.ensures;
 })
