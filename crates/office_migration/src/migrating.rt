@@ -1,5 +1,6 @@
 //! Migrates the tables of an office of an earlier version to the version of this program.
-ghost use Rattle.std.specs.Prelude.{◌≡◌, ◌⊎◌, ◌≢◌, ◌<◌, ◌≤◌, false, pos, codes, None as nothing, Err, Decides, IfErr, IfOk, IfSome, IsErrAnd, IsTrue, MatchResult, OnErr, OnOk};
+ghost use Rattle.std.specs.Prelude.{◌≡◌, ◌≢◌, ◌⊎◌, ◌<◌, ◌≤◌, false, pos, codes, None as nothing, Err, Decides};
+ghost use Rattle.std.specs.Prelude.{IfErr, IfOk, IfSome, IsErrAnd, IsTrue, MatchResult, OnErr, OnOk};
 ghost use Rattle.sqlite.specs.Held.{state};
 ghost use Rattle.sqlite.specs.State.{HasCleanDisk};
 ghost use Rattle.office_state.specs.Office.Invariants.{IsLawful};
@@ -42,8 +43,8 @@ pub enum MigrateFault {
     /// The row of table `round` holds this version, which is neither 1 nor 2.
     OtherVersion(i64),
     /// Nothing has the name of table `round`; or a table of the version in table `round` is absent or declared in
-    /// another way than an office's; or the first tables of the schema do not hold the rows of an office of version 1 or
-    /// 2.
+    /// another way than an office's; or the first tables of the schema do not hold the rows of an office of version 1
+    /// or 2.
     NotAnOffice,
     /// Something has the name of a table that the version in table `round` lacks, so the migration cannot create that
     /// table. If the migration finds that the rows are wrong too, it returns `NotAnOffice` instead.
@@ -61,8 +62,8 @@ pub enum MigrateFault {
 ///
 /// - `NotAnOffice` if nothing has the name of table `round`.
 /// - `Unavailable` if there is a view, or if the first three tables are not `room`, `person` and `round` as an office
-///   declares them, each in the tree where an office keeps it. Triggers, and tables that the engine does not understand,
-///   count as views. In this case and in the first one, no statement has run.
+///   declares them, each in the tree where an office keeps it. Triggers, and tables that the engine does not
+///   understand, count as views. In this case and in the first one, no statement has run.
 /// - `NotAnOffice` if table `round` does not have exactly one row.
 /// - `Unavailable` if the version in this row is not an integer.
 /// - `OtherVersion` if the version in this row is neither 1 nor 2.

@@ -133,8 +133,16 @@ column-Decides own column =
       default = h.0.1 i;
       collation = h.1 i;
     })
-    (λ p. (((((ap (λ (c : Column). c.name) p, ap (λ (c : Column). c.kind) p), ap (λ (c : Column). c.is_strict) p),
-    ap (λ (c : Column). c.not_null) p), ap (λ (c : Column). c.default) p), ap (λ (c : Column). c.collation) p))
+    (λ p. (
+      (
+        (
+          ((ap (λ (c : Column). c.name) p, ap (λ (c : Column). c.kind) p), ap (λ (c : Column). c.is_strict) p),
+          ap (λ (c : Column). c.not_null) p,
+        ),
+        ap (λ (c : Column). c.default) p,
+      ),
+      ap (λ (c : Column). c.collation) p,
+    ))
     (Decides-and _ _ (Decides-and _ _ (Decides-and _ _ (Decides-and _ _
     (Decides-and _ _ (bytes_eq-Decides column.name own.0) (kind-Decides column.kind own.1)) (bool-Decides column.is_strict))
     (same_bool-Decides own.2 column.not_null)) (null-Decides column.default)) (binary-Decides column.collation))
@@ -170,9 +178,19 @@ reference-Decides own reference =
       on_update = h.0.1 i;
       is_deferred = h.1 i;
     })
-    (λ p. (((((ap (λ (r : Reference). r.parent) p, ap (λ (r : Reference). r.parent_columns) p),
-    ap (λ (r : Reference). r.columns) p), ap (λ (r : Reference). r.on_delete) p), ap (λ (r : Reference). r.on_update) p),
-    ap (λ (r : Reference). r.is_deferred) p))
+    (λ p. (
+      (
+        (
+          (
+            (ap (λ (r : Reference). r.parent) p, ap (λ (r : Reference). r.parent_columns) p),
+            ap (λ (r : Reference). r.columns) p,
+          ),
+          ap (λ (r : Reference). r.on_delete) p,
+        ),
+        ap (λ (r : Reference). r.on_update) p,
+      ),
+      ap (λ (r : Reference). r.is_deferred) p,
+    ))
     (Decides-and _ _ (Decides-and _ _ (Decides-and _ _ (Decides-and _ _
     (Decides-and _ _ (bytes_eq-Decides reference.parent own.0) (only_name-Decides own.1 reference.parent_columns))
     (only_place-Decides own.2 reference.columns)) (action-Decides reference.on_delete)) (action-Decides reference.on_update))

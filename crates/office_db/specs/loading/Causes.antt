@@ -53,9 +53,9 @@ IsNotOwn Unavailable = ⊤
 IsNotOwn NotAnOffice = ⊤
 
 -- The schema allows this fault, even if the disk fails. For `NotAnOffice`, nothing has the name of table `round`; or
--- the schema is that of a layout; or it begins with the first three tables of an office, and one of the others is absent
--- or declared in another way. For `OtherVersion`, the schema begins with the first three tables, and the version is not
--- the version of this program.
+-- the schema is that of a layout; or it begins with the first three tables of an office, and one of the others is
+-- absent or declared in another way. For `OtherVersion`, the schema begins with the first three tables, and the version
+-- is not the version of this program.
 abbrev pub IsAllowed : Schema → FindFault → Type 0
 IsAllowed schema Unavailable = ⊤
 IsAllowed schema NotAnOffice =

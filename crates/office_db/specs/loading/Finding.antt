@@ -23,8 +23,8 @@ names_round schema = is_used schema (codes "round")
 abbrev pub Declares : Schema → Table → Type 0
 Declares schema own = (tree : ℕ) × Contains schema.tables (record own { tree = tree })
 
--- Each table of the layout is declared, in whatever tree and order. Other tables may be there, too. Of the ten tables in
--- the order of `docs/formats.md`, version 1 has the first eight, and version 2 the first nine.
+-- Each table of the layout is declared, in whatever tree and order. Other tables may be there, too. Of the ten tables
+-- in the order of `docs/formats.md`, version 1 has the first eight, and version 2 the first nine.
 abbrev pub DeclaresTables : Layout → Schema → Type 0
 DeclaresTables layout schema =
     AllByRecursion (Declares schema) (take (table_count layout) documented_schema.tables)

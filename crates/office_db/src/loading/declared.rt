@@ -6,8 +6,8 @@ ghost use Rattle.sqlite_schema.specs.Code.{term_to, terms_in};
 ghost use Rattle.office_schema.specs.tables.Schema.{either, equals, is_digit};
 ghost use Rattle.office_db.specs.loading.Inner.Declared.{are_places, checks_of, has_columns, has_rules, is_binary};
 ghost use Rattle.office_db.specs.loading.Inner.Declared.{is_column, is_null, is_only_name, is_only_place, is_plain};
-ghost use Rattle.office_db.specs.loading.Inner.Declared.{is_reference, is_unstamped, kind_code, office_table, same_bool};
-ghost use Rattle.office_db.specs.loading.Inner.Declared.{same_key, table_in, takes_no_action};
+ghost use Rattle.office_db.specs.loading.Inner.Declared.{is_reference, is_unstamped, kind_code, office_table};
+ghost use Rattle.office_db.specs.loading.Inner.Declared.{same_bool, same_key, table_in, takes_no_action};
 ghost use Rattle.office_db.specs.loading.Inner.Lists.{pass_all};
 
 use sqlite_schema::code::{Op, Terms};

@@ -29,9 +29,9 @@ use std::alloc::Global;
 /// Why no office was found.
 #[derive(Clone, Copy, Debug, PartialEq, Eq)]
 pub enum FindFault {
-    /// The database failed, memory ran out, the rowids of a table do not ascend, or the tables are those of an office in
-    /// no known layout: they were created in an unknown order, or something else is declared next to them. If there is
-    /// a view, or if table `round` is not the third table or is declared in another way than an office's, it is
+    /// The database failed, memory ran out, the rowids of a table do not ascend, or the tables are those of an office
+    /// in no known layout: they were created in an unknown order, or something else is declared next to them. If there
+    /// is a view, or if table `round` is not the third table or is declared in another way than an office's, it is
     /// `Unavailable` too, since the version is then unknown.
     Unavailable,
     /// Nothing has the name of table `round`; or a table of an office is absent or declared in another way; or the
@@ -61,8 +61,8 @@ pub struct Found {
 /// - `OtherVersion` only if the row of table `round` holds the version in the fault, and this is not the version of
 ///   this program. Any tables may follow the first three.
 /// - `NotAnOffice` only if the row of table `round` holds no version other than this program's. Either the schema is in
-///   a known layout, but the tables do not hold the rows of a lawful office; or a table is absent or declared in another
-///   way than an office's.
+///   a known layout, but the tables do not hold the rows of a lawful office; or a table is absent or declared in
+///   another way than an office's.
 /// - `Unavailable` if the database fails, if memory runs out, or if the rowids of a table do not ascend. `find` also
 ///   returns it if all tables of an office are there, but in no known layout, and if the first three tables are not
 ///   `room`, `person` and `round` as an office declares them, each in the tree that all layouts give it.

@@ -22,8 +22,8 @@ pub fn names_round(schema: &Schema) -> bool
 }
 
 /// Returns the known layout whose schema this is, or `None` if there is none. The schema has exactly the tables of the
-/// layout, with their declarations, in the same order and in the same trees. It has their indexes, and no others. It has
-/// no views.
+/// layout, with their declarations, in the same order and in the same trees. It has their indexes, and no others. It
+/// has no views.
 pub fn layout_in(schema: &Schema) -> Option<Layout>
     ensures laid { IfSome result (λ layout. schema.now ≡ schema_of layout) }
     ensures unknown { result ≡ nothing → (layout : AnyLayout) → schema.now ≢ schema_of layout }

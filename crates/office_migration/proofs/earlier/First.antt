@@ -97,32 +97,123 @@ there tables k table below is = (k, ltb-true k (length tables) below, is)
 
 own_declares : (layout : Layout) → DeclaresTables layout (schema_of layout)
 own_declares Own =
-    let at = there (schema_of Own).tables in
-    ((0, at 0 (room 0) refl refl), ((2, at 1 (person 2) refl refl), ((6, at 2 (round 6) refl refl),
-    ((18, at 8 (choice 18) refl refl), ((13, at 6 (word 13) refl refl), ((15, at 7 (result 15) refl refl),
-    ((7, at 3 (move 7) refl refl), ((9, at 4 (list 9) refl refl), ((11, at 5 (grade 11) refl refl),
-    ((21, at 9 (going 21) refl refl), tt))))))))))
+    let at = there (schema_of Own).tables in (
+      (0, at 0 (room 0) refl refl),
+      (
+        (2, at 1 (person 2) refl refl),
+        (
+          (6, at 2 (round 6) refl refl),
+          (
+            (18, at 8 (choice 18) refl refl),
+            (
+              (13, at 6 (word 13) refl refl),
+              (
+                (15, at 7 (result 15) refl refl),
+                (
+                  (7, at 3 (move 7) refl refl),
+                  (
+                    (9, at 4 (list 9) refl refl),
+                    (
+                      (11, at 5 (grade 11) refl refl),
+                      ((21, at 9 (going 21) refl refl), tt),
+                    ),
+                  ),
+                ),
+              ),
+            ),
+          ),
+        ),
+      ),
+    )
 own_declares Documented =
-    let at = there (schema_of Documented).tables in
-    ((0, at 0 (room 0) refl refl), ((2, at 1 (person 2) refl refl), ((6, at 2 (round 6) refl refl),
-    ((7, at 3 (choice 7) refl refl), ((10, at 4 (word 10) refl refl), ((12, at 5 (result 12) refl refl),
-    ((15, at 6 (move 15) refl refl), ((17, at 7 (list 17) refl refl), ((19, at 8 (grade 19) refl refl),
-    ((21, at 9 (going 21) refl refl), tt))))))))))
+    let at = there (schema_of Documented).tables in (
+      (0, at 0 (room 0) refl refl),
+      (
+        (2, at 1 (person 2) refl refl),
+        (
+          (6, at 2 (round 6) refl refl),
+          (
+            (7, at 3 (choice 7) refl refl),
+            (
+              (10, at 4 (word 10) refl refl),
+              (
+                (12, at 5 (result 12) refl refl),
+                (
+                  (15, at 6 (move 15) refl refl),
+                  (
+                    (17, at 7 (list 17) refl refl),
+                    (
+                      (19, at 8 (grade 19) refl refl),
+                      ((21, at 9 (going 21) refl refl), tt),
+                    ),
+                  ),
+                ),
+              ),
+            ),
+          ),
+        ),
+      ),
+    )
 own_declares DocumentedSecond =
-    let at = there (schema_of DocumentedSecond).tables in
-    ((0, at 0 (room 0) refl refl), ((2, at 1 (person 2) refl refl), ((6, at 2 (round 6) refl refl),
-    ((7, at 3 (choice 7) refl refl), ((10, at 4 (word 10) refl refl), ((12, at 5 (result 12) refl refl),
-    ((15, at 6 (move 15) refl refl), ((17, at 7 (list 17) refl refl), ((19, at 8 (grade 19) refl refl), tt)))))))))
+    let at = there (schema_of DocumentedSecond).tables in (
+      (0, at 0 (room 0) refl refl),
+      (
+        (2, at 1 (person 2) refl refl),
+        (
+          (6, at 2 (round 6) refl refl),
+          (
+            (7, at 3 (choice 7) refl refl),
+            (
+              (10, at 4 (word 10) refl refl),
+              (
+                (12, at 5 (result 12) refl refl),
+                ((15, at 6 (move 15) refl refl), ((17, at 7 (list 17) refl refl), ((19, at 8 (grade 19) refl refl), tt))),
+              ),
+            ),
+          ),
+        ),
+      ),
+    )
 own_declares DocumentedFirst =
-    let at = there (schema_of DocumentedFirst).tables in
-    ((0, at 0 (room 0) refl refl), ((2, at 1 (person 2) refl refl), ((6, at 2 (round 6) refl refl),
-    ((7, at 3 (choice 7) refl refl), ((10, at 4 (word 10) refl refl), ((12, at 5 (result 12) refl refl),
-    ((15, at 6 (move 15) refl refl), ((17, at 7 (list 17) refl refl), tt))))))))
+    let at = there (schema_of DocumentedFirst).tables in (
+      (0, at 0 (room 0) refl refl),
+      (
+        (2, at 1 (person 2) refl refl),
+        (
+          (6, at 2 (round 6) refl refl),
+          (
+            (7, at 3 (choice 7) refl refl),
+            (
+              (10, at 4 (word 10) refl refl),
+              (
+                (12, at 5 (result 12) refl refl),
+                ((15, at 6 (move 15) refl refl), ((17, at 7 (list 17) refl refl), tt)),
+              ),
+            ),
+          ),
+        ),
+      ),
+    )
 own_declares EarlierFirst =
-    let at = there (schema_of EarlierFirst).tables in
-    ((0, at 0 (room 0) refl refl), ((2, at 1 (person 2) refl refl), ((6, at 2 (round 6) refl refl),
-    ((16, at 7 (choice 16) refl refl), ((11, at 5 (word 11) refl refl), ((13, at 6 (result 13) refl refl),
-    ((7, at 3 (move 7) refl refl), ((9, at 4 (list 9) refl refl), tt))))))))
+    let at = there (schema_of EarlierFirst).tables in (
+      (0, at 0 (room 0) refl refl),
+      (
+        (2, at 1 (person 2) refl refl),
+        (
+          (6, at 2 (round 6) refl refl),
+          (
+            (16, at 7 (choice 16) refl refl),
+            (
+              (11, at 5 (word 11) refl refl),
+              (
+                (13, at 6 (result 13) refl refl),
+                ((7, at 3 (move 7) refl refl), ((9, at 4 (list 9) refl refl), tt)),
+              ),
+            ),
+          ),
+        ),
+      ),
+    )
 
 -- What the first tables declare, all declare.
 all_declare : (few all : Schema) → ((table : Table) → Contains few.tables table → Contains all.tables table) → (owns : List Table)
