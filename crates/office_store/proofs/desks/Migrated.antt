@@ -13,11 +13,11 @@ use Rattle.office_schema.specs.cells.WellFormed.{IsWellFormed}
 use Rattle.office_schema.specs.rows.Tables.{own_version, rows_at, rows_of}
 use Rattle.office_schema.specs.tables.Steps.{IsIntact}
 use Rattle.office_schema.specs.tables.Tables.{HoldsOffice}
-use Rattle.office_migration.specs.Causes.{HasCause, IsAllowed, MayReturn}
+use Rattle.office_migration.specs.Causes.{HasCause, IsAllowed}
 use Rattle.office_migration.specs.declared.migrating.MigrateFault.{MigrateFault}
 use Rattle.office_migration.specs.declared.migrating.MigrateFault.TheVariants as migrate
 use Rattle.office_store.specs.Desk.{Shows}
-use Rattle.office_store.specs.Migrating.{IsFaultOfMigration, MayNotMigrate, MayReturnFault, migrating_fault}
+use Rattle.office_store.specs.Migrating.{IsFaultOfMigration, MayNotMigrate, migrating_fault}
 use Rattle.office_store.specs.declared.desk.faults.DeskFault.TheVariants.{AlreadyThere}
 
 -- A fault that a migration may return is one that the desk may return.
@@ -26,12 +26,6 @@ may_not_migrate db migrate.Unavailable cause = tt
 may_not_migrate db (migrate.OtherVersion version) cause = cause
 may_not_migrate db migrate.NotAnOffice cause = cause
 may_not_migrate db migrate.AlreadyThere cause = cause
-
-pub may_return : (db : Database) (fault : MigrateFault) → MayReturn db fault → MayReturnFault db (migrating_fault fault)
-may_return db migrate.Unavailable returned = tt
-may_return db (migrate.OtherVersion version) returned = returned
-may_return db migrate.NotAnOffice returned = returned
-may_return db migrate.AlreadyThere returned = returned
 
 pub fault_of_migration : (schema : Schema) (fault : MigrateFault) → IsAllowed schema fault → IsFaultOfMigration schema (migrating_fault fault)
 fault_of_migration schema migrate.Unavailable allowed = tt

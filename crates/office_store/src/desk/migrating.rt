@@ -1,22 +1,21 @@
 //! Opens desks over an office in the tables of an earlier version.
-ghost use Rattle.std.specs.Prelude.{◌≡◌, ◌⊎◌, ℤ, false, IfErr, IfOk, IsErrAnd, IsSome, IsTrue, MatchResult, OnOk, Some};
+ghost use Rattle.std.specs.Prelude.{◌≡◌, ◌⊎◌, ℤ, false, IfErr, IfOk, IsErrAnd, IsSome, IsTrue, MatchResult, OnOk};
 ghost use Rattle.sqlite.specs.Held.{state};
 ghost use Rattle.sqlite.specs.State.{HasCleanDisk};
 ghost use Rattle.office_state.specs.declared.office.Office.{Office as AnyOffice};
 ghost use Rattle.office_schema.specs.tables.Crashes.{LeavesOldOr};
-ghost use Rattle.office_schema.specs.tables.Layouts.{version_of};
+ghost use Rattle.office_schema.specs.tables.Layouts.{schema_of, version_of};
 ghost use Rattle.office_schema.specs.tables.Steps.{Follows, IsIntact};
 ghost use Rattle.office_schema.specs.tables.Tables.{HoldsOfficeIn};
 ghost use Rattle.office_schema.specs.declared.tables.layouts.Layout.{Layout as AnyLayout};
-ghost use Rattle.office_db.specs.loading.Finding.{AreDeclared, AreWhole, names_round};
-ghost use Rattle.office_db.specs.loading.Layout.{layout_in};
+ghost use Rattle.office_db.specs.loading.Finding.{AreWhole, names_round};
 ghost use Rattle.office_migration.specs.Causes.{AreRowsAsStated, HoldsEarlier, HoldsLayoutVersion, StatesVersion, HoldsEarlierFirst};
-ghost use Rattle.office_db.specs.loading.FirstTables.{BeginsOffice, begins_office};
+ghost use Rattle.office_db.specs.loading.FirstTables.{BeginsOffice};
 ghost use Rattle.office_migration.specs.Names.{uses_missing_name};
 ghost use Rattle.office_migration.specs.Renewed.{HoldsMigratedOffice};
-ghost use Rattle.office_migration.specs.Versions.{IsEarlierLayout, IsNotEarlier, IsOfVersion};
+ghost use Rattle.office_migration.specs.Versions.{HasEarlierLayout, IsNotEarlier, IsOfVersion};
 ghost use Rattle.office_store.specs.Desk.{Shows};
-ghost use Rattle.office_store.specs.Migrating.{IsFaultOfMigration, MayNotMigrate, MayReturnFault, migrating_fault};
+ghost use Rattle.office_store.specs.Migrating.{IsFaultOfMigration, MayNotMigrate, migrating_fault};
 
 use crate::desk::Desk;
 use crate::desk::faults::{Back, DeskFault};
@@ -29,20 +28,20 @@ impl<S: Alter> Desk<S> {
     /// the version of this program, in one transaction. The desk shows the same office, whatever its phase. The
     /// office has no leavers, and it has no grades if its version was 1.
     ///
-    /// The call compares the names of tables, but not their columns. It presupposes that each table with the name of
-    /// one of an office's ten tables also has the declaration of that table.
+    /// The call compares the whole declaration of each table.
     ///
     /// # Errors
     ///
     /// The fault is the first of these that applies:
     ///
     /// - `NotAnOffice` if nothing has the name of table `round`.
-    /// - `Unavailable` if there is a view, or if the first three tables are not `room`, `person` and `round`, each in
-    ///   the tree where an office keeps it. Triggers, and tables that the engine does not understand, count as views.
-    ///   In this case and in the first one, no statement has run.
+    /// - `Unavailable` if there is a view, or if the first three tables are not `room`, `person` and `round` as an
+    ///   office declares them, each in the tree where an office keeps it. Triggers, and tables that the engine does not
+    ///   understand, count as views. In this case and in the first one, no statement has run.
     /// - `NotAnOffice` if table `round` does not have exactly one row.
     /// - `Unavailable` if the version in this row is not an integer.
     /// - `OtherVersion` if the version in this row is neither 1 nor 2.
+    /// - `NotAnOffice` if a table of the version in this row is absent or declared in another way than an office's.
     /// - `NotAnOffice` or `AlreadyThere` if something has the name of a table that the version in this row lacks.
     ///   Version 1 lacks `grade` and `going`, and version 2 lacks `going`. The fault is `NotAnOffice` if the schema
     ///   begins with the tables of a layout of that version, but these tables do not hold the rows of an office of
@@ -60,13 +59,11 @@ impl<S: Alter> Desk<S> {
         ensures follows { IfOk result
             (λ desk. Follows (state S.Store connection) (state S.Store desk.conn)) }
         ensures cached { IfOk result (λ desk. IsSome desk.cached) }
-        ensures laid { OnOk result
-            (IsEarlierLayout (layout_in (state S.Store connection).now.schema)) }
+        ensures laid { OnOk result (HasEarlierLayout (state S.Store connection).now.schema) }
         ensures stated { IfOk result (λ desk. HasCleanDisk (state S.Store desk.conn)
             → HoldsLayoutVersion (state S.Store connection).now) }
         ensures shows { IfOk result (λ desk. HasCleanDisk (state S.Store desk.conn)
-            → AreDeclared (state S.Store connection).now.schema → (layout : AnyLayout)
-            → layout_in (state S.Store connection).now.schema ≡ Some layout
+            → (layout : AnyLayout) → (state S.Store connection).now.schema ≡ schema_of layout
             → AreWhole layout (state S.Store connection).now.trees
             → (office : AnyOffice) × IsOfVersion (version_of layout) office
             × HoldsOfficeIn layout (state S.Store connection).now office
@@ -84,12 +81,8 @@ impl<S: Alter> Desk<S> {
         ensures allowed { IfErr result
             (λ back. IsFaultOfMigration (state S.Store connection).now.schema back.fault) }
         ensures cause { IfErr result (λ back. HasCleanDisk (state S.Store back.connection)
-            → AreDeclared (state S.Store connection).now.schema
             → MayNotMigrate (state S.Store connection).now back.fault) }
-        ensures returned { IfErr result (λ back. HasCleanDisk (state S.Store back.connection)
-            → BeginsOffice (state S.Store connection).now.schema
-            → MayReturnFault (state S.Store connection).now back.fault) }
-        ensures unread { begins_office (state S.Store connection).now.schema ≡ false → MatchResult result
+        ensures unread { ¬ BeginsOffice (state S.Store connection).now.schema → MatchResult result
             (λ desk. desk.conn ≡ connection) (λ back. back.connection ≡ connection) }
         ensures absent { names_round (state S.Store connection).now.schema ≡ false → IsErrAnd result
             (λ back. (back.fault ≡ DeskFault.NotAnOffice) × (back.connection ≡ connection)) }

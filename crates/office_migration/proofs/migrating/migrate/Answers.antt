@@ -349,7 +349,7 @@ returns-in_err-version-clause-rows g c =
 migrated_once : (layout : Layout) (old new : State) → old.now.schema ≡ schema_of layout
     → LeavesOldOr (HoldsSameOffice layout old.now) old new → LeavesOldOr (HoldsMigratedOffice old.now) old new
 migrated_once layout old new laid = old_or_weaker (HoldsSameOffice layout old.now) (HoldsMigratedOffice old.now) old new (λ clean after h other office it.
-    let here = subst (λ l. HoldsEarlier l old.now office) (sym (same_layout other layout old.now it.rows.schema laid)) it in
+    let here = subst (λ l. HoldsEarlier l old.now office) (sym (same_layout other layout old.now.schema it.rows.schema laid)) it in
     h office here.lawful here.well_formed here.kind here.rows)
 
 pub returns-in-Ok-Some-clause-crash : goal.returns-in-Ok-Some-clause-crash
