@@ -143,8 +143,8 @@ explain_office() {
     explain_lock "$file"
 }
 
-# Who holds the file. Its lock has the file's number, and no process; a process shows its open files to its own account
-# and to root.
+# Who holds the file. Its lock has the file's number, and no process. A process shows its open files to root, and to its own
+# account if it has no capability; the keeper and its server have one.
 explain_lock() {
     local number process account
     number=$(stat -Lc %i -- "$1")
@@ -154,7 +154,7 @@ explain_lock() {
     if [ -n "$process" ] && account=$(stat -c %U "/proc/$process" 2>/dev/null); then
         hinders "$1 is in use, by process $process ($(cat "/proc/$process/comm"), of $account)"
     else
-        hinders "$1 is in use, by a program of another account"
+        hinders "$1 is in use; only root can see by which program"
     fi
 }
 

@@ -109,6 +109,8 @@ use_command() {
     like "another account may not" "*unavailable*" "$(runuser -u stranger -- rooms-office do round 2>&1)"
     try "nor read the file" sh -c '! runuser -u clerk -- cat /var/lib/rooms/rooms.db'
     like "a line beside the server says who has the file" "*rooms.db is in use, by process*" \
+        "$(rooms do --db $file round 2>&1)"
+    like "and to the server's account that root can see it" "*rooms.db is in use; only root*" \
         "$(runuser -u rooms -- rooms do --db $file round 2>&1)"
 }
 
