@@ -1,38 +1,37 @@
 -- What `find_in` does when it finds an office in a file, and when it fails.
-use Rattle.std.specs.Prelude.{◌≡◌, ◌⊎◌, ℕ, ℤ, List, false, IfErr, IsSome, Result, Some}
+use Rattle.std.specs.Prelude.{◌≡◌, ◌⊎◌, ℕ, ℤ, List, false, IfErr, IsSome, Result}
 use Rattle.sqlite.specs.Held.{Held, state}
 use Rattle.sqlite.specs.State.{HasCleanDisk}
 use Rattle.sqlite_trees.specs.declared.store.Store.{Ghosts}
 use Rattle.office_state.specs.declared.office.Office.{Office}
 use Rattle.office_file.specs.Access.{FileAccess}
-use Rattle.office_db.specs.loading.Finding.{AreDeclared, AreWhole, HoldsOtherVersion, names_round}
-use Rattle.office_db.specs.loading.FirstTables.{BeginsOffice, begins_office}
-use Rattle.office_db.specs.loading.Layout.{layout_in}
+use Rattle.office_db.specs.loading.Finding.{AreWhole, HoldsOtherVersion, names_round}
+use Rattle.office_db.specs.loading.FirstTables.{BeginsOffice}
 use Rattle.office_store.specs.Adopting.{CommitsAdopted, IsFaultOf, MayRefuse, HasOwnLayout}
 use Rattle.office_store.specs.Desk.{DeskState, Shows}
 use Rattle.office_store.specs.declared.desk.faults.DeskFault.{DeskFault}
 use Rattle.office_store.specs.declared.desk.faults.DeskFault.TheVariants.{NotAnOffice, OtherVersion, Unavailable}
 use Rattle.office_schema.specs.tables.Crashes.{LeavesOldOr}
+use Rattle.office_schema.specs.tables.Layouts.{schema_of}
 use Rattle.office_schema.specs.tables.Steps.{Follows, IsIntact}
 use Rattle.office_schema.specs.tables.Tables.{HoldsOfficeIn}
 use Rattle.office_schema.specs.declared.tables.layouts.Layout.{Layout}
 use Rattle.office_schema.specs.declared.tables.layouts.Layout.TheVariants.{Own}
 
 module _ {S : Type 0} (g : Ghosts S) where
-  -- Suppose that the disk returned what was written, the tables are declared as those of an office and have a layout,
-  -- and no row lacks a cell (`AreWhole`). Then the database of the connection held the rows of an office, and the
-  -- desk shows that office.
+  -- Suppose that the disk returned what was written, the schema is that of a layout, and no row lacks a cell
+  -- (`AreWhole`). Then the database of the connection held the rows of an office, and the desk shows that office.
   abbrev pub ShowsFound : Held S → DeskState S → Type 0
   ShowsFound connection desk =
-      HasCleanDisk (state g desk.conn) → AreDeclared (state g connection).now.schema → (layout : Layout)
-      → layout_in (state g connection).now.schema ≡ Some layout → AreWhole layout (state g connection).now.trees
+      HasCleanDisk (state g desk.conn) → (layout : Layout)
+      → (state g connection).now.schema ≡ schema_of layout → AreWhole layout (state g connection).now.trees
       → (office : Office) × HoldsOfficeIn layout (state g connection).now office × Shows g desk office
 
   -- If the connection had its tables in the layout that this program creates, the database of the desk is the same,
   -- provided that the disk returned what was written and the connection is open.
   abbrev pub LeavesFound : Held S → DeskState S → Type 0
   LeavesFound connection desk =
-      layout_in (state g connection).now.schema ≡ Some Own → IsIntact (state g desk.conn)
+      (state g connection).now.schema ≡ schema_of Own → IsIntact (state g desk.conn)
       → (state g desk.conn).now ≡ (state g connection).now
 
   -- `Desk::adopt` refuses the database of `connection` with this fault, and returns the connection as `refused`,
@@ -41,19 +40,17 @@ module _ {S : Type 0} (g : Ghosts S) where
   -- of table `round`, the fault is `NotAnOffice` (`absent`). The schema allows the fault, whatever the disk does
   -- (`allowed`). A crash leaves what it could leave before, or the same office in tables made anew (`crash`).
   --
-  -- If the disk returned what was written and the tables are declared as those of an office, the database has a cause
-  -- for the fault (`cause`). If the disk returned what was written, the first three tables are an office's, and the
-  -- row of table `round` holds another version, the fault is `OtherVersion` with that version, or `Unavailable`
-  -- (`other`).
+  -- Suppose that the disk returned what was written. Then the database has a cause for the fault (`cause`). If the
+  -- first three tables are an office's, and the row of table `round` holds another version, the fault is `OtherVersion`
+  -- with that version, or `Unavailable` (`other`).
   pub record RefusesFound (connection refused : Held S) (fault : DeskFault) : Type 0 where
     pub outside : refused.in_transaction ≡ false
     pub follows : Follows (state g connection) (state g refused)
     pub undone : IsIntact (state g refused) → (state g refused).now ≡ (state g connection).now
-    pub unread : begins_office (state g connection).now.schema ≡ false → refused ≡ connection
+    pub unread : ¬ BeginsOffice (state g connection).now.schema → refused ≡ connection
     pub absent : names_round (state g connection).now.schema ≡ false → fault ≡ NotAnOffice
     pub allowed : IsFaultOf (state g connection).now.schema fault
-    pub cause : HasCleanDisk (state g refused) → AreDeclared (state g connection).now.schema
-        → MayRefuse (state g connection).now fault
+    pub cause : HasCleanDisk (state g refused) → MayRefuse (state g connection).now fault
     pub other : (version : ℤ) → BeginsOffice (state g connection).now.schema → HoldsOtherVersion (state g connection).now version
         → HasCleanDisk (state g refused) → (fault ≡ Unavailable) ⊎ (fault ≡ OtherVersion version)
     pub crash : LeavesOldOr (CommitsAdopted (state g connection).now) (state g connection) (state g refused)

@@ -1,35 +1,34 @@
 -- What `migrate_in` does when it migrates an office in a file, and when it fails.
-use Rattle.std.specs.Prelude.{◌≡◌, ◌⊎◌, ℕ, ℤ, List, false, IfErr, IsSome, IsTrue, Result, Some}
+use Rattle.std.specs.Prelude.{◌≡◌, ◌⊎◌, ℕ, ℤ, List, false, IfErr, IsSome, IsTrue, Result}
 use Rattle.sqlite.specs.Held.{Held, state}
 use Rattle.sqlite.specs.State.{HasCleanDisk}
 use Rattle.sqlite_trees.specs.declared.store.Store.{Ghosts}
 use Rattle.office_state.specs.declared.office.Office.{Office}
 use Rattle.office_file.specs.Access.{FileAccess}
-use Rattle.office_db.specs.loading.Finding.{AreDeclared, AreWhole, names_round}
-use Rattle.office_db.specs.loading.Layout.{layout_in}
-use Rattle.office_db.specs.loading.FirstTables.{BeginsOffice, begins_office}
+use Rattle.office_db.specs.loading.Finding.{AreWhole, names_round}
+use Rattle.office_db.specs.loading.FirstTables.{BeginsOffice}
 use Rattle.office_migration.specs.Causes.{AreRowsAsStated, HoldsLayoutVersion, StatesVersion, HoldsEarlierFirst}
 use Rattle.office_migration.specs.Names.{uses_missing_name}
 use Rattle.office_migration.specs.Renewed.{HoldsMigratedOffice}
-use Rattle.office_migration.specs.Versions.{IsEarlierLayout, IsNotEarlier, IsOfVersion}
+use Rattle.office_migration.specs.Versions.{HasEarlierLayout, IsNotEarlier, IsOfVersion}
 use Rattle.office_store.specs.Desk.{DeskState, Shows}
-use Rattle.office_store.specs.Migrating.{IsFaultOfMigration, MayNotMigrate, MayReturnFault}
+use Rattle.office_store.specs.Migrating.{IsFaultOfMigration, MayNotMigrate}
 use Rattle.office_store.specs.declared.desk.faults.DeskFault.{DeskFault}
 use Rattle.office_store.specs.declared.desk.faults.DeskFault.TheVariants.{AlreadyThere, NotAnOffice, OtherVersion, Unavailable}
 use Rattle.office_schema.specs.tables.Crashes.{LeavesOldOr}
-use Rattle.office_schema.specs.tables.Layouts.{version_of}
+use Rattle.office_schema.specs.tables.Layouts.{schema_of, version_of}
 use Rattle.office_schema.specs.tables.Steps.{Follows, IsIntact}
 use Rattle.office_schema.specs.tables.Tables.{HoldsOfficeIn}
 use Rattle.office_schema.specs.declared.tables.layouts.Layout.{Layout}
 
 module _ {S : Type 0} (g : Ghosts S) where
-  -- Suppose that the disk returned what was written, the tables were declared as those of an office and had a layout,
-  -- and no row lacked a cell (`AreWhole`). Then the database of the connection held the rows of an office of the
-  -- version of that layout, and the desk shows that office.
+  -- Suppose that the disk returned what was written, the schema was that of a layout, and no row lacked a cell
+  -- (`AreWhole`). Then the database of the connection held the rows of an office of the version of that layout, and the
+  -- desk shows that office.
   abbrev pub ShowsMigrated : Held S → DeskState S → Type 0
   ShowsMigrated connection desk =
-      HasCleanDisk (state g desk.conn) → AreDeclared (state g connection).now.schema → (layout : Layout)
-      → layout_in (state g connection).now.schema ≡ Some layout → AreWhole layout (state g connection).now.trees
+      HasCleanDisk (state g desk.conn) → (layout : Layout)
+      → (state g connection).now.schema ≡ schema_of layout → AreWhole layout (state g connection).now.trees
       → (office : Office) × IsOfVersion (version_of layout) office × HoldsOfficeIn layout (state g connection).now office
       × Shows g desk office
 
@@ -39,24 +38,20 @@ module _ {S : Type 0} (g : Ghosts S) where
   -- of table `round`, the fault is `NotAnOffice` (`absent`). The schema allows the fault, whatever the disk does
   -- (`allowed`). A crash leaves what it could leave before, or the same office in migrated tables (`crash`).
   --
-  -- The other fields hold if the disk returned what was written. If the tables are declared as those of an office,
-  -- the database has a cause for the fault (`cause`). If the first three tables are an office's, whatever tables
-  -- follow, the database has the cause that `MayReturnFault` requires (`returned`). Suppose that the database begins
-  -- with the rows of an office of an earlier version, and something has the name of a table that this version lacks;
-  -- then the fault is `AlreadyThere` or `Unavailable` (`taken`). If the fault is `AlreadyThere`, `AreRowsAsStated`
-  -- holds (`rows`). If the first three tables are an office's and the row of table `round` holds a version other than
-  -- 1 and 2, the fault is `OtherVersion` with that version, or `Unavailable` (`other`).
+  -- The other fields hold if the disk returned what was written. The database has a cause for the fault (`cause`).
+  -- Suppose that the database begins with the rows of an office of an earlier version, and something has the name of a
+  -- table that this version lacks; then the fault is `AlreadyThere` or `Unavailable` (`taken`). If the fault is
+  -- `AlreadyThere`, `AreRowsAsStated` holds (`rows`). If the first three tables are an office's and the row of table
+  -- `round` holds a version other than 1 and 2, the fault is `OtherVersion` with that version, or `Unavailable`
+  -- (`other`).
   pub record RefusesMigration (connection refused : Held S) (fault : DeskFault) : Type 0 where
     pub outside : refused.in_transaction ≡ false
     pub follows : Follows (state g connection) (state g refused)
     pub undone : IsIntact (state g refused) → (state g refused).now ≡ (state g connection).now
-    pub unread : begins_office (state g connection).now.schema ≡ false → refused ≡ connection
+    pub unread : ¬ BeginsOffice (state g connection).now.schema → refused ≡ connection
     pub absent : names_round (state g connection).now.schema ≡ false → fault ≡ NotAnOffice
     pub allowed : IsFaultOfMigration (state g connection).now.schema fault
-    pub cause : HasCleanDisk (state g refused) → AreDeclared (state g connection).now.schema
-        → MayNotMigrate (state g connection).now fault
-    pub returned : HasCleanDisk (state g refused) → BeginsOffice (state g connection).now.schema
-        → MayReturnFault (state g connection).now fault
+    pub cause : HasCleanDisk (state g refused) → MayNotMigrate (state g connection).now fault
     pub taken : (layout : Layout) (office : Office) → HoldsEarlierFirst layout (state g connection).now office
         → IsTrue (uses_missing_name (version_of layout) (state g connection).now.schema)
         → HasCleanDisk (state g refused) → (fault ≡ Unavailable) ⊎ (fault ≡ AlreadyThere)
@@ -75,7 +70,7 @@ module _ {F S : Type 0} (access : FileAccess F S) where
   pub record OpensMigrated (files : F) (path : List ℕ) (desk : DeskState S) (files' : F) : Type 0 where
     pub connection : Held S
     pub opened : access.finds files path connection files'
-    pub laid : IsEarlierLayout (layout_in (state access.base connection).now.schema)
+    pub laid : HasEarlierLayout (state access.base connection).now.schema
     pub follows : Follows (state access.base connection) (state access.base desk.conn)
     pub cached : IsSome desk.cached
     pub stated : HasCleanDisk (state access.base desk.conn) → HoldsLayoutVersion (state access.base connection).now

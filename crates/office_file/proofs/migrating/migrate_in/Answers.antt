@@ -29,7 +29,6 @@ returns-in-Err-migrate-clause-cause g c = inr (record {
     absent = λ none. (c.in-Err-migrate.ensures.absent none).0;
     allowed = c.in-Err-migrate.ensures.allowed;
     cause = c.in-Err-migrate.ensures.cause;
-    returned = c.in-Err-migrate.ensures.returned;
     taken = c.in-Err-migrate.ensures.taken;
     rows = c.in-Err-migrate.ensures.rows;
     other = c.in-Err-migrate.ensures.other;
