@@ -15,6 +15,4 @@ pub use crate::files::{Closes, Files, SystemFiles};
 pub use crate::finding::find_in;
 pub use crate::migrating::migrate_in;
 pub use crate::opening::{FileConnection, open_file, open_present_file};
-pub use crate::system::{
-    FileDesk, close_file, create_file, create_over, find_over, migrate_file, migrate_over, on_file,
-};
+pub use crate::system::{FileDesk, OnFile, close_file, create_over, find_over, migrate_over};

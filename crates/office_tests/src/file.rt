@@ -3,8 +3,8 @@
 use crate::asserting::assert_same;
 use crate::building::{add_room, is_bare};
 use office_core::Reply;
-use office_file::{FileDesk, close_file, create_file, on_file};
-use office_store::{Answer, DeskFault};
+use office_file::{FileDesk, OnFile, close_file};
+use office_store::{Answer, Desk, DeskFault};
 use sqlite::Wary;
 use std::alloc::Global;
 use std::process::Abort;
@@ -63,9 +63,9 @@ fn room_count(rt: &impl Abort, alloc: Global, desk: &mut FileDesk<Wary>) -> usiz
 fn creates_an_office_once(rt: HostRuntime) -> io::Result<()> {
     make_folder(&rt, "office_file_once")?;
     let path = "office_file_once/office.db";
-    assert_same!(rt; fault(create_file(&rt, path)), None);
+    assert_same!(rt; fault(Desk::create_file(&rt, path)), None);
     assert_same!(rt;
-        fault(create_file(&rt, path)),
+        fault(Desk::create_file(&rt, path)),
         Some(DeskFault::AlreadyThere)
     );
     fs::remove_dir_all(&rt, "office_file_once")?;
@@ -81,7 +81,7 @@ fn creates_no_office_over_other_files(rt: HostRuntime) -> io::Result<()> {
         "office_file_other/none/office.db",
         "office_file_other/letter",
     ] {
-        let fault = fault(create_file(&rt, path));
+        let fault = fault(Desk::create_file(&rt, path));
         assert_same!(rt; fault, Some(DeskFault::Unavailable), path);
     }
     let content = fs::read_to_string(&rt, "office_file_other/letter")?;
@@ -94,17 +94,17 @@ fn creates_no_office_over_other_files(rt: HostRuntime) -> io::Result<()> {
 fn reopens_the_office(rt: HostRuntime) -> io::Result<()> {
     make_folder(&rt, "office_file_again")?;
     let path = "office_file_again/office.db";
-    assert_same!(rt; fault(create_file(&rt, path)), None);
+    assert_same!(rt; fault(Desk::create_file(&rt, path)), None);
     assert_same!(rt;
-        room_added(&rt, rt.alloc(), on_file(&rt, path)),
+        room_added(&rt, rt.alloc(), Desk::on_file(&rt, path)),
         Some((0, 1))
     );
     assert_same!(rt;
-        fault(create_file(&rt, path)),
+        fault(Desk::create_file(&rt, path)),
         Some(DeskFault::AlreadyThere)
     );
     assert_same!(rt;
-        room_added(&rt, rt.alloc(), on_file(&rt, path)),
+        room_added(&rt, rt.alloc(), Desk::on_file(&rt, path)),
         Some((1, 1))
     );
     fs::remove_dir_all(&rt, "office_file_again")?;
@@ -114,11 +114,11 @@ fn reopens_the_office(rt: HostRuntime) -> io::Result<()> {
 #[test]
 fn opens_no_missing_or_empty_file(rt: HostRuntime) -> io::Result<()> {
     make_folder(&rt, "office_file_elsewhere")?;
-    let missing = fault(on_file(&rt, "office_file_elsewhere/office.db"));
+    let missing = fault(Desk::on_file(&rt, "office_file_elsewhere/office.db"));
     assert_same!(rt; missing, Some(DeskFault::Unavailable));
     assert!(rt; !fs::exists(&rt, "office_file_elsewhere/office.db")?);
     fs::write(&rt, "office_file_elsewhere/empty", b"".as_slice())?;
-    let empty = fault(on_file(&rt, "office_file_elsewhere/empty"));
+    let empty = fault(Desk::on_file(&rt, "office_file_elsewhere/empty"));
     assert_same!(rt; empty, Some(DeskFault::NotAnOffice));
     fs::remove_dir_all(&rt, "office_file_elsewhere")?;
     Ok(())

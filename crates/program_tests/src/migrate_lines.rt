@@ -1,10 +1,10 @@
-//! A test of migrating a file with an office of version 1, by calls of `migrate_file`.
+//! A test of migrating a file with an office of version 1, by calls of `Desk::migrate_file`.
 use crate::asserting::same;
 use crate::running::{execute, make_folder};
 use office_cli::desk_faults::refuse_desk;
-use office_file::{FileDesk, close_file, migrate_file, on_file};
+use office_file::{FileDesk, OnFile, close_file};
 use office_lines::do_line::do_words;
-use office_store::DeskFault;
+use office_store::{Desk, DeskFault};
 use room_types::Watched;
 use sqlite::Wary;
 use std::alloc::Global;
@@ -78,7 +78,7 @@ fn assert_printed(
 const RUN: &str =
     "ran 3\nperson        room\nN             V\nT1            H2\nT2            H1\n";
 
-// `migrate_file` returns a desk that handles further lines. A second migration of the file is refused.
+// `Desk::migrate_file` returns a desk that handles further lines. A second migration of the file is refused.
 #[test]
 fn migrates_a_file_by_a_call(rt: HostRuntime) -> Result<(), Fail> {
     let alloc = rt.alloc();
@@ -86,18 +86,18 @@ fn migrates_a_file_by_a_call(rt: HostRuntime) -> Result<(), Fail> {
     make_folder(&rt, "file_migrate")?;
     execute(&rt, path, FIRST_VERSION)?;
     let first = "refused 22 OtherVersion 1\n";
-    assert_printed(&rt, alloc, on_file(&rt, path), &["round"], first);
+    assert_printed(&rt, alloc, Desk::on_file(&rt, path), &["round"], first);
     assert_printed(
         &rt,
         alloc,
-        migrate_file(&rt, path),
+        Desk::migrate_file(&rt, path),
         &["run", "results"],
         RUN,
     );
     let third = "refused 22 OtherVersion 3\n";
-    assert_printed(&rt, alloc, migrate_file(&rt, path), &["round"], third);
+    assert_printed(&rt, alloc, Desk::migrate_file(&rt, path), &["round"], third);
     let round = "round 1 ran people 3 withdrawn 0\n";
-    assert_printed(&rt, alloc, on_file(&rt, path), &["round"], round);
+    assert_printed(&rt, alloc, Desk::on_file(&rt, path), &["round"], round);
     fs::remove_dir_all(&rt, "file_migrate")?;
     Ok(())
 }
