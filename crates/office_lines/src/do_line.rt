@@ -3,7 +3,6 @@ ghost use Rattle.std.specs.Prelude.{◌≡◌, map};
 ghost use Rattle.room_types.specs.Streams.{output_of};
 ghost use Rattle.room_types.specs.Watched.{IsFresh, StopsAtFailure};
 ghost use Rattle.office_lines.specs.SingleLines.{DoesText, DoesWords, PrintsResponse, has_newline};
-ghost use Rattle.office_lines.specs.render.Texts.{ResponseAscends};
 
 use crate::limits::LINE_LIMIT;
 use crate::line::handle_line;
@@ -80,7 +79,6 @@ fn has_newline(text: &[u8]) -> bool
 /// Writes the text of the response and flushes. Returns the response's exit status, or 3 if a write, the flush or an
 /// allocation for the text fails.
 pub fn print_response<W: Write>(alloc: Global, response: &Response, output: &mut Watched<W>) -> u8
-    requires ascending { ResponseAscends response.now }
     requires fresh { IsFresh output.old }
     ensures no_wasted_write { StopsAtFailure output.old output.new }
     ensures prints { PrintsResponse response.now result (output_of W.contents output.old)

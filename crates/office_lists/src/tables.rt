@@ -1,16 +1,13 @@
 //! Formats rooms, people and results as text tables.
 ghost use Rattle.std.specs.Prelude.{◌≡◌, ◌++◌, [], ◌∷◌, IfOk, OnOk, string_bytes};
-ghost use Rattle.room_types.specs.Ascending.{AscendsBy};
 ghost use Rattle.office_lists.specs.Tables.{line, or_none, rooms_table, people_table, results_table};
 
 use room_types::text::{Grammar, Text};
 use room_types::{OutOfMemory, PersonRow, ResultRow, RoomRow};
 use std::alloc::{AllocError, Global};
 
-/// Returns the text table of these rooms: a line of headings, and a line for each room. The rooms must ascend by
-/// code.
+/// Returns the text table of these rooms: a line of headings, and a line for each room, in the order of the rows.
 pub fn rooms_text(alloc: Global, rows: &[RoomRow]) -> Result<String, OutOfMemory>
-    requires ascending { AscendsBy (λ row. row.room) rows.now }
     ensures { IfOk result (λ text. string_bytes text ≡ rooms_table rows.now) }
 {
     let mut text = String::new(alloc);
@@ -26,10 +23,8 @@ pub fn rooms_text(alloc: Global, rows: &[RoomRow]) -> Result<String, OutOfMemory
     Ok(text)
 }
 
-/// Returns the text table of these people: a line of headings, and a line for each person. The people must ascend by
-/// identifier.
+/// Returns the text table of these people: a line of headings, and a line for each person, in the order of the rows.
 pub fn people_text(alloc: Global, rows: &[PersonRow]) -> Result<String, OutOfMemory>
-    requires ascending { AscendsBy (λ row. row.person) rows.now }
     ensures { IfOk result (λ text. string_bytes text ≡ people_table rows.now) }
 {
     let mut text = String::new(alloc);
@@ -45,10 +40,8 @@ pub fn people_text(alloc: Global, rows: &[PersonRow]) -> Result<String, OutOfMem
     Ok(text)
 }
 
-/// Returns the text table of these results: a line of headings, and a line for each result. The results must ascend
-/// by identifier.
+/// Returns the text table of these results: a line of headings, and a line for each result, in the order of the rows.
 pub fn results_text(alloc: Global, rows: &[ResultRow]) -> Result<String, OutOfMemory>
-    requires ascending { AscendsBy (λ row. row.person) rows.now }
     ensures { IfOk result (λ text. string_bytes text ≡ results_table rows.now) }
 {
     let mut text = String::new(alloc);

@@ -1,8 +1,5 @@
 //! Tests of desks that handle the requests of a script in one call: their answers, the office that they leave, and the
 //! office that another desk adopts.
-ghost use Rattle.std.specs.Prelude.{All, IfOk};
-ghost use Rattle.office_store.specs.Requests.{AnswerAscends};
-
 use crate::asserting::same;
 use crate::exports::YEAR;
 use crate::register::REGISTER;
@@ -25,7 +22,7 @@ fn agrees_in_batch(alloc: Global, lines: &str) -> Result<bool, Fail> {
     let (_, text) = rehearsed(alloc, lines.as_bytes());
     let requests = parse_requests(alloc, lines)?;
     let mut desk = Desk::in_memory(alloc)?;
-    let answers = answers_at(alloc, &mut desk, &requests)?;
+    let answers = desk.handle_all(alloc, &requests)?;
     let printed = answers_text(alloc, &answers)?;
     let stored = shown(alloc, &mut desk);
     let whole = answers.len() == requests.len()
@@ -64,21 +61,8 @@ pub fn is_shown_after(alloc: Global, lines: &str, stored: &[u8]) -> Result<bool,
     Ok(!stored.is_empty() && text.as_slice().ends_with(stored))
 }
 
-// Handles the requests and returns the answers of the desk. The rows of each reply ascend.
-fn answers_at(
-    alloc: Global,
-    desk: &mut Desk<MemStore>,
-    requests: &[Request],
-) -> Result<Vec<Answer>, OutOfMemory>
-    ensures { IfOk result (λ answers. All AnswerAscends answers.items) }
-{
-    desk.handle_all(alloc, requests)
-}
-
 // The printed text of the answers.
-fn answers_text(alloc: Global, answers: &[Answer]) -> Result<String, OutOfMemory>
-    requires { All AnswerAscends answers.now }
-{
+fn answers_text(alloc: Global, answers: &[Answer]) -> Result<String, OutOfMemory> {
     let mut text = String::new(alloc);
     for answer in answers {
         let lines = match answer {

@@ -210,9 +210,7 @@ fn person_row(
     }
 }
 
-fn result_row(rt: &impl Abort, alloc: Global, person: &str, room: Option<&str>) -> ResultRow
-    ensures { result.person ≡ person.now }
-{
+fn result_row(rt: &impl Abort, alloc: Global, person: &str, room: Option<&str>) -> ResultRow {
     ResultRow {
         person: text(rt, alloc, person),
         room: optional(rt, alloc, room),

@@ -1,9 +1,8 @@
 //! Turns a response into its text and exit status, and a reply into its text.
 ghost use Rattle.std.specs.Prelude.{◌≡◌, ◌<◌, ◌++◌, [], ◌∷◌, IfOk, OnErr, OnOk, false, length, string_bytes};
 ghost use Rattle.std.specs.Cow.{cow_str_bytes};
-ghost use Rattle.office_core.specs.Replies.{RowsAscend};
 ghost use Rattle.office_lines.specs.render.OutputLines.{line_of};
-ghost use Rattle.office_lines.specs.render.Texts.{text_of as text-of, exit_status as status-of, ResponseAscends, is_constant};
+ghost use Rattle.office_lines.specs.render.Texts.{text_of as text-of, exit_status as status-of, is_constant};
 ghost use Rattle.office_lines.specs.render.Replies.{going_text, reply_text, result_text, spaced, standing_text, yes_or_no};
 
 use crate::render::order_lines::order_text;
@@ -28,8 +27,7 @@ pub const NOT_UNDERSTOOD: u8 = 2;
 /// The exit status of a line that failed because memory ran out, a device failed, or the line is too long.
 pub const UNAVAILABLE: u8 = 3;
 
-/// Returns the text to print for a response. If the response is a reply with rows, rows of rooms must ascend by code,
-/// and rows of people or results by identifier. The answers of a `Handler` meet this condition.
+/// Returns the text to print for a response.
 ///
 /// The texts `unavailable` and `not understood` are borrowed constants. So the program needs no allocation to report
 /// that it is out of memory.
@@ -38,7 +36,6 @@ pub const UNAVAILABLE: u8 = 3;
 ///
 /// `OutOfMemory` if an allocation fails. This never happens if the text is a constant or empty.
 pub fn text_of(alloc: Global, response: &Response) -> Result<CowStr<'static, Global>, OutOfMemory>
-    requires ascending { ResponseAscends response.now }
     ensures text { IfOk result (λ text. cow_str_bytes text ≡ text-of response.now) }
     ensures made { OnErr result (is_constant response.now ≡ false) }
     ensures memory { OnErr result (0 < length (text-of response.now)) }
@@ -66,14 +63,12 @@ pub fn exit_status(response: &Response) -> u8
     }
 }
 
-/// Returns the lines to print for a reply. Rows of rooms must ascend by code, and rows of people or results by
-/// identifier. The replies that `office_core` returns meet this condition.
+/// Returns the lines to print for a reply.
 ///
 /// # Errors
 ///
 /// `OutOfMemory` if an allocation fails. This never happens if the text is empty.
 pub fn reply_text(alloc: Global, reply: &Reply) -> Result<String, OutOfMemory>
-    requires ascending { RowsAscend reply.now }
     ensures text { IfOk result (λ text. string_bytes text ≡ reply_text reply.now) }
     ensures memory { OnErr result (0 < length (reply_text reply.now)) }
 {
