@@ -7,6 +7,7 @@ use Rattle.office_cli.specs.DeskFaults.{RefusesDesk}
 use Rattle.office_cli.specs.ListAccess.{ListAccess}
 use Rattle.office_cli.specs.Actions.{Action}
 use Rattle.office_state.specs.Office.{empty_office}
+use Rattle.office_schema.specs.tables.Crashes.{ShowsCommitted}
 use Rattle.office_file.specs.Adopted.{OpensFound, IsFileFault}
 use Rattle.office_file.specs.Access.{FileAccess}
 use Rattle.office_file.specs.Created.{OpensBlank, IsCreateFault}
@@ -22,7 +23,8 @@ use Rattle.room_types.specs.Texts.{Text}
 module _ {F S : Type 0} (access : FileAccess F S) where
   -- The program opened the file at the path, whose database had an empty schema. It made the tables of the empty
   -- office, and printed `ok`. If the disk returned what was written to it, the desk shows the empty office. The
-  -- program closed the desk's connection with no transaction open.
+  -- program closed the desk's connection with no transaction open. If the connection was open until then, it showed
+  -- what was committed last (`committed`), so the empty office was committed.
   pub record MakesNew (files : F) (path : Text) (status : ℕ) (files' : F) (out out' : Output) : Type 0 where
     pub desk : DeskState S
     pub between : F
@@ -30,6 +32,7 @@ module _ {F S : Type 0} (access : FileAccess F S) where
     pub shows : HasCleanDisk (state access.base desk.conn) → Shows access.base desk empty_office
     pub prints : Prints (line_of (codes "ok" ∷ [])) 0 status out out'
     pub outside : desk.conn.in_transaction ≡ false
+    pub committed : ShowsCommitted (state access.base desk.conn)
     pub closed : access.closes between desk.conn files'
 
   -- The program makes an empty office in the file, or prints the reason why it cannot.
@@ -39,13 +42,15 @@ module _ {F S : Type 0} (access : FileAccess F S) where
       ⊎ ((fault : DeskFault) × IsCreateFault access files path (Err fault) files' × RefusesDesk fault status out out')
 
   -- The program opened the file at the path, migrated the tables of its office to this program's version, and printed
-  -- `ok`. It closed the desk's connection with no transaction open.
+  -- `ok`. It closed the desk's connection with no transaction open. If the connection was open until then, it showed
+  -- what was committed last (`committed`).
   pub record MigratesOffice (files : F) (path : Text) (status : ℕ) (files' : F) (out out' : Output) : Type 0 where
     pub desk : DeskState S
     pub between : F
     pub begins : OpensMigrated access files path desk between
     pub prints : Prints (line_of (codes "ok" ∷ [])) 0 status out out'
     pub outside : desk.conn.in_transaction ≡ false
+    pub committed : ShowsCommitted (state access.base desk.conn)
     pub closed : access.closes between desk.conn files'
 
   -- The program migrates the tables to its own version, or prints the reason why it cannot.
@@ -55,7 +60,8 @@ module _ {F S : Type 0} (access : FileAccess F S) where
       ⊎ ((fault : DeskFault) × IsMigrateFault access files path (Err fault) files' × RefusesDesk fault status out out')
 
   -- The program opened the file at the path, and `desk` is the desk over its office. `IsDone` holds between `desk`
-  -- and the desk `last` after the action. The program closed the connection of `last` with no transaction open.
+  -- and the desk `last` after the action. The program closed the connection of `last` with no transaction open. If the
+  -- connection was open until then, it showed what was committed last (`committed`).
   pub record AtFound (IsDone : DeskState S → DeskState S → Type 0) (files : F) (path : Text) (files' : F) : Type 0 where
     pub desk : DeskState S
     pub between : F
@@ -63,6 +69,7 @@ module _ {F S : Type 0} (access : FileAccess F S) where
     pub begins : OpensFound access files path desk between
     pub done : IsDone desk last
     pub outside : last.conn.in_transaction ≡ false
+    pub committed : ShowsCommitted (state access.base last.conn)
     pub closed : access.closes between last.conn files'
 
   -- Either the program performs the action at the desk of the file's office. Or the file gives no desk: then the

@@ -10,5 +10,6 @@ returns-in-Ok-clause-performs g c =
       begins = c.in-Ok.ensures.shows;
       done = c.perform-status.ensures.performs;
       outside = c.close.ensures.outside;
+      committed = c.close.ensures.committed;
       closed = c.close.ensures.closed;
     })
