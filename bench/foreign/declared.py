@@ -27,9 +27,8 @@ def without(name: str) -> tuple[str, ...]:
 
 
 def answer_without(name: str) -> str:
-    """If nothing has the name of the round, it is no office. Without the last table the tables are those of version 2, which
-    the row does not say. Else the order is none that is known."""
-    return NOT_AN_OFFICE if name in ("round", NAMES[-1]) else UNAVAILABLE
+    """Without a table it is no office. But without the rooms or the people nothing tells the version in the row of the round."""
+    return UNAVAILABLE if name in ("room", "person") else NOT_AN_OFFICE
 
 
 DECLARED: Declared = {
@@ -50,6 +49,7 @@ DECLARED: Declared = {
     "the table of the round alone": ((TABLES[NAMES.index("round")], ROUND), UNAVAILABLE),
     "a view in place of the round": (("CREATE VIEW round AS SELECT 1 AS version",), UNAVAILABLE),
     "an eleventh table": (all_tables("CREATE TABLE note(text TEXT)"), UNAVAILABLE),
+    "one more column": (all_tables("ALTER TABLE move ADD COLUMN note TEXT"), NOT_AN_OFFICE),
     "an index": (all_tables("CREATE INDEX names ON person(name)"), UNAVAILABLE),
     "a view": (all_tables("CREATE VIEW homes AS SELECT id, home FROM person"), UNAVAILABLE),
     "a trigger": (all_tables("CREATE TRIGGER gone AFTER DELETE ON room BEGIN DELETE FROM move; END"), UNAVAILABLE),

@@ -60,7 +60,7 @@ const BREAKS: [(&str, &str); 12] = [
 
 // Statements to run in turn over the tables of a desk. Each has the fault with which adopting the database then
 // fails, or `None` if it succeeds.
-const DECLARED: [(&str, Option<DeskFault>); 9] = [
+const DECLARED: [(&str, Option<DeskFault>); 12] = [
     (
         "UPDATE round SET version = 9",
         Some(DeskFault::OtherVersion(9)),
@@ -78,6 +78,16 @@ const DECLARED: [(&str, Option<DeskFault>); 9] = [
         Some(DeskFault::OtherVersion(2)),
     ),
     ("UPDATE round SET version = 3", None),
+    ("DROP TABLE going", Some(DeskFault::NotAnOffice)),
+    (
+        "CREATE TABLE going(person TEXT PRIMARY KEY NOT NULL REFERENCES person(id), note TEXT) STRICT",
+        Some(DeskFault::NotAnOffice),
+    ),
+    (
+        "DROP TABLE going;
+CREATE TABLE going(person TEXT PRIMARY KEY NOT NULL REFERENCES person(id)) STRICT",
+        None,
+    ),
     ("DELETE FROM round", Some(DeskFault::NotAnOffice)),
     ("CREATE TABLE note(text TEXT)", Some(DeskFault::Unavailable)),
     (
