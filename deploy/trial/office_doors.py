@@ -201,7 +201,7 @@ def try_lists(stand, page):
         "another header": (b"room;x\nA-1\n", "first line"),
         "no UTF-8": ("room\nZ-1\nÄ\n".encode("latin-1"), "not UTF-8"),
         "UTF-16": ("room\nZ-1\n".encode("utf-16"), "first line"),
-        "a room twice": (b"room\nZ-1\nZ-1\n", "in the register already"),
+        "a room twice": (b"room\nZ-1\nZ-1\n", "in row 2 of this list already"),
         "small letters": (b"room\nz-1\n", "capital letters"),
         "too many fields": (b"room\nZ-1,\n", "more or fewer fields"),
         "a null": (b"room\nZ-1\0\n", "well written"),

@@ -49,11 +49,11 @@ class CsvList:
         left = "".join(line for at, line in enumerate(self.lines) if at not in skipped)
         return left.encode("utf-8", "surrogateescape")
 
-    def fill_keys(self) -> list[tuple[str, str, str]]:
-        """Gives a new key to each person of the list who has none: identifier, name and key of each."""
+    def fill_keys(self, but: set[int]) -> list[tuple[str, str, str]]:
+        """Gives a new key to each person of the list who has none, but for some: identifier, name and key of each."""
         made = []
         for number, record in enumerate(self.records):
-            if number and len(record.fields) == 4 and not record.fields[2].strip():
+            if number and number not in but and len(record.fields) == 4 and not record.fields[2].strip():
                 record.fields[2] = secrets.token_hex(16)
                 made.append((record.fields[0], record.fields[1], record.fields[2]))
                 self._write(record)

@@ -1,4 +1,5 @@
-"""Finds the faults of a list: it is tried on a copy, the refused record is taken out, and the rest is tried again."""
+"""Finds the faults of a list. The page takes out the records whose faults it sees by itself (list_checks.py). The rest is
+tried on a copy, the record that is refused is taken out, and the rest is tried again."""
 
 import time
 from collections.abc import Callable
@@ -6,9 +7,11 @@ from typing import NamedTuple
 
 from journal import masked
 
+import list_checks
 import plain
 from csv_list import CsvList
 from keeper_client import Answer
+from office_view import Office
 from plain import Meaning
 
 MOST = 50
@@ -46,10 +49,16 @@ def bad_record(answer: Answer) -> tuple[int, list[str]] | None:
     return int(words[3]), words[4:]
 
 
-def find(table: CsvList, kind: str, attempt: Callable[[bytes], Answer]) -> Findings:
-    """All faults of a list, up to a limit of their number and of time. Each is taken out before the next attempt."""
-    taken: set[int] = set()
-    faults: list[Fault] = []
+def fault_of(table: CsvList, kind: str, number: int, meaning: Meaning) -> Fault:
+    """A record of a list with what is wrong with it."""
+    record = table.records[number]
+    return Fault(record.row, shown(record.fields[:1], kind), shown(record.fields, kind), meaning)
+
+
+def find(office: Office, table: CsvList, kind: str, attempt: Callable[[bytes], Answer], apart: set[int]) -> Findings:
+    """All faults of a list, without the records that are set apart. There is a limit of time and, for those that only
+    the program sees, of their number."""
+    taken, faults, tries = set(apart), list[Fault](), 0
     end = time.monotonic() + SECONDS
     while True:
         answer = attempt(table.body(without=taken))
@@ -62,11 +71,12 @@ def find(table: CsvList, kind: str, attempt: Callable[[bytes], Answer]) -> Findi
         left = [number for number in range(len(table.records)) if number not in taken]
         if place == 0 or words[0] == "many" or place >= len(left):
             return Findings(sorted(faults), plain.cause(words, kind), False)
-        record = table.records[left[place]]
-        faults.append(Fault(record.row, shown(record.fields[:1], kind), shown(record.fields, kind),
-                            plain.cause(words, kind)))
-        taken.add(left[place])
-        if len(faults) == MOST or time.monotonic() > end:
+        bad = dict(list_checks.find(office, kind, table, taken)) if not tries else {}
+        bad.setdefault(left[place], plain.cause(words, kind))
+        faults += [fault_of(table, kind, number, meaning) for number, meaning in bad.items()]
+        taken |= bad.keys()
+        tries += 1
+        if tries > MOST or time.monotonic() > end:
             return Findings(sorted(faults), None, True)
 
 

@@ -7,13 +7,18 @@ from typing import Any, NamedTuple
 from journal import masked
 from seen import Saw
 
+import known_people
 import list_faults
 import plain
 from app import app, ask, change, clerk, field, go_to, memory, office_now, show, tell, text_of, upload_of
 from csv_list import CsvList
 from keeper_client import Answer, answers_of
+from known_people import Beside
+from many_pages import MOST_AT_ONCE, acts_for
 from office_view import Office
 from questions import Question, put_question
+
+NOBODY = Beside(set(), [], [])
 
 
 class Job(NamedTuple):
@@ -22,12 +27,19 @@ class Job(NamedTuple):
     kind: str
     label: str
     body: bytes
-    saw: Saw | None = None  # what the list replaces
+    saw: Saw | None = None  # what the list replaces, or of people that they are not in the register
+    departed: tuple[str, ...] = ()  # of people: who is in the register, and not on the list
 
     def fields(self) -> dict[str, Any]:
         """The list as the keeper takes it."""
         body = base64.b64encode(self.body).decode()
         return {"kind": self.kind, "label": self.label, "body": body, "saw": self.saw}
+
+
+class Departed(NamedTuple):
+    """People of the register who are not on a list that has come in."""
+
+    idents: tuple[str, ...]
 
 
 def try_list(job: Job) -> Answer:
@@ -62,16 +74,26 @@ def look_at_list() -> str:
     if wrong:
         tell("bad", wrong)
         go_to("/office/lists")
+    beside = known_people.compare(office, table) if kind == "people" else NOBODY
+    return looked_at(office, Job(kind, label, body), table, beside, bool(field("keys")))
+
+
+def looked_at(office: Office, job: Job, table: CsvList, beside: Beside, make_keys: bool) -> str:
+    """The page of a list that was tried. Of a list of people only those are tried who are not in the register."""
+    if office.has_label(job.label) and try_list(job).status == 0:
+        return known_list(office, job)
+    if beside.known and len(beside.known) == len(table.records) - 1:
+        return show("already", office=office, beside=beside, **departed_form(office, tuple(beside.departed)))
     made = []
-    if kind == "people" and field("keys") and table.header == plain.KINDS["people"].header.split(","):
-        made = table.fill_keys()
-        body = table.body()
-    job = Job(kind, label, body)
+    if job.kind == "people" and make_keys and table.header == known_people.HEADER:
+        made = table.fill_keys(beside.known)
+    if made or beside.known:
+        job = job._replace(body=table.body(without=beside.known), departed=tuple(beside.departed))
     answer = try_list(job)
     if answer.status == 0:
-        return known_list(office, job) if office.has_label(label) else fitting_list(office, job, table, made)
-    found = list_faults.find(table, kind, lambda part: try_list(Job(kind, label, part)))
-    return show("faults", office=office, job=job, found=found, answer=answer.text.strip())
+        return fitting_list(office, job, CsvList(job.body), made, beside)
+    found = list_faults.find(office, table, job.kind, lambda part: try_list(job._replace(body=part)), beside.known)
+    return show("faults", office=office, job=job, found=found, answer=answer.text.strip(), beside=beside)
 
 
 def known_list(office: Office, job: Job) -> str:
@@ -79,7 +101,7 @@ def known_list(office: Office, job: Job) -> str:
     return show("known", office=office, job=job, proposed=office.new_label(job.kind))
 
 
-def fitting_list(office: Office, job: Job, table: CsvList, made: list[tuple[str, str, str]]) -> str:
+def fitting_list(office: Office, job: Job, table: CsvList, made: list[tuple[str, str, str]], beside: Beside) -> str:
     """The page of a list that fits: what it replaces, the slips with new keys, and whether to import it."""
     replaced: dict[str, int] = {}
     if job.kind == "choices":
@@ -90,13 +112,13 @@ def fitting_list(office: Office, job: Job, table: CsvList, made: list[tuple[str,
                                                  if number and record.fields[0] in replaced}))
     people = [record.fields[0] for record in table.records[1:]]
     others = [person for person in people if person not in replaced]
-    return show("fits", office=office, job=job, count=len(people), made=made, replaced=list(replaced),
+    return show("fits", office=office, job=job, count=len(people), made=made, replaced=list(replaced), beside=beside,
                 held=hold(office, job, people), held_rest=hold(office, rest, others) if replaced else "")
 
 
 def hold(office: Office, job: Job, people: list[str]) -> str:
     """Holds a list until the clerk says yes, with what it replaces of these people. Gives its name."""
-    part = {"choices": "list", "grades": "grade"}.get(job.kind)
+    part = {"choices": "list", "grades": "grade", "people": "all"}.get(job.kind)
     return memory.hold(clerk(), job._replace(saw=office.saw(part, *people) if part else None))
 
 
@@ -109,12 +131,51 @@ def bring_list() -> str:
         tell("bad", "The page no longer holds this list. Nothing was imported: send the list again.")
     elif office.has_label(job.label):
         tell("bad", f"A list was imported under the label {job.label} meanwhile. Send yours under another label.")
-    elif job.saw and job.saw != office.saw(job.saw.part, *job.saw.people):
-        tell("bad", "What this list replaces has changed since you tried it. Nothing came in: look again.")
-        return fitting_list(office, job, CsvList(job.body), [])
+    elif is_stale(office, job):
+        return look_again(office, job)
     elif change("import", **job.fields()):
         memory.let_go(clerk(), name)
+        if job.departed:
+            go_to(f"/office/departed/{memory.hold(clerk(), Departed(job.departed))}")
     go_to("/office/lists")
+
+
+def is_stale(office: Office, job: Job) -> bool:
+    """Whether what a list replaces has changed since it was tried."""
+    return job.saw is not None and job.saw != office.saw(job.saw.part, *job.saw.people)
+
+
+def look_again(office: Office, job: Job) -> str:
+    """The page of a list, as it is now that somebody else has changed what it replaces."""
+    tell("bad", "What this list replaces has changed since you tried it. Nothing came in: look again.")
+    table, beside = CsvList(job.body), NOBODY
+    if job.kind == "people":
+        beside = known_people.compare(office, table)._replace(departed=list(job.departed))
+    if beside.known:
+        came = ", ".join(sorted(table.records[number].fields[0] for number in beside.known))
+        tell("bad", f"Meanwhile these people came into the register: {came}. If you have printed slips for them, "
+                    "destroy these: their keys are other ones. All other slips stay good.")
+    return looked_at(office, job, table, beside, False)
+
+
+# --- who is in the register, and not on the list
+
+def departed_form(office: Office, idents: tuple[str, ...]) -> dict[str, Any]:
+    """The form that offers to remove people, or to let them leave, as the page takes them at once."""
+    left = [office.people[ident] for ident in idents if ident in office.people]
+    return {"departed": left, "text": "\n".join(person.ident for person in left[:MOST_AT_ONCE]),
+            "acts": acts_for(office), "most": MOST_AT_ONCE}
+
+
+@app.get("/office/departed/<name>")
+def departed(name: str) -> str:
+    """People of the register who are not on the list that has come in."""
+    kept: Any = memory.held(clerk(), name)
+    if not isinstance(kept, Departed):
+        tell("bad", "The page no longer knows who was not on the list. Send the list again: it changes nothing.")
+        go_to("/office/lists")
+    office = office_now()
+    return show("departed", office=office, **departed_form(office, kept.idents))
 
 
 @app.get("/office/blank/<label>")

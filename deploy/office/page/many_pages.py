@@ -56,19 +56,23 @@ def groups_of(office: Office, act: str, idents: list[str]) -> list[Group]:
     return [group for group in groups if group.lines]
 
 
+def acts_for(office: Office) -> dict[str, str]:
+    """What can be done to many people now."""
+    return {act: text for act, (phases, text) in ACTS.items() if office.phase in phases}
+
+
 @app.get("/office/many")
 def many() -> str:
     """The form for a list of identifiers."""
     office = office_now()
-    acts = {act: text for act, (phases, text) in ACTS.items() if office.phase in phases}
-    return show("many", office=office, acts=acts, text="", faults=[], job=None, held="")
+    return show("many", office=office, acts=acts_for(office), text="", faults=[], job=None, held="")
 
 
 @app.post("/office/many")
 def look_at_many() -> str:
     """Shows whom the identifiers name, and tries the change on a copy."""
     office, act, text = office_now(), text_of("act"), masked(field("text"))
-    acts = {name: title for name, (phases, title) in ACTS.items() if office.phase in phases}
+    acts = acts_for(office)
     idents = list(dict.fromkeys(re.split(r"[\s,;]+", text.upper().strip(" \t\r\n,;"))))
     faults = [f"No person has the identifier {ident[:20]}." for ident in idents if ident not in office.people]
     if act not in acts:

@@ -1,0 +1,100 @@
+"""Faults of a list that the page sees by itself, all at once.
+
+The program names one bad record at a time. So once it has refused a list, the page looks for what it knows: how a field
+is written, what the register has, and what is in the list twice. What it does not see here, the program names.
+"""
+
+import re
+from collections.abc import Callable, Iterator
+
+import plain
+from csv_list import CsvList
+from office_view import Office
+from plain import Meaning
+
+CODE = re.compile(r"[A-Z0-9][A-Z0-9-]{0,7}")
+IDENTIFIER = re.compile(r"[A-Z0-9]{1,12}")
+KEY = re.compile(r"[a-z0-9]{16,64}")
+GRADE = re.compile(r"[0-9]")
+UNSEEN = re.compile(r"[\x00-\x1f\x7f]|^ | $|  ")
+
+
+def is_name(text: str) -> bool:
+    """Whether the program takes this name."""
+    return 1 <= len(text.encode("utf-8", "surrogateescape")) <= 60 and not UNSEEN.search(text)
+
+
+def is_list(text: str) -> bool:
+    """Whether these are room codes, each once, with one space between two."""
+    codes = text.split(" ") if text else []
+    return len(codes) <= 40 and len(set(codes)) == len(codes) and all(map(CODE.fullmatch, codes))
+
+
+def is_text(fields: list[str]) -> bool:
+    """Whether these were bytes of UTF-8: others are kept as signs that no text has."""
+    return not re.search("[\udc80-\udcff]", "".join(fields))
+
+
+# How each field of a record has to be written, by kind.
+Form = Callable[[str], object]
+FORMS: dict[str, tuple[Form, ...]] = {
+    "rooms": (CODE.fullmatch,),
+    "people": (IDENTIFIER.fullmatch, is_name, KEY.fullmatch, lambda text: not text or CODE.fullmatch(text)),
+    "grades": (IDENTIFIER.fullmatch, GRADE.fullmatch),
+    "choices": (IDENTIFIER.fullmatch, is_list),
+}
+# What may be in a list once, by kind: the field, and what it is.
+ONCE = {"rooms": {0: "room"}, "people": {0: "person", 2: "key", 3: "room"}}
+
+
+def badly_written(kind: str, fields: list[str]) -> Meaning | None:
+    """What is wrong with how a record is written, if anything."""
+    forms = FORMS[kind]
+    if not is_text(fields):
+        return plain.cause(["text"], kind)
+    if len(fields) != len(forms):
+        return plain.cause(["fields"], kind)
+    bad = next((number for number, (form, field) in enumerate(zip(forms, fields), 1) if not form(field)), 0)
+    return plain.cause(["field", str(bad)], kind) if bad else None
+
+
+def of_record(office: Office, kind: str, fields: list[str]) -> Meaning | None:
+    """What is wrong with a record beside the register, if anything."""
+    if kind == "rooms":
+        return plain.REFUSALS[4] if fields[0] in office.rooms else None
+    if kind == "people":
+        return of_home(office, fields)
+    if fields[0] not in office.people:
+        return plain.REFUSALS[2]
+    codes = fields[1].split() if kind == "choices" else []
+    return plain.REFUSALS[3] if any(code not in office.rooms for code in codes) else None
+
+
+def of_home(office: Office, fields: list[str]) -> Meaning | None:
+    """What is wrong with a person who is to come in, or with the room where they live."""
+    if fields[0] in office.people:
+        return plain.REFUSALS[5]
+    room = office.rooms.get(fields[3])
+    if not fields[3] or (room and not room.shut and not room.tenant):
+        return None
+    return plain.REFUSALS[3 if room is None else 7 if room.shut else 8]
+
+
+def find(office: Office, kind: str, table: CsvList, apart: set[int]) -> Iterator[tuple[int, Meaning]]:
+    """The number of each record with a fault, but for those that are set apart, and what is wrong with it."""
+    once = ONCE.get(kind, {})
+    rows: dict[tuple[int, str], int] = {}
+    for number, record in enumerate(table.records):
+        if not number or number in apart:
+            continue
+        meaning = badly_written(kind, record.fields) or of_record(office, kind, record.fields)
+        for place, what in once.items():
+            field = record.fields[place] if place < len(record.fields) else ""
+            if meaning is None and field and (place, field) in rows:
+                meaning = Meaning(f"This {what} is in row {rows[place, field]} of this list already.",
+                                  "Correct one of the two lines, or take it out.")
+        if meaning:
+            yield number, meaning
+            continue
+        for place in once:
+            rows.setdefault((place, record.fields[place]), record.row)
