@@ -15,7 +15,7 @@ sys.dont_write_bytecode = True
 
 # pylint: disable=wrong-import-position  # nothing may be written before
 from office_requests import Page, hand_in
-from stand import Stand, check, key_of
+from stand import Stand, check, key_of, until
 
 ROOMS = [f"A-{number}" for number in range(101, 121)]
 PEOPLE = [f"T{number:02}" for number in range(1, 11)]
@@ -145,7 +145,22 @@ def try_lists(stand, anna, bert):
     anna.form("/office/lists/bring", {"held": held})
     check("the others alone can come in", stand.recorded().get("T07") == ["A-112"]
           and stand.recorded().get("T08") == ["A-111"], stand.recorded())
+    try_between(stand, anna)
     try_many(stand, anna, bert)
+
+
+def try_between(stand, anna):
+    """A list that is replaced after the page has looked, and before the keeper brings the others in."""
+    shown = anna.form("/office/lists", {"kind": "choices", "label": "late"}, files={"list": b"person,choices\nT03,A-110\n"})[2]
+    lines = [f"grade T0{number % 9 + 1} {number % 8}" for number in range(100)] + ["choose T03 A-115"]
+    other = threading.Thread(target=stand.ask, kwargs={"ask": "do", "lines": lines, "who": "bert"})
+    other.start()
+    until(lambda: stand.server() is None, 60, "the other clerk's turn")
+    shown = anna.form("/office/lists/bring", {"held": held_in(shown)})[2]
+    other.join()
+    check("a list that somebody replaces in between stays", stand.recorded().get("T03") == ["A-115"], stand.recorded())
+    check("and the page works out again what comes in", STALE in shown and "1 of these people has handed in" in shown,
+          shown[:2500])
 
 
 def try_many(stand, anna, bert):

@@ -137,6 +137,8 @@ def bring_list() -> str:
         memory.let_go(clerk(), name)
         if job.departed:
             go_to(f"/office/departed/{memory.hold(clerk(), Departed(job.departed))}")
+    elif is_stale(office := office_now(), job):
+        return look_again(office, job)
     go_to("/office/lists")
 
 
