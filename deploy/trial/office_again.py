@@ -84,7 +84,7 @@ def try_faults(page):
     wrong = [list(row) for row in NEW]
     for row in wrong[:60]:
         row[3] = "Z-999"
-    wrong[60][0], wrong[61][1], wrong[62][0], wrong[63][3], wrong[64][3] = "n-60", " Two", "N65", "A-105", "A-130"
+    wrong[60][0], wrong[61][1], wrong[62][0], wrong[63][3], wrong[64][3] = "N-60", "", "N65", "A-105", "A-130"
     wrong[66][3] = "A-130"
     shown = send(page, "people-2", STAYED + wrong)
     rows = [int(row) for row in re.findall(r'<td class="number">(\d+)</td>', shown)]

@@ -98,7 +98,7 @@ import app, bottle
 body = sys.stdin.buffer.read()
 bottle.request.bind({"REQUEST_METHOD": "POST", "CONTENT_TYPE": sys.argv[2], "CONTENT_LENGTH": str(len(body)),
                      "wsgi.input": io.BytesIO(body)})
-print(len(app.upload_of("list")), len(app.field("text")))
+print(len(app.upload_of("list", 300_000)), len(app.field("text")))
 """
 
 
@@ -198,15 +198,16 @@ def try_lists(stand, page):
     """Bad lists are answered with what to do, and the residents' server is not stopped; lists stay in memory."""
     before, server = rows(stand), stand.server()
     lists = {
-        "another header": (b"room;x\nA-1\n", "first line"),
-        "no UTF-8": ("room\nZ-1\nÄ\n".encode("latin-1"), "not UTF-8"),
-        "UTF-16": ("room\nZ-1\n".encode("utf-16"), "first line"),
+        "another header": (b"rome;x\nA-1\n", "does not name the columns"),
+        "an umlaut": ("room\nZ-1\nÄ\n".encode("latin-1"), "well written"),
+        "UTF-16": ("room\nA-101\n".encode("utf-16"), "in the register already"),
         "a room twice": (b"room\nZ-1\nZ-1\n", "in row 2 of this list already"),
-        "small letters": (b"room\nz-1\n", "capital letters"),
+        "a point": (b"room\nz.1\n", "capital letters"),
         "too many fields": (b"room\nZ-1,\n", "more or fewer fields"),
         "a null": (b"room\nZ-1\0\n", "well written"),
         "an open quote": (b'room\n"Z-1\nZ-2\n', "well written"),
-        "too long": (b"room\n" + b"Z-1\n" * 70_000, "longer than 262,144 bytes"),
+        "too long": (b"room\n" + b"Z-1\n" * 300_000, "longer than 262,144 bytes"),
+        "too many lines": (b"room\n" + b"Z-1\n" * 20_000, "more than 10,000 records"),
         "nothing": (b"", "Choose a list first"),
     }
     for name, (body, text) in lists.items():
@@ -216,7 +217,7 @@ def try_lists(stand, page):
         check(f"a list with {name} reads: {text}", text in shown, (status, shown[:1500]))
     check("the server was not stopped, and nothing was imported", stand.server() == server and rows(stand) == before)
     _, _, shown = page.form(
-        "/office/lists", {"kind": "rooms", "label": "rows"}, files={"list": b"room\n\n\nZ-1\nz-2\n\nA-101\n"}
+        "/office/lists", {"kind": "rooms", "label": "rows"}, files={"list": b"room\n\n\nZ-1\nz.2\n\nA-101\n"}
     )
     check(
         "rows are those of the spreadsheet, with empty lines", ">5</td>" in shown and ">7</td>" in shown, shown[-2500:]

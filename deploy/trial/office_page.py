@@ -50,7 +50,7 @@ def open_round(clerk, stand, college):
     clerk.try_list("choices", college.write("choices.csv", ["person", "choices"], by_office), label="choices-1")
     clerk.reads("The same list came in before")
     clerk.shot("13-known")
-    wrong = [["R001", "A-101"], ["R777", "A-101"], ["R002", "A-101 Z-1"], ["R003", "A-101  A-102"]]
+    wrong = [["R001", "A-101"], ["R777", "A-101"], ["R002", "A-101 Z-1"], ["R003", "A-101 A.102"]]
     clerk.try_list("choices", college.write("choices.csv", ["person", "choices"], wrong))
     clerk.reads("3 lines have to be corrected")
     clerk.visit("/office/")

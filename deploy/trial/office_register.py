@@ -19,17 +19,18 @@ def bring_lists_in(clerk, college):
     clerk.reads("The list is in, with 320 lines.")
     clerk.shot("02-lists")
     bring_people_in(clerk, college)
+    send_people_again(clerk, college)
     bring_grades_in(clerk, college)
 
 
 def bring_people_in(clerk, college):
     """People: a list with a fault of each kind, and then the list without."""
     wrong = college.people_rows()
-    wrong[4][1], wrong[8][3], wrong[19][0], wrong[29][0], wrong[39][2] = "Two  Spaces", "Z-999", "r020", "R029", "short"
+    wrong[4][1], wrong[8][3], wrong[19][0], wrong[29][0], wrong[39][2] = "", "Z-999", "R.020", "R029", "short"
     wrong[49] = ["R050", "No Fields"]
     wrong[59][3] = wrong[60][3] = "A-101"
     clerk.try_list("people", college.write("wrong.csv", ["person", "name", "key", "home"], wrong))
-    rows = re.findall(r"^(\d+) ([Rr]\d+) ", clerk.text(), re.M)
+    rows = re.findall(r"^(\d+) (R\.?\d+) ", clerk.text(), re.M)
     check(
         "all faults of a list are shown, with their rows",
         [row for row, _ in rows][:6] == ["6", "10", "21", "31", "41", "51"] and len(rows) >= 7,
@@ -46,6 +47,27 @@ def bring_people_in(clerk, college):
     clerk.tick()
     clerk.press("Bring in the list")
     clerk.reads("The list is in, with 300 lines.")
+
+
+def send_people_again(clerk, college):
+    """The same list, one without two of its people, and one as an office has it: nothing is brought in."""
+    rows = college.people_rows()
+    clerk.try_list("people", college.folder / "people.csv", label="again")
+    clerk.reads("All 300 people of this list are in the register already.", "no key was made")
+    clerk.shot("04-again")
+    clerk.try_list("people", college.write("fewer.csv", ["person", "name", "key", "home"], rows[2:]))
+    clerk.reads("All 298 people of this list", "2 people of the register are not on this list")
+    clerk.shot("04-departed")
+    free = next(room for room in college.rooms if room not in college.homes.values())
+    old = [[row[0], *row[1].split(" ", 1)[::-1], row[3]] for row in rows[2:9]]
+    text = "\n".join(";".join(row) for row in [["Matrikelnummer", "Name", "Vorname", "Zimmer"], *old,
+                                               ["n001 ", "Müller", "Jörg", free.lower()], ["n002", "Öz ", "Ida  M", ""]])
+    (college.folder / "office.csv").write_bytes(text.encode("cp1252", "replace"))
+    clerk.try_list("people", college.folder / "office.csv")
+    clerk.reads("7 people of this list are in the register already", "2 are new", "The page understood the list rightly",
+                "CSV with semicolons, in the character set of Windows", "Jörg Müller", free)
+    clerk.shot("04-understood")
+    clerk.press("No, go back")
 
 
 def bring_grades_in(clerk, college):

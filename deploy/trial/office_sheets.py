@@ -88,7 +88,9 @@ def try_office_sheets(program):
         header = ["person", "name", "room", "grade"]
         listed = in_order(page.get("/office/export/register.csv")[2], header)
         shown = bring_in(page, "people", "again", header, listed)
-        check("the page's list of people is none that can come in again", "The list does not fit" in shown, shown)
+        check("the page's list of people changes nothing if it comes in again",
+              "Nobody on this list is new" in shown and {row[0]: row[1] for row in stand.ask(ask="view")["people"]} == names,
+              shown)
         print_page = page.get("/office/print")[2]
         check("the page says what it does to names",
               all(part in print_page for part in ("an apostrophe", "open it in no spreadsheet")), print_page)

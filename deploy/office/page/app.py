@@ -88,10 +88,10 @@ def text_of(name: str) -> str:
     return " ".join(field(name).split())
 
 
-def upload_of(name: str) -> bytes:
+def upload_of(name: str, longest: int) -> bytes:
     """The bytes of a file in a form. One that is too long is cut behind the limit."""
     upload = request.files.get(name)  # pylint: disable=no-member  # bottle makes it when it is asked for
-    return bytes(upload.file.read(plain.LONGEST_LIST + 1)) if upload else b""
+    return bytes(upload.file.read(longest + 1)) if upload else b""
 
 
 def tell(kind: str, text: str) -> None:

@@ -28,12 +28,21 @@ class CsvList:
         text = body.decode("utf-8-sig", "surrogateescape")
         self.lines = list(io.StringIO(text, newline=""))
         self.records: list[Record] = []
+        self.made: set[int] = set()  # the records whose keys the page has made
         reader = csv.reader(self.lines)
         start = 0
         for row, fields in enumerate(reader, 1):
             if fields:
                 self.records.append(Record(row, fields, start, reader.line_num))
             start = reader.line_num
+
+    @classmethod
+    def of(cls, rows: list[tuple[int, list[str]]]) -> "CsvList":
+        """A list of these rows, each with its number in the spreadsheet. The first one is the header."""
+        table = cls(b"")
+        table.lines = [line_of(fields) for _, fields in rows]
+        table.records = [Record(row, fields, at, at + 1) for at, (row, fields) in enumerate(rows)]
+        return table
 
     @property
     def header(self) -> list[str]:
@@ -57,6 +66,7 @@ class CsvList:
                 record.fields[2] = secrets.token_hex(16)
                 made.append((record.fields[0], record.fields[1], record.fields[2]))
                 self._write(record)
+                self.made.add(number)
         return made
 
     def _write(self, record: Record) -> None:

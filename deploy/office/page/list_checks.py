@@ -21,18 +21,13 @@ UNSEEN = re.compile(r"[\x00-\x1f\x7f]|^ | $|  ")
 
 def is_name(text: str) -> bool:
     """Whether the program takes this name."""
-    return 1 <= len(text.encode("utf-8", "surrogateescape")) <= 60 and not UNSEEN.search(text)
+    return 1 <= len(text.encode()) <= 60 and not UNSEEN.search(text)
 
 
 def is_list(text: str) -> bool:
     """Whether these are room codes, each once, with one space between two."""
     codes = text.split(" ") if text else []
     return len(codes) <= 40 and len(set(codes)) == len(codes) and all(map(CODE.fullmatch, codes))
-
-
-def is_text(fields: list[str]) -> bool:
-    """Whether these were bytes of UTF-8: others are kept as signs that no text has."""
-    return not re.search("[\udc80-\udcff]", "".join(fields))
 
 
 # How each field of a record has to be written, by kind.
@@ -50,8 +45,6 @@ ONCE = {"rooms": {0: "room"}, "people": {0: "person", 2: "key", 3: "room"}}
 def badly_written(kind: str, fields: list[str]) -> Meaning | None:
     """What is wrong with how a record is written, if anything."""
     forms = FORMS[kind]
-    if not is_text(fields):
-        return plain.cause(["text"], kind)
     if len(fields) != len(forms):
         return plain.cause(["fields"], kind)
     bad = next((number for number, (form, field) in enumerate(zip(forms, fields), 1) if not form(field)), 0)
@@ -95,6 +88,5 @@ def find(office: Office, kind: str, table: CsvList, apart: set[int]) -> Iterator
                                   "Correct one of the two lines, or take it out.")
         if meaning:
             yield number, meaning
-            continue
-        for place in once:
+        for place in once if len(record.fields) == len(FORMS[kind]) else ():
             rows.setdefault((place, record.fields[place]), record.row)

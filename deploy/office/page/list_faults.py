@@ -35,10 +35,15 @@ class Findings(NamedTuple):
     more: bool
 
 
-def shown(fields: list[str], kind: str) -> str:
-    """A record for the screen. A key is never shown, not even one that is no key yet or is in another column."""
+def fields_shown(fields: list[str], kind: str) -> list[str]:
+    """Fields for the screen. A key is never shown, not even one that is no key yet or is in another column."""
     fields = ["(key)" if kind == "people" and place == 2 and field else field for place, field in enumerate(fields)]
-    return masked(" | ".join(fields).encode("utf-8", "replace").decode())
+    return [masked(field.encode("utf-8", "replace").decode()) for field in fields]
+
+
+def shown(fields: list[str], kind: str) -> str:
+    """A record for the screen."""
+    return " | ".join(fields_shown(fields, kind))
 
 
 def bad_record(answer: Answer) -> tuple[int, list[str]] | None:
@@ -50,9 +55,10 @@ def bad_record(answer: Answer) -> tuple[int, list[str]] | None:
 
 
 def fault_of(table: CsvList, kind: str, number: int, meaning: Meaning) -> Fault:
-    """A record of a list with what is wrong with it."""
+    """A record of a list, as the clerk wrote it, with what is wrong with it."""
     record = table.records[number]
-    return Fault(record.row, shown(record.fields[:1], kind), shown(record.fields, kind), meaning)
+    fields = ["" if place == 2 and number in table.made else field for place, field in enumerate(record.fields)]
+    return Fault(record.row, shown(fields[:1], kind), shown(fields, kind), meaning)
 
 
 def find(office: Office, table: CsvList, kind: str, attempt: Callable[[bytes], Answer], apart: set[int]) -> Findings:

@@ -1,7 +1,6 @@
 """Imports: a list is tried on a copy, all its faults are shown, and it is imported once the clerk says so."""
 
 import base64
-import csv
 from typing import Any, NamedTuple
 
 from journal import masked
@@ -10,13 +9,17 @@ from seen import Saw
 import known_people
 import list_faults
 import plain
+import understanding
 from app import app, ask, change, clerk, field, go_to, memory, office_now, show, tell, text_of, upload_of
 from csv_list import CsvList
 from keeper_client import Answer, answers_of
 from known_people import Beside
 from many_pages import MOST_AT_ONCE, acts_for
+from list_faults import Findings
 from office_view import Office
 from questions import Question, put_question
+from sheet_limits import LONGEST_FILE
+from understanding import NotUnderstood, Understood
 
 NOBODY = Beside(set(), [], [])
 
@@ -51,7 +54,7 @@ def what_is_wrong(office: Office, kind: str, label: str, body: bytes) -> str:
     """Why a list is not even tried, or nothing."""
     if kind not in plain.kinds(office.version) or not body:
         return "Choose a list first."
-    if len(body) > plain.LONGEST_LIST:
+    if len(body) > LONGEST_FILE:
         return plain.TOO_LONG
     return plain.LABEL_LIKE_A_KEY if masked(label) != label else ""
 
@@ -64,36 +67,40 @@ def lists() -> str:
 
 @app.post("/office/lists")
 def look_at_list() -> str:
-    """Tries a list. If it fits, the page holds it until the clerk says to import it."""
-    office, kind, label, body = office_now(), text_of("kind"), text_of("label"), upload_of("list")
-    try:
-        table = CsvList(body)
-        wrong = what_is_wrong(office, kind, label, body)
-    except csv.Error:
-        wrong = "This file is no list in CSV. Save it from the spreadsheet as CSV, UTF-8, with commas."
-    if wrong:
+    """Reads a file and tries its list. If it fits, the page holds it until the clerk says to import it."""
+    office, kind, label, body = office_now(), text_of("kind"), text_of("label"), upload_of("list", LONGEST_FILE)
+    if wrong := what_is_wrong(office, kind, label, body):
         tell("bad", wrong)
         go_to("/office/lists")
-    beside = known_people.compare(office, table) if kind == "people" else NOBODY
-    return looked_at(office, Job(kind, label, body), table, beside, bool(field("keys")))
+    try:
+        read = understanding.read(kind, body)
+    except NotUnderstood as fault:
+        found = Findings([], fault.meaning, False)
+        return show("faults", office=office, job=Job(kind, label, b""), found=found, answer="", beside=NOBODY, read=None)
+    if len(read.body) > plain.LONGEST_LIST:
+        tell("bad", plain.TOO_LONG)
+        go_to("/office/lists")
+    beside = known_people.compare(office, read.table) if kind == "people" else NOBODY
+    return looked_at(office, Job(kind, label, read.body), read.table, beside, read)
 
 
-def looked_at(office: Office, job: Job, table: CsvList, beside: Beside, make_keys: bool) -> str:
-    """The page of a list that was tried. Of a list of people only those are tried who are not in the register."""
+def looked_at(office: Office, job: Job, table: CsvList, beside: Beside, read: Understood | None) -> str:
+    """The page of a list that was tried. Of a list of people only those are tried who are not in the register. What the
+    page read of the file is for the clerk to agree to, but not if the list is looked at again."""
     if office.has_label(job.label) and try_list(job).status == 0:
         return known_list(office, job)
     if beside.known and len(beside.known) == len(table.records) - 1:
-        return show("already", office=office, beside=beside, **departed_form(office, tuple(beside.departed)))
+        return show("already", office=office, beside=beside, read=read, **departed_form(office, tuple(beside.departed)))
     made = []
-    if job.kind == "people" and make_keys and table.header == known_people.HEADER:
+    if read and job.kind == "people" and field("keys"):
         made = table.fill_keys(beside.known)
     if made or beside.known:
         job = job._replace(body=table.body(without=beside.known), departed=tuple(beside.departed))
     answer = try_list(job)
     if answer.status == 0:
-        return fitting_list(office, job, CsvList(job.body), made, beside)
+        return fitting_list(office, job, made, beside, read)
     found = list_faults.find(office, table, job.kind, lambda part: try_list(job._replace(body=part)), beside.known)
-    return show("faults", office=office, job=job, found=found, answer=answer.text.strip(), beside=beside)
+    return show("faults", office=office, job=job, found=found, answer=answer.text.strip(), beside=beside, read=read)
 
 
 def known_list(office: Office, job: Job) -> str:
@@ -101,8 +108,10 @@ def known_list(office: Office, job: Job) -> str:
     return show("known", office=office, job=job, proposed=office.new_label(job.kind))
 
 
-def fitting_list(office: Office, job: Job, table: CsvList, made: list[tuple[str, str, str]], beside: Beside) -> str:
+def fitting_list(office: Office, job: Job, made: list[tuple[str, str, str]], beside: Beside,
+                 read: Understood | None) -> str:
     """The page of a list that fits: what it replaces, the slips with new keys, and whether to import it."""
+    table = CsvList(job.body)
     replaced: dict[str, int] = {}
     if job.kind == "choices":
         for number, record in enumerate(table.records):
@@ -113,7 +122,7 @@ def fitting_list(office: Office, job: Job, table: CsvList, made: list[tuple[str,
     people = [record.fields[0] for record in table.records[1:]]
     others = [person for person in people if person not in replaced]
     return show("fits", office=office, job=job, count=len(people), made=made, replaced=list(replaced), beside=beside,
-                held=hold(office, job, people), held_rest=hold(office, rest, others) if replaced else "")
+                read=read, held=hold(office, job, people), held_rest=hold(office, rest, others) if replaced else "")
 
 
 def hold(office: Office, job: Job, people: list[str]) -> str:
@@ -157,7 +166,7 @@ def look_again(office: Office, job: Job) -> str:
         came = ", ".join(sorted(table.records[number].fields[0] for number in beside.known))
         tell("bad", f"Meanwhile these people came into the register: {came}. If you have printed slips for them, "
                     "destroy these: their keys are other ones. All other slips stay good.")
-    return looked_at(office, job, table, beside, False)
+    return looked_at(office, job, table, beside, None)
 
 
 # --- who is in the register, and not on the list

@@ -93,7 +93,8 @@ COPY_FIRST = ("The keeper makes a copy of the office first. The page Copies brin
 REGISTER = ("idle", "open")
 KINDS = {
     "rooms": Kind("room", "One room code a line.", REGISTER, 1),
-    "people": Kind("person,name,key,home", "Identifier, name, key, and the room where the person lives, or nothing.",
+    "people": Kind("person,name,key,home", "Identifier, name, key, and the room where the person lives, or nothing. "
+                   "The name may be in two columns, first name and last name. Without key and home the list fits too.",
                    REGISTER, 1),
     "grades": Kind("person,grade", "Identifier, and a grade from 0 to 9. A smaller grade is earlier in the order.",
                    REGISTER, 2),
@@ -138,6 +139,12 @@ REFUSALS = {
 TOO_LONG = f"This list is longer than {LONGEST_LIST:,} bytes. Nothing came in. Split it in two, with a label each."
 LABEL_LIKE_A_KEY = ("A label with 16 letters and digits in a row may be a key, and the journal takes no keys. Write "
                     "another label.")
+# What may stand in the columns, with examples, as the page of lists has it.
+WRITTEN = {
+    "room": "A room code has up to eight capital letters, digits and hyphens, and begins with no hyphen, such as N-105 or "
+            "12B. A space or a point cannot be in it: write N-1-05 for N 1.05.",
+    "person": "An identifier has up to twelve capital letters and digits, such as 2400777 or S2400777.",
+}
 CODE = "Write a room code: up to eight capital letters, digits and hyphens, the first no hyphen."
 IDENTIFIER = "Write an identifier: up to twelve capital letters and digits."
 FIELDS = {

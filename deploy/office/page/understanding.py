@@ -1,0 +1,180 @@
+"""What the page understands of a clerk's file, and the clean list that it makes of it for the program.
+
+The file may have other separators, another character set, other names and other columns; spaces at ends and small
+letters are mended. The clerk sees each kind of change, and agrees.
+"""
+
+import re
+import unicodedata
+from collections.abc import Callable
+from typing import NamedTuple
+
+import columns
+import list_faults
+import sheet_books
+import sheet_text
+from columns import Columns
+from csv_list import CsvList
+from plain import CAUSES, Meaning
+from sheet_limits import Unreadable
+
+ENDS = " \t\r\n\u00a0\u200b\u200c\u200d\ufeff"
+SPACES, CAPITALS, SEPARATED = "spaces", "capitals", "separated"
+CHANGES = {
+    SPACES: "Spaces at the ends, and of several in a row all but one, were taken away",
+    CAPITALS: "Small letters became capitals: the program has only capitals in identifiers and room codes",
+    SEPARATED: "Commas, semicolons and line ends between room codes became spaces",
+}
+EXAMPLES = 3
+
+
+class Change(NamedTuple):
+    """A kind of change: in how many fields, and some of them: the row, what the file has, what comes in."""
+
+    what: str
+    times: int
+    examples: list[tuple[int, str, str]]
+
+
+class Understood(NamedTuple):
+    """What the page made of a file. If the file was as the program takes it, there is nothing to agree to."""
+
+    table: CsvList
+    body: bytes
+    what: str                         # what the file is
+    names: list[tuple[str, str]]      # each column of the file, and what it was taken for
+    notes: list[str]
+    changes: list[Change]
+    first: list[list[str]]            # the first records, for the screen
+    to_agree: bool
+
+
+# --- fields
+
+def squeezed(text: str) -> str:
+    """A text with one space in place of several, and none at its ends. Its accents are one sign with their letters."""
+    return " ".join(unicodedata.normalize("NFC", text.strip(ENDS)).split())
+
+
+def stripped(text: str) -> str:
+    """A text without spaces at its ends."""
+    return text.strip(ENDS)
+
+
+def capitals(text: str) -> str:
+    """A code or an identifier in capitals. What has other letters than a to z stays, and is a fault."""
+    return text.upper() if text.isascii() else text
+
+
+def separated(text: str) -> str:
+    """Room codes with one space between two."""
+    return " ".join(re.split(r"[\s,;]+", text.strip(ENDS + ",;")))
+
+
+Step = tuple[str, Callable[[str], str]]
+CODE: list[Step] = [(SPACES, stripped), (CAPITALS, capitals)]
+STEPS: dict[str, list[Step]] = {
+    "person": CODE, "room": CODE, "home": CODE, "name": [(SPACES, squeezed)], "key": [(SPACES, stripped)],
+    "grade": [(SPACES, stripped)], "choices": [(SPACES, stripped), (SEPARATED, separated), (CAPITALS, capitals)],
+}
+
+
+class Cleaner:
+    """Makes clean fields, and counts what it changed."""
+
+    def __init__(self) -> None:
+        self.counts: dict[str, int] = {}
+        self.examples: dict[str, list[tuple[int, str, str]]] = {}
+
+    def field(self, target: str, row: int, text: str) -> str:
+        """A field as the program takes it, as far as it can be mended."""
+        for what, step in STEPS[target]:
+            mended = step(text)
+            if mended != text:
+                self.counts[what] = self.counts.get(what, 0) + 1
+                seen = self.examples.setdefault(what, [])
+                if len(seen) < EXAMPLES and target != "key":
+                    old, new = list_faults.fields_shown([text, mended], "")
+                    seen.append((row, old, new))
+                text = mended
+        return text
+
+    def record(self, found: Columns, row: int, fields: list[str], width: int) -> list[str]:
+        """A record with its columns in the program's order. One with more or fewer fields than the first line stays as
+        it is: a fault. Its fields may be shifted, as by a comma in a name."""
+        if len(fields) != width:
+            return fields if len(fields) != len(found.places) else [*fields, ""]
+        return [self.field(target, row, " ".join(filter(str.strip, (fields[place] for place in places))))
+                for target, places in found.places.items()]
+
+    def changes(self) -> list[Change]:
+        """What it changed."""
+        return [Change(text, self.counts[what], self.examples.get(what, [])) for what, text in CHANGES.items()
+                if what in self.counts]
+
+
+# --- files
+
+class NotUnderstood(Exception):
+    """A file of which the page understands nothing, and why."""
+
+    def __init__(self, meaning: Meaning) -> None:
+        super().__init__(str(meaning))
+        self.meaning = meaning
+
+
+def read(kind: str, data: bytes) -> Understood:
+    """What the page understands of a file."""
+    try:
+        if sheet_books.is_book(data):
+            rows, what = sheet_books.read(data)
+            width = max((len(fields) for _, fields in rows), default=0)
+            rows = [(row, [*fields, *[""] * (width - len(fields))]) for row, fields in rows]
+            return understood(kind, data, sheet_text.Text(rows, what, False, False))
+        return understood(kind, data, sheet_text.read(data, lambda name: columns.is_known(kind, name)))
+    except Unreadable as fault:
+        says, _, to_do = str(fault).partition(". ")
+        raise NotUnderstood(Meaning(f"{says}.", to_do)) from fault
+
+
+def understood(kind: str, data: bytes, text: sheet_text.Text) -> Understood:
+    """What the page understands of these rows."""
+    if len(text.rows) > sheet_books.MOST_ROWS + columns.LOOKED_AT:
+        raise NotUnderstood(CAUSES["many"])
+    if not text.rows:
+        raise NotUnderstood(Meaning("This file is empty.", "Choose another one."))
+    found = columns.find(kind, text.rows)
+    if isinstance(found, Meaning):
+        raise NotUnderstood(found)
+    header = text.rows[found.at][1]
+    cleaner = Cleaner()
+    records = [(row, cleaner.record(found, row, fields, len(header))) for row, fields in text.rows[found.at + 1:]]
+    targets = columns.targets_of(kind)
+    table = CsvList.of([(text.rows[found.at][0], targets), *records])
+    if text.plain and [record.fields for record in CsvList(data).records] == [record.fields for record in table.records]:
+        return Understood(CsvList(data), data, text.what, [], [], [], [], False)
+    first = [list_faults.fields_shown(fields, kind) for _, fields in records[:5]]
+    return Understood(table, table.body(), text.what, names_of(header, found), notes_on(kind, text, found, records),
+                      cleaner.changes(), first, True)
+
+
+def names_of(header: list[str], found: Columns) -> list[tuple[str, str]]:
+    """Each column of the file with what it was taken for."""
+    taken = {place: target for target, places in found.places.items() for place in places}
+    return [(columns.listed([header[place]]), taken.get(place, "left out")) for place in range(len(header))
+            if place in taken or place in found.left_out]
+
+
+def notes_on(kind: str, text: sheet_text.Text, found: Columns, records: list[tuple[int, list[str]]]) -> list[str]:
+    """What the clerk has to know besides."""
+    notes = []
+    if found.at:
+        notes.append(f"The columns have their names in row {text.rows[found.at][0]}. What is above is left out.")
+    if kind == "people":
+        absent = {"key": "No column has keys.", "home": "No column has rooms: nobody who is new gets one by this list."}
+        notes += [note for target, note in absent.items() if not found.places[target]]
+        letters = [fields[1] for _, fields in records if len(fields) == 4 and not fields[1].isascii()]
+        if text.guessed and letters:
+            notes.append(f"The page guessed the character set. Look whether these names are right: "
+                         f"{list_faults.shown([', '.join(letters[:6])], '')}.")
+    return notes
