@@ -14,6 +14,7 @@
 | back | name, seen | name: of the copy that was taken of the present office before |
 | blank | label, seen | blanked: the label |
 | correct | person, name or key or both, seen, saw | corrected: the person; copy |
+| keys | keys: by person, seen, saw | corrected: how many; copy |
 | note, journal | line; last | nothing; journal: the last entries; whole: whether no entry is too old to be had |
 | blank-journal | | blanked: how many answers, which may have had names, were taken out of the journal |
 
@@ -110,6 +111,7 @@ class Asks:
             "record": self.record, "backup": self.backup, "backups": self.list_backups,
             "back": self.put_back, "blank": self.blank, "note": self.note,
             "journal": self.show_journal, "blank-journal": self.blank_journal, "correct": self.correct,
+            "keys": self.new_keys,
         }
 
     def answer(self, job: Job) -> Job:
@@ -252,18 +254,30 @@ class Asks:
             raise Fault("not understood: neither name nor key")
         if told.name_shows_a_key(values.get("name", "")):
             raise Fault("the name has a word that may be a key. Nothing was changed.")
-
-        def carry_out(copy: Path) -> list[Answer]:
-            correct(person, values, copy)
-            return [self.program.look(copy)]
         spoken = masked(f"correct {person}: {' and '.join(values)}")
+        return {"corrected": person, "copy": self.correct_all(job, {person: values}, spoken, spoken)}
+
+    def new_keys(self, job: Job) -> Job:
+        """Other keys for many people, all or none, after one copy of the office. The journal has the people alone."""
+        keys = job["keys"]
+        if not isinstance(keys, dict) or not keys or not all(isinstance(key, str) for key in keys.values()):
+            raise Fault("not understood: keys are no texts by person")
+        short = f"keys for {len(keys)} people"
+        copy = self.correct_all(job, {person: {"key": key} for person, key in keys.items()},
+                                masked(f"{short}: {' '.join(keys)}"), short)
+        return {"corrected": len(keys), "copy": copy}
+
+    def correct_all(self, job: Job, people: dict[str, dict[str, str]], spoken: str, short: str) -> str | None:
+        """Corrects people. `spoken` is what the journal says, `short` the copy that is kept before. Gives its name."""
+        def carry_out(copy: Path) -> list[Answer]:
+            correct(people, copy)
+            return [self.program.look(copy)]
         change = self.hand.change(Change(job["who"], spoken, carry_out, whole=True, kind="correct",
-                                         why=f"before {spoken}, by {job['who']}", seen=seen_in(job),
-                                         saw=saw_in(job)))
+                                         why=f"before {short}, by {job['who']}", seen=seen_in(job), saw=saw_in(job)))
         if is_refused(change.answers):
             said = change.answers[-1].text.strip()
             raise Fault(f"the program does not take this name or key ({said}). Nothing was changed.")
-        return {"corrected": person, "copy": change.copy}
+        return change.copy
 
     # --- the journal
 

@@ -58,22 +58,24 @@ def change_key(old: str, new: str, copy: Path) -> None:
             database.execute("UPDATE person SET passkey = ? WHERE passkey = ?", (new, old))
 
 
-def correct(person: str, values: dict[str, str], copy: Path) -> None:
-    """Gives a person another `name`, or another `key`, or both, in a copy, in any phase of a round.
+def correct(people: dict[str, dict[str, str]], copy: Path) -> None:
+    """Gives people another `name`, or another `key`, or both, in a copy, in any phase of a round: all of them, or none.
 
     The program has no line for it. The laws of the rows say of a name and a key what form they have, and that no two
     people have one key. So the program has to take the copy as an office afterwards.
     """
-    with contextlib.closing(sqlite3.connect(copy)) as database:
-        try:
-            with database:
+    with contextlib.ExitStack() as ending:
+        database = ending.enter_context(contextlib.closing(sqlite3.connect(copy)))
+        ending.enter_context(database)
+        for person, values in people.items():
+            try:
                 changed = database.execute(
                     "UPDATE person SET name = coalesce(?, name), passkey = coalesce(?, passkey) WHERE id = ?",
                     (values.get("name"), values.get("key"), person))
-        except sqlite3.IntegrityError as fault:
-            raise Fault("another person has this key. Nothing was changed.") from fault
-    if changed.rowcount != 1:
-        raise Fault(f"nobody has the identifier {person!r}. Nothing was changed.")
+            except sqlite3.IntegrityError as fault:
+                raise Fault("another person has this key. Nothing was changed.") from fault
+            if changed.rowcount != 1:
+                raise Fault(f"nobody has the identifier {person!r}. Nothing was changed.")
 
 
 class Program:
@@ -134,7 +136,7 @@ class Program:
         answer = self.hand_over(f"person {words[1]} {stand_in} {hidden}", copy)
         if answer.status == 0:
             try:
-                correct(words[1], {"name": name}, copy)
+                correct({words[1]: {"name": name}}, copy)
                 change_key(stand_in, words[2], copy)
             except sqlite3.IntegrityError:
                 return KEY_IN_USE

@@ -7,7 +7,7 @@
 // How long the key outlives the page, in milliseconds. A browser may have a page in the background work once a minute.
 const GONE = 2 * 60 * 1000;
 
-const KEY = "room-key", UNTIL = "room-key-until", DRAFT = "rooms-draft", LANGUAGE = "rooms-language";
+const KEY = "room-key", LINKED = "room-key-link", UNTIL = "room-key-until", DRAFT = "rooms-draft", LANGUAGE = "rooms-language";
 
 const kept = new Map();
 
@@ -24,6 +24,15 @@ function read(name) {
     return sessionStorage.getItem(name) ?? "";
   } catch {
     return "";
+  }
+}
+
+// Whether it outlives the page.
+function isKept(name) {
+  try {
+    return sessionStorage.getItem(name) !== null;
+  } catch {
+    return false;
   }
 }
 
@@ -53,6 +62,28 @@ export function recallKey() {
 export function forgetKey() {
   drop(KEY);
   drop(UNTIL);
+}
+
+// A link on a slip has a key behind `#`, which no browser sends to a server. Takes what is there out of the address, and says
+// whether the page is loaded again without it, to which the tab hands it over. A browser that loads the page anew for that does
+// not show the link among the pages that were visited; where the address alone is changed, it does.
+export function leaveLink(isLoading) {
+  const given = location.hash.slice(1), address = location.pathname + location.search;
+  if (!given) return false;
+  write(LINKED, given);
+  if (isLoading && isKept(LINKED)) {
+    location.replace(address);
+    return true;
+  }
+  history.replaceState(null, "", address);
+  return false;
+}
+
+// The key of the link, once.
+export function takeLinkedKey() {
+  const given = read(LINKED);
+  drop(LINKED);
+  return /^[a-z0-9]{16,64}$/.test(given) ? given : "";
 }
 
 export const rememberLanguage = language => write(LANGUAGE, language);

@@ -6,7 +6,9 @@ import {
   backToRecord, changeList, desk, isChanged, isChangedElsewhere, mayEdit, rememberList, ROOMS_AT_ONCE, takeRecord,
 } from "./desk.js";
 import { firstLanguage, setLanguage, text } from "./language.js";
-import { forgetDraft, forgetKey, hasKey, keepKey, recallKey, rememberKey, rememberLanguage } from "./memory.js";
+import {
+  forgetDraft, forgetKey, hasKey, keepKey, leaveLink, recallKey, rememberKey, rememberLanguage, takeLinkedKey,
+} from "./memory.js";
 import { inOrder, readDescriptions } from "./rooms.js";
 import { call, Fault, roomsFile } from "./server.js";
 import {
@@ -83,6 +85,18 @@ function signIn(event) {
 
 function sayTaken({ hasDraft, isLate }, otherwise) {
   say(isLate ? "draftLate" : hasDraft ? "draftBack" : otherwise);
+}
+
+// Fills in the key of a link, and signs out whoever else is signed in. Says whether it did. While an answer is awaited, of the
+// server or to a question, it does not.
+function takeLink() {
+  const given = takeLinkedKey();
+  if (!given || given === recallKey() || desk.isBusy || byId("question").open) return false;
+  if (hasKey()) leave();
+  byId("key").value = given;
+  say("keyFromLink");
+  byId("sign-in").querySelector("button").focus();
+  return true;
 }
 
 // Takes the person out of the page.
@@ -286,6 +300,7 @@ function listen() {
     addEventListener(use, onUse, { capture: true, passive: true });
   }
   setInterval(lookAtTime, OFTEN);
+  addEventListener("hashchange", () => { leaveLink(false); takeLink(); });
   // A page that the browser has kept whole would still be signed in.
   addEventListener("pageshow", event => { if (event.persisted) location.reload(); });
   addEventListener("beforeunload", event => { if (isChanged()) event.preventDefault(); });
@@ -296,16 +311,24 @@ async function describeRooms() {
   if (desk.me !== null && desk.descriptions.size > 0) draw();
 }
 
-setLanguage(firstLanguage());
-listen();
-fitToScreen();
-draw();
-describeRooms();
-desk.key = recallKey();
-if (desk.key) {
-  during(async () => sayTaken(await load(), ""));
-} else if (hasKey()) {
-  endByTime();
-} else {
-  byId("key").focus();
+function start() {
+  desk.key = recallKey();
+  if (desk.key) {
+    during(async () => sayTaken(await load(), ""));
+  } else if (hasKey()) {
+    endByTime();
+  } else {
+    byId("key").focus();
+  }
 }
+
+function openPage() {
+  setLanguage(firstLanguage());
+  listen();
+  fitToScreen();
+  draw();
+  describeRooms();
+  if (!takeLink()) start();
+}
+
+if (!leaveLink(true)) openPage();

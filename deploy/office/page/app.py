@@ -8,6 +8,7 @@ state of the round when the form was made.
 import functools
 import hmac
 import io
+import re
 import secrets
 import sys
 import traceback
@@ -39,6 +40,9 @@ HEADERS = {
     "Cross-Origin-Resource-Policy": "same-origin",
 }
 STALE = "This form was made before the page was restarted, or on another page. Nothing was changed. Fill it in again."
+
+# A host as a browser names it, with its port if that is another than HTTPS has.
+HOST = re.compile(r"[A-Za-z0-9.-]+(:[0-9]+)?")
 
 # A form that was made before a restart has another token, and is refused.
 SECRET = secrets.token_bytes(32)
@@ -74,6 +78,12 @@ def guard() -> None:
     if site != "same-origin" or not hmac.compare_digest(sent.encode(), token().encode()):
         tell("bad", STALE)
         go_to("/office/")
+
+
+def residents_page() -> str:
+    """The address of the residents' page, which has the host of this page; nothing if the browser names no host."""
+    host = str(request.get_header("Host", ""))
+    return f"https://{host}/" if HOST.fullmatch(host) else ""
 
 
 # --- forms and answers

@@ -14,7 +14,7 @@ from app import app, ask, change, clerk, field, go_to, memory, office_now, show,
 from csv_list import CsvList
 from keeper_client import Answer, answers_of
 from known_people import Beside
-from many_pages import MOST_AT_ONCE, acts_for
+from many_pages import KEYS, MOST_AT_ONCE, acts_for
 from list_faults import Findings
 from office_view import Office
 from questions import Question, put_question
@@ -172,10 +172,11 @@ def look_again(office: Office, job: Job) -> str:
 # --- who is in the register, and not on the list
 
 def departed_form(office: Office, idents: tuple[str, ...]) -> dict[str, Any]:
-    """The form that offers to remove people, or to let them leave, as the page takes them at once."""
+    """The form that offers to remove people, or to let them leave, as the page takes them at once, and no new keys."""
     left = [office.people[ident] for ident in idents if ident in office.people]
-    return {"departed": left, "text": "\n".join(person.ident for person in left[:MOST_AT_ONCE]),
-            "acts": acts_for(office), "most": MOST_AT_ONCE}
+    acts = {act: text for act, text in acts_for(office).items() if act != KEYS}
+    return {"departed": left, "text": "\n".join(person.ident for person in left[:MOST_AT_ONCE]), "acts": acts,
+            "most": MOST_AT_ONCE}
 
 
 @app.get("/office/departed/<name>")

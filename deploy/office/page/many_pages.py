@@ -1,6 +1,7 @@
 """Many people at once, by a list of their identifiers."""
 
 import re
+import secrets
 from typing import Any, NamedTuple
 
 from journal import masked
@@ -10,6 +11,7 @@ import plain
 from app import app, ask, attempt, clerk, field, go_to, memory, office_now, show, tell, text_of
 from keeper_client import KeeperFault, answers_of
 from office_view import Office
+from slips import show_once
 
 MOST_AT_ONCE = 300
 # People under one stop of the residents' server, which takes a second or two. All lines of a group take effect, or
@@ -32,11 +34,14 @@ class Many(NamedTuple):
     groups: list[Group]
 
 
+# New keys for many people are one change, with one copy before it, in any phase.
+KEYS = "keys"
 ACTS = {
     "withdraw": (("open",), "Withdraw them from the round"),
     "going": (("open",), "Note that they leave the college at the end of the round"),
     "leave": (("idle",), "Let them leave their rooms"),
     "remove": (("idle",), "Remove them from the register"),
+    KEYS: (tuple(plain.PHASES), "Make new keys for them"),
 }
 
 
@@ -50,6 +55,8 @@ def lines_for(office: Office, act: str, ident: str) -> list[str]:
 
 def groups_of(office: Office, act: str, idents: list[str]) -> list[Group]:
     """The lines for all of these people, in groups."""
+    if act == KEYS:
+        return [Group([], office.saw("key", *idents))]
     parts = [idents[start:start + GROUP] for start in range(0, len(idents), GROUP)]
     groups = [Group([line for ident in part for line in lines_for(office, act, ident)], office.saw("all", *part))
               for part in parts]
@@ -72,12 +79,14 @@ def many() -> str:
 def look_at_many() -> str:
     """Shows whom the identifiers name, and tries the change on a copy."""
     office, act, text = office_now(), text_of("act"), masked(field("text"))
-    acts = acts_for(office)
+    acts, everybody = acts_for(office), bool(field("everybody")) and act == KEYS
     idents = list(dict.fromkeys(re.split(r"[\s,;]+", text.upper().strip(" \t\r\n,;"))))
+    if everybody:
+        idents, text = list(office.people), ""
     faults = [f"No person has the identifier {ident[:20]}." for ident in idents if ident not in office.people]
     if act not in acts:
         faults = ["This cannot be done now."]
-    elif len(idents) > MOST_AT_ONCE:
+    elif len(idents) > MOST_AT_ONCE and not everybody:
         faults = [f"These are {len(idents)} identifiers: send at most {MOST_AT_ONCE} at once."]
     known = [office.people[ident] for ident in idents if ident in office.people]
     if act in ("withdraw", "going"):
@@ -88,7 +97,8 @@ def look_at_many() -> str:
     job = None
     if not faults:
         job = Many(act, idents, groups_of(office, act, idents))
-        refused = [last for last in (attempt(*group.lines)[-1] for group in job.groups) if last.status]
+        tried = (attempt(*group.lines)[-1] for group in job.groups if group.lines)
+        refused = [last for last in tried if last.status]
         if refused:
             faults, job = [str(plain.meaning(refused[0].text))], None
     held = memory.hold(clerk(), job) if job else ""
@@ -104,6 +114,8 @@ def do_many() -> None:
         tell("bad", "The page no longer holds these identifiers. Nothing was changed: send them again.")
         go_to("/office/many")
     memory.let_go(clerk(), name)
+    if job.act == KEYS:
+        make_keys(job)
     for number, group in enumerate(job.groups):
         if fault := fault_of(group):
             tell("bad", f"{number} of {len(job.groups)} groups of up to {GROUP} people were carried out, and then this "
@@ -111,6 +123,17 @@ def do_many() -> None:
             go_to("/office/register")
     tell("good", f"Done for {len(job.idents)} people.")
     go_to("/office/register")
+
+
+def make_keys(job: Many) -> None:
+    """Makes all the new keys in one step, and leads to their slips."""
+    office, keys = office_now(), {ident: secrets.token_hex(16) for ident in job.idents}
+    try:
+        ask("keys", keys=keys, seen=field("seen"), saw=job.groups[0].saw)
+    except KeeperFault as fault:
+        tell("bad", f"This could not be done. {fault}")
+        go_to("/office/many")
+    show_once([(ident, office.people[ident].name, key) for ident, key in keys.items()], "/office/register")
 
 
 def fault_of(group: Group) -> str:

@@ -23,6 +23,7 @@ import result_pages  # noqa: F401  # pylint: disable=unused-import
 import room_pages  # noqa: F401  # pylint: disable=unused-import
 import round_pages  # noqa: F401  # pylint: disable=unused-import
 import sample_pages  # noqa: F401  # pylint: disable=unused-import
+import slips  # noqa: F401  # pylint: disable=unused-import
 from app import LONGEST_FORM, Guarded, app
 
 PLACE = os.environ.get("ROOMS_PAGE_SOCKET", "/var/lib/haproxy/rooms-page.sock")

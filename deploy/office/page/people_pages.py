@@ -11,6 +11,7 @@ from app import app, ask, attempt, change, clerk, field, go_to, memory, office_n
 from keeper_client import KeeperFault
 from office_view import Office
 from questions import Question, put_question
+from slips import show_once
 
 MOST_SHOWN = 200
 IDENTIFIER = re.compile(r"[A-Z0-9]{1,12}")
@@ -146,7 +147,7 @@ def ask_person(ident: str, act: str) -> str:
 
 
 @app.post("/office/person/<ident>/<act>")
-def change_person(ident: str, act: str) -> str:
+def change_person(ident: str, act: str) -> None:
     """Lets a person leave the room, withdraw, leave the college, be removed, or get a new key."""
     office = office_now()
     place = person_of(office, ident)
@@ -159,12 +160,12 @@ def change_person(ident: str, act: str) -> str:
     elif act == "key":
         key = secrets.token_hex(16)
         if correct("key", ident, key):
-            return show("key", office=office_now(), ident=ident, slips=[(ident, person.name, key)])
+            show_once([(ident, person.name, key)], place)
     go_to(place)
 
 
 @app.post("/office/person")
-def new_person() -> str:
+def new_person() -> None:
     """Adds a person, and shows the key."""
     ident = text_of("ident").upper()
     if not IDENTIFIER.fullmatch(ident):
@@ -173,4 +174,4 @@ def new_person() -> str:
     name, home, key = text_of("name"), text_of("room").upper(), secrets.token_hex(16)
     if not change("do", lines=[f"person {ident} {key} {name}", *([f"home {ident} {home}"] if home else [])]):
         go_to("/office/register")
-    return show("key", office=office_now(), ident=ident, slips=[(ident, name, key)])
+    show_once([(ident, name, key)], f"/office/person/{ident}")

@@ -1,0 +1,85 @@
+"""Slips: the keys that residents get on paper, each with a link and its picture, and the page that shows them once.
+
+The link has the key behind `#`. A browser sends nothing of that to a server, so the key is in no request and in no log.
+"""
+
+import datetime
+from dataclasses import dataclass
+from typing import NamedTuple, NoReturn
+
+from app import app, clerk, go_to, memory, office_now, residents_page, show, tell
+
+try:
+    import segno
+except ImportError:  # without python3-segno the slips have no picture
+    segno = None  # type: ignore[assignment]
+
+# One of the eight masks of a QR code. Readers take any; to find the best one for each slip takes four times as long.
+MASK = 3
+
+Key = tuple[str, str, str]  # identifier, name and key
+
+
+class Slip(NamedTuple):
+    """What stands on a slip: whose it is, the key in groups, and the picture of the link, as SVG, or nothing."""
+
+    ident: str
+    name: str
+    key: str
+    picture: str
+
+
+class Sheet(NamedTuple):
+    """Slips, with the address of the residents' page, and when they were made: it tells one print from another."""
+
+    address: str
+    made: str
+    slips: list[Slip]
+
+
+@dataclass
+class Waiting:
+    """Keys that wait to be shown, and where the clerk goes on from there."""
+
+    keys: list[Key]
+    onward: str
+
+    def take(self) -> list[Key]:
+        """Gives the keys, once."""
+        keys, self.keys = self.keys, []
+        return keys
+
+
+def picture_of(link: str) -> str:
+    """The QR code of a link."""
+    if segno is None:
+        return ""
+    return segno.make_qr(link, error="m", mask=MASK).svg_inline(omitsize=True, light="#fff", svgclass=None, lineclass=None)
+
+
+def sheet_of(keys: list[Key]) -> Sheet:
+    """The slips of these keys."""
+    address, made = residents_page(), datetime.datetime.now().astimezone()
+    slips = [Slip(ident, name, " ".join(key[at:at + 4] for at in range(0, len(key), 4)),
+                  picture_of(f"{address}#{key}") if address else "") for ident, name, key in keys]
+    return Sheet(address, f"{made:%Y-%m-%d} at {made:%H:%M:%S}", slips)
+
+
+def show_once(keys: list[Key], onward: str) -> NoReturn:
+    """Leads to the page of these slips. It is a page of its own, so that loading it again makes no other key."""
+    go_to(f"/office/slips/{memory.hold(clerk(), Waiting(keys, onward))}")
+
+
+@app.get("/office/slips/<name>")
+def waiting_slips(name: str) -> str:
+    """The slips that were made last, once."""
+    waiting = memory.held(clerk(), name)
+    if not isinstance(waiting, Waiting):
+        tell("bad", "The page no longer has these slips. No key was changed now. If a slip is lost, make a new key.")
+        go_to("/office/register")
+    keys = waiting.take()
+    if not keys:
+        tell("bad", "These slips were shown already, and the page no longer has them. Their keys work. If a slip was not "
+                    "printed, make a new key.")
+        go_to(waiting.onward)
+    return show("key", office=office_now(), keys=keys, onward=waiting.onward)

@@ -1,0 +1,168 @@
+"""New keys on the office's page: /usr/bin/python3 deploy/trial/office_keys.py PROGRAM.
+
+A slip is shown once, loading its page again makes no other key, and many people get new keys in one step.
+"""
+
+import re
+import sys
+from pathlib import Path
+
+# The repository stays as it is.
+sys.dont_write_bytecode = True
+
+# pylint: disable=wrong-import-position  # nothing may be written before
+from office_requests import Page, hand_in
+from stand import HOST, Stand, check, key_of
+
+PEOPLE = [f"T{number:03}" for number in range(1, 41)]
+SLIP = re.compile(
+    r'\((T\d+)\) <span class="soft">[^<]*</span></p>\s*<p>Your key for the room exchange: <code class="key">([0-9a-f ]+)</code>')
+
+
+def slips_in(shown):
+    """The keys on the slips of a page, by person."""
+    return {person: key.replace(" ", "") for person, key in SLIP.findall(shown)}
+
+
+def works(stand, key):
+    """Whether the server knows a key. With a room that is in no office, nothing is handed in."""
+    return hand_in(stand, key, ["NONE"]) != 403
+
+
+def marks(stand):
+    """The marks of all keys, by person."""
+    return stand.ask(ask="view")["key_marks"]
+
+
+def changes(stand, beginning):
+    """The changes in the journal whose lines begin so."""
+    journal = stand.ask(ask="journal", last=1000)["journal"]
+    return [entry["line"] for entry in journal if str(entry.get("line")).startswith(beginning)]
+
+
+def try_one(stand, page, bert):
+    """One person gets another key, and the page with the slip is loaded again."""
+    old = marks(stand)
+    status, fields, shown = page.form("/office/person/T001/key", page="/office/person/T001/key")
+    place = fields.get("location", "")
+    check("a new key leads to a page of its own", status == 303 and place.startswith("/office/slips/"), (status, fields))
+    check("which another clerk cannot open", bert.get(place)[0] == 303)
+    shown = page.get(place)[2]
+    keys = slips_in(shown)
+    check("which shows the slip", list(keys) == ["T001"], shown)
+    check("with the address of the residents' page", f"<strong>https://{HOST}/</strong>" in shown, shown)
+    check("when it was made, and a picture", re.search(r"made on \d{4}-\d\d-\d\d at [\d:]{8}", shown) and "<svg" in shown)
+    check("the key is in no address", keys["T001"] not in place)
+    made = marks(stand)
+    check("the new key works, and the old one does not", works(stand, keys["T001"]) and not works(stand, key_of("T001")))
+    check("and nobody else has another key", {one for one in old if old[one] != made[one]} == {"T001"})
+    status, fields, shown = page.get(place)
+    check("loaded again, the page leads to the person", (status, fields.get("location")) == (303, "/office/person/T001"))
+    shown = page.get("/office/person/T001")[2]
+    check("which says why", "These slips were shown already" in shown and not slips_in(shown), shown[:2000])
+    check("and there is no other key", marks(stand) == made and len(changes(stand, "correct T001")) == 1)
+    check("a page of slips that never was leads on", page.get("/office/slips/" + "0" * 32)[0] == 303)
+    page.get("/office/register")
+
+
+def try_newcomer(stand, page):
+    """A person who is added gets one key, too."""
+    fields = page.form("/office/person", {"ident": "T900", "name": "New Comer"}, page="/office/register")[1]
+    keys = slips_in(page.get(fields["location"])[2])
+    check("somebody who is added has a slip", list(keys) == ["T900"] and works(stand, keys["T900"]), fields)
+    again = page.get(fields["location"])
+    check("once", again[1].get("location") == "/office/person/T900" and len(changes(stand, "person T900")) == 1)
+
+
+def asked(page, form):
+    """Sends identifiers for new keys, and gives the question with the name of what it holds."""
+    shown = page.form("/office/many", {"act": "keys", **form}, page="/office/many")[2]
+    held = re.search(r'name="held" value="(\w+)"', shown)
+    return shown, held[1] if held else ""
+
+
+def yes(page, shown, held):
+    """Says yes in a question, as it was shown."""
+    fields = dict(re.findall(r'type="hidden" name="(token|seen)" value="([^"]*)"', shown))
+    return page.post("/office/many/do", {**fields, "held": held})
+
+
+def try_many(stand, page):
+    """Many people get other keys."""
+    before, copies = marks(stand), len(stand.ask(ask="backups")["backups"])
+    shown, held = asked(page, {"text": "T002 t003, T004"})
+    check("the question says how many, and that the old keys stop working",
+          all(part in shown for part in ("3 people", "The 3 old keys stop working at once", "one copy of the office")), shown)
+    check("and nothing has changed before the answer", marks(stand) == before)
+    status, fields, _ = yes(page, shown, held)
+    keys = slips_in(page.get(fields["location"])[2])
+    after = marks(stand)
+    check("all of them get slips", status == 303 and list(keys) == ["T002", "T003", "T004"], keys)
+    check("and other keys, and nobody else", {one for one in before if before[one] != after[one]} == set(keys))
+    check("which work", all(works(stand, key) for key in keys.values()) and not works(stand, key_of("T003")))
+    check("there is one copy more", len(stand.ask(ask="backups")["backups"]) == copies + 1)
+    line = changes(stand, "keys for")
+    check("and one line in the journal, which names them", line == ["keys for 3 people: T002 T003 T004"], line)
+    yes(page, shown, held)
+    check("the same answer again changes nothing", marks(stand) == after and len(changes(stand, "keys for")) == 1)
+    shown, held = asked(page, {"text": "T005 T006 NOBODY"})
+    check("an identifier of nobody is named", not held and "No person has the identifier NOBODY" in shown, shown[:2000])
+
+
+def try_stale(stand, page, bert):
+    """Another clerk has made a key for one of them since."""
+    shown, held = asked(page, {"text": "T007 T008"})
+    fields = bert.form("/office/person/T008/key", page="/office/person/T008/key")[1]
+    key = slips_in(bert.get(fields["location"])[2])["T008"]
+    before = marks(stand)
+    yes(page, shown, held)
+    check("a slip that another clerk has made since stays good", marks(stand) == before and works(stand, key))
+    check("and the clerk reads so", "was changed after you looked" in page.get("/office/many")[2])
+
+
+def try_everybody(stand, page):
+    """Everybody gets another key, while the round is closed."""
+    page.form("/office/step/close", page="/office/step/close")
+    before = marks(stand)
+    shown, held = asked(page, {"everybody": "yes", "text": ""})
+    check("everybody is asked about by number", f"{len(before)} people" in shown, shown[:1500])
+    keys = slips_in(page.get(yes(page, shown, held)[1]["location"])[2])
+    after = marks(stand)
+    check("everybody has a slip", list(keys) == list(before) and len(set(keys.values())) == len(before), len(keys))
+    check("and another key", not [one for one in before if before[one] == after[one]])
+    check("in one step", len(changes(stand, f"keys for {len(before)} people")) == 1)
+    return keys
+
+
+def try_keeper(stand):
+    """What the keeper itself refuses."""
+    before, key = marks(stand), "0123456789abcdef"
+    for keys, said in (({}, "not understood"), ({"T001": 1}, "not understood"), ({"T001": "Short"}, "does not take"),
+                       ({"T001": key, "NOBODY": key + "0"}, "nobody has"), ({"T001": key, "T002": key}, "another person")):
+        answer = stand.ask(ask="keys", keys=keys)
+        check(f"the keeper refuses {keys}: {said}", said in answer.get("fault", "") and marks(stand) == before, answer)
+
+
+def try_office_keys(program):
+    """All of it."""
+    with Stand(program) as stand:
+        stand.fill(["A-1", "A-2"], PEOPLE)
+        stand.start()
+        stand.start_page()
+        stand.start_proxy()
+        page, bert = Page(stand), Page(stand, "bert")
+        page.form("/office/step/open", page="/office/step/open")
+        try_one(stand, page, bert)
+        try_newcomer(stand, page)
+        try_many(stand, page)
+        try_stale(stand, page, bert)
+        keys = try_everybody(stand, page)
+        try_keeper(stand)
+        logs = "".join([stand.proxy_log(), stand.log("page"), stand.log("keeper"), (stand.data / "journal").read_text()])
+        check("no key is in a log or in the journal", not [key for key in keys.values() if key in logs])
+
+
+if __name__ == "__main__":
+    if len(sys.argv) != 2 or not Path(sys.argv[1]).exists():
+        sys.exit("usage: /usr/bin/python3 deploy/trial/office_keys.py PROGRAM")
+    try_office_keys(sys.argv[1])
