@@ -11,7 +11,8 @@
 | export | kind | answers |
 | record | | body: the public record of the round |
 | backup, backups | | name; backups: name, bytes and reason of each |
-| back | name, seen | name: of the copy that was taken of the present office before |
+| compare | name | what becomes of people by going back to a copy (differences.py) |
+| back | name, seen | name: of the copy of the present office that was taken before; and as `compare`, if that could be read |
 | blank | label, seen | blanked: the label |
 | correct | person, name or key or both, seen, saw | corrected: the person; copy |
 | keys | keys: by person, seen, saw | corrected: how many; copy |
@@ -24,13 +25,16 @@ By `seen` and `saw` the sender says what it saw of the round and of people; if t
 
 import base64
 import binascii
+import contextlib
 import importlib
+import sqlite3
 from collections.abc import Callable
 from pathlib import Path
 from typing import Any
 
 import lines as told
 from backups import ASKED_FOR, blank
+from differences import differences
 from hand import CarryOut, Change, Hand
 from journal import masked, masked_line, masked_note
 from office import Office
@@ -109,7 +113,7 @@ class Asks:
             "view": self.view, "watch": lambda _: watch(self.office, self.hand), "try": self.try_out,
             "do": self.do_lines, "draw": self.draw, "import": self.bring_in, "export": self.export,
             "record": self.record, "backup": self.backup, "backups": self.list_backups,
-            "back": self.put_back, "blank": self.blank, "note": self.note,
+            "compare": self.compare, "back": self.put_back, "blank": self.blank, "note": self.note,
             "journal": self.show_journal, "blank-journal": self.blank_journal, "correct": self.correct,
             "keys": self.new_keys,
         }
@@ -214,23 +218,37 @@ class Asks:
         """The kept copies."""
         return {"backups": self.backups.listed()}
 
+    def compare(self, job: Job) -> Job:
+        """What becomes of people, if the office goes back to a kept copy."""
+        now = self.hand.view.rows()
+        with self.copies.copied() as copy:
+            self.backups.take(text(job, "name"), copy)
+            return differences(rows_of(copy), now)
+
     def put_back(self, job: Job) -> Job:
         """Puts a kept copy in the office's place. The present office is copied before, even if it is damaged.
 
         A copy from before an upgrade of the program is brought to the program's version.
         """
-        name = text(job, "name")
+        name, found = text(job, "name"), Job()
 
         def carry_out(copy: Path) -> list[Answer]:
+            now = None
+            with contextlib.suppress(sqlite3.Error):  # of an office that is damaged
+                now = rows_of(copy)
             self.backups.take(name, copy)
             answer = self.program.look(copy)
-            return [self.program.migrate(copy) if is_of_earlier_version(answer) else answer]
+            if is_of_earlier_version(answer):
+                answer = self.program.migrate(copy)
+            if now and answer.status == 0:
+                found.update(differences(rows_of(copy), now))
+            return [answer]
         change = self.hand.change(Change(job["who"], f"back {name}", carry_out, whole=True, kind="back",
                                          why=f"before back {name}, by {job['who']}", damaged=True, seen=seen_in(job)))
         if is_refused(change.answers):
             said = change.answers[-1].text.strip()
             raise Fault(f"the program does not take this copy ({said}). Nothing was changed.")
-        return {"name": change.copy}
+        return {"name": change.copy, **found}
 
     def blank(self, job: Job) -> Job:
         """Empties the kept bytes of a list (`blank` in backups.py says what it costs). Kept copies still have them."""
@@ -262,7 +280,7 @@ class Asks:
         keys = job["keys"]
         if not isinstance(keys, dict) or not keys or not all(isinstance(key, str) for key in keys.values()):
             raise Fault("not understood: keys are no texts by person")
-        short = f"keys for {len(keys)} people"
+        short = f"new keys ({len(keys)})"
         copy = self.correct_all(job, {person: {"key": key} for person, key in keys.items()},
                                 masked(f"{short}: {' '.join(keys)}"), short)
         return {"corrected": len(keys), "copy": copy}

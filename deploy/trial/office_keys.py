@@ -101,10 +101,10 @@ def try_many(stand, page):
     check("and other keys, and nobody else", {one for one in before if before[one] != after[one]} == set(keys))
     check("which work", all(works(stand, key) for key in keys.values()) and not works(stand, key_of("T003")))
     check("there is one copy more", len(stand.ask(ask="backups")["backups"]) == copies + 1)
-    line = changes(stand, "keys for")
-    check("and one line in the journal, which names them", line == ["keys for 3 people: T002 T003 T004"], line)
+    line = changes(stand, "new keys (3)")
+    check("and one line in the journal, which names them", line == ["new keys (3): T002 T003 T004"], line)
     yes(page, shown, held)
-    check("the same answer again changes nothing", marks(stand) == after and len(changes(stand, "keys for")) == 1)
+    check("the same answer again changes nothing", marks(stand) == after and len(changes(stand, "new keys (3)")) == 1)
     shown, held = asked(page, {"text": "T005 T006 NOBODY"})
     check("an identifier of nobody is named", not held and "No person has the identifier NOBODY" in shown, shown[:2000])
 
@@ -130,8 +130,45 @@ def try_everybody(stand, page):
     after = marks(stand)
     check("everybody has a slip", list(keys) == list(before) and len(set(keys.values())) == len(before), len(keys))
     check("and another key", not [one for one in before if before[one] == after[one]])
-    check("in one step", len(changes(stand, f"keys for {len(before)} people")) == 1)
+    check("in one step", len(changes(stand, f"new keys ({len(before)})")) == 1)
     return keys
+
+
+def change_after(stand, page, copy):
+    """After a copy was made: a new key, a name, a list, somebody who comes, and somebody who goes. Gives the new key."""
+    fields = page.form("/office/person/T010/key", page="/office/person/T010/key")[1]
+    key = slips_in(page.get(fields["location"])[2])["T010"]
+    page.form("/office/person/T011/name", {"name": "Other Name"}, page="/office/person/T011")
+    page.form("/office/person", {"ident": "T901", "name": "Just Come"}, page="/office/register")
+    page.form("/office/person/T012/remove", page="/office/person/T012/remove")
+    found = stand.ask(ask="compare", name=copy)
+    check("the keeper says what comes back, without a key", found == {
+        "round": [0, "idle"], "keys": ["T010"], "names": [["T011", "Person T011", "Other Name"]], "lists": [],
+        "come": [["T012", "Person T012"]], "go": [["T901", "Just Come"]]}, found)
+    return key
+
+
+def try_back(stand, page):
+    """The office goes back to a copy from before a new key."""
+    copy = stand.ask(ask="backup")["name"]
+    place = f"/office/copies/{copy}/back"
+    check("with nothing in between the question names nobody", "Old keys" not in page.get(place)[2])
+    key = change_after(stand, page, copy)
+    shown = page.get(place)[2]
+    said = ("Old keys that work again", "<li>T010</li>", "<li>T011: Person T011, now Other Name</li>", "<li>T012 Person T012</li>",
+            "<li>T901 Just Come</li>", "no round is under way")
+    check("before going back the page says whose keys, which names and which people", all(one in shown for one in said), shown)
+    fields = page.form(place, page=place)[1]
+    shown = page.get(fields["location"])[2]
+    check("afterwards the page says that an old key works again", "Old keys of one person work again" in shown, shown)
+    check("which is so", works(stand, key_of("T010")) and not works(stand, key))
+    check("and proposes a new key for them", re.search(r"<textarea[^>]*>T010</textarea>", shown) and "checked" in shown, shown)
+    keys = slips_in(page.get(yes(page, *asked(page, {"text": "T010"}))[1]["location"])[2])
+    check("which replaces it", works(stand, keys["T010"]) and not works(stand, key_of("T010")))
+    told = stand.command("back", copy)
+    check("the clerk's command says it, too", told[0] == 0 and "the key of the copy again" in told[2] and "T010" in told[2], told)
+    stand.until_listening(stand.server_port)
+    check("a copy that is not there is named", "there is no copy" in stand.ask(ask="compare", name="../x")["fault"])
 
 
 def try_keeper(stand):
@@ -151,6 +188,7 @@ def try_office_keys(program):
         stand.start_page()
         stand.start_proxy()
         page, bert = Page(stand), Page(stand, "bert")
+        try_back(stand, page)
         page.form("/office/step/open", page="/office/step/open")
         try_one(stand, page, bert)
         try_newcomer(stand, page)

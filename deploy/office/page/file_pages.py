@@ -13,8 +13,9 @@ import explaining
 import plain
 from app import HERE, app, ask, download, drawn_order, field, go_to, office_now, show, tell
 from keeper_client import answers_of
+from many_pages import propose_keys
 from office_view import Office
-from questions import Question, put_question
+from questions import Fact, Question, put_question
 from seeds import merged
 
 SHOWN_ENTRIES = 1000
@@ -137,23 +138,44 @@ def copy() -> None:
     go_to("/office/copies")
 
 
+def facts_of(found: dict[str, Any]) -> tuple[Fact, ...]:
+    """What becomes of people by going back to a copy."""
+    named = {name: [f"{ident} {person}" for ident, person in found[name]] for name in ("come", "go")}
+    facts = [Fact("Old keys that work again, in place of newer ones", found["keys"]),
+             Fact("Names that become again what they were", [f"{ident}: {old}, now {new}" for ident, old, new in found["names"]]),
+             Fact("People who come back into the register", named["come"]),
+             Fact("People who go out of the register", named["go"]),
+             Fact("People whose lists of this round become again what they were", found["lists"])]
+    return tuple(fact for fact in facts if fact.items)
+
+
 @app.get("/office/copies/<name>/back")
 def ask_back(name: str) -> str:
     """Asks before the office goes back to a copy."""
-    office = office_now()
+    office, found = office_now(), ask("compare", name=name)
+    number, phase = found["round"]
     says = [f"The office becomes again what it was when the copy {name} was made. All that happened since then is "
-            "undone: lists that residents handed in, steps of the round, imports.",
+            "undone: lists that residents handed in, steps of the round, imports, and what you changed in the register.",
+            f"Then this holds again: {plain.PHASES[phase].title[0].lower()}{plain.PHASES[phase].title[1:]}"
+            + (f" (round {number})." if phase != "idle" else "."),
             "The keeper makes a copy of the present office first, so you can come back from this too.",
             "Tell the residents if they handed in lists after the copy: they have to hand them in again."]
+    if found["keys"]:
+        says.append("If a key was lost, or others know it, make new keys for these people afterwards.")
     title = f"Go back to the copy {name}?"
-    return put_question(office, Question(title, says, "Yes: go back to this copy", "/office/copies"))
+    return put_question(office, Question(title, says, "Yes: go back to this copy", "/office/copies", facts=facts_of(found)))
 
 
 @app.post("/office/copies/<name>/back")
 def back(name: str) -> None:
     """Puts a copy back."""
-    made = ask("back", name=name, seen=field("seen"))["name"]
-    tell("good", f"The office is back at the copy {name}. What it was before is in the copy {made}.")
+    found = ask("back", name=name, seen=field("seen"))
+    tell("good", f"The office is back at the copy {name}. What it was before is in the copy {found['name']}.")
+    if keys := found.get("keys"):
+        of = f"{len(keys)} people work" if len(keys) > 1 else "one person work"
+        tell("bad", f"Old keys of {of} again, and the newer ones do not. If a key was lost, or others know it, make a new key "
+                    "now. Take out whoever needs none.")
+        propose_keys(keys)
     go_to("/office/")
 
 

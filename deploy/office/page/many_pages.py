@@ -2,7 +2,7 @@
 
 import re
 import secrets
-from typing import Any, NamedTuple
+from typing import Any, NamedTuple, NoReturn
 
 from journal import masked
 from seen import Saw
@@ -32,6 +32,12 @@ class Many(NamedTuple):
     act: str
     idents: list[str]
     groups: list[Group]
+
+
+class Proposed(NamedTuple):
+    """People who may need new keys."""
+
+    idents: list[str]
 
 
 # New keys for many people are one change, with one copy before it, in any phase.
@@ -75,6 +81,20 @@ def many() -> str:
     return show("many", office=office, acts=acts_for(office), text="", faults=[], job=None, held="")
 
 
+def propose_keys(idents: list[str]) -> NoReturn:
+    """Leads the clerk to the form for new keys, with these identifiers in it."""
+    go_to(f"/office/many/{memory.hold(clerk(), Proposed(idents))}")
+
+
+@app.get("/office/many/<name>")
+def many_proposed(name: str) -> str:
+    """The form for new keys."""
+    office, found = office_now(), memory.held(clerk(), name)
+    if not isinstance(found, Proposed):
+        go_to("/office/many")
+    return show("many", office=office, acts={KEYS: ACTS[KEYS][1]}, text="\n".join(found.idents), faults=[], job=None, held="")
+
+
 @app.post("/office/many")
 def look_at_many() -> str:
     """Shows whom the identifiers name, and tries the change on a copy."""
@@ -86,7 +106,7 @@ def look_at_many() -> str:
     faults = [f"No person has the identifier {ident[:20]}." for ident in idents if ident not in office.people]
     if act not in acts:
         faults = ["This cannot be done now."]
-    elif len(idents) > MOST_AT_ONCE and not everybody:
+    elif len(idents) > MOST_AT_ONCE and act != KEYS:
         faults = [f"These are {len(idents)} identifiers: send at most {MOST_AT_ONCE} at once."]
     known = [office.people[ident] for ident in idents if ident in office.people]
     if act in ("withdraw", "going"):

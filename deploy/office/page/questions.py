@@ -6,6 +6,13 @@ from app import show
 from office_view import Office
 
 
+class Fact(NamedTuple):
+    """Something that would change, and each person or thing with which it does."""
+
+    title: str
+    items: list[str]
+
+
 class Question(NamedTuple):
     """What happens, what the button of yes says, and where no leads. Yes goes to the question's own address. `saw` is
     the mark of what the clerk saw of a person."""
@@ -16,6 +23,7 @@ class Question(NamedTuple):
     back: str
     link: tuple[str, str] | None = None
     saw: str = ""
+    facts: tuple[Fact, ...] = ()
 
 
 def put_question(office: Office, question: Question) -> str:
