@@ -10,12 +10,15 @@
 | import | kind, label, body, only_try, seen, saw | as `do`; known: whether its label was taken; `body` in base 64 |
 | export | kind | answers |
 | record | | body: the public record of the round |
-| backup, backups | | name; backups: name, bytes and reason of each |
+| backup, backups | | name; backups: name, bytes and reason of each; days: how long one stays at most; stays: of each |
+| days | days, only_try | gone: how many copies are older than so many days, and are deleted |
 | compare | name | what becomes of people by going back to a copy (differences.py) |
 | back | name, seen | name: of the copy of the present office that was taken before; and as `compare`, if that could be read |
 | blank | label, seen | blanked: the label |
 | correct | person, name or key or both, seen, saw | corrected: the person; copy |
 | keys | keys: by person, seen, saw | corrected: how many; copy |
+| about | person | lists, moves, copies, journal: what names the person (about.py) |
+| forget | person, seen, saw | as `do`: the person is removed, and the lists that name them are blanked |
 | note, journal | line; last | nothing; journal: the last entries; whole: whether no entry is too old to be had |
 | blank-journal | | blanked: how many answers, which may have had names, were taken out of the journal |
 
@@ -33,7 +36,8 @@ from pathlib import Path
 from typing import Any
 
 import lines as told
-from backups import ASKED_FOR, blank
+from about import IDENTIFIER, about, kept_in
+from backups import ASKED_FOR, MOST_DAYS, blank
 from differences import differences
 from hand import CarryOut, Change, Hand
 from journal import masked, masked_line, masked_note
@@ -103,7 +107,7 @@ def only(answer: Answer) -> Job:
     return {"answers": [answer], "done": False}
 
 
-class Asks:
+class Asks:  # pylint: disable=too-many-public-methods  # one for each request
     """Answers what is asked of the keeper."""
 
     def __init__(self, office: Office, hand: Hand) -> None:
@@ -115,7 +119,8 @@ class Asks:
             "record": self.record, "backup": self.backup, "backups": self.list_backups,
             "compare": self.compare, "back": self.put_back, "blank": self.blank, "note": self.note,
             "journal": self.show_journal, "blank-journal": self.blank_journal, "correct": self.correct,
-            "keys": self.new_keys,
+            "keys": self.new_keys, "days": self.set_days, "forget": self.forget,
+            "about": lambda job: about(self.office, text(job, "person")),
         }
 
     def answer(self, job: Job) -> Job:
@@ -216,7 +221,19 @@ class Asks:
 
     def list_backups(self, _: Job) -> Job:
         """The kept copies."""
-        return {"backups": self.backups.listed()}
+        days = self.backups.days()
+        return {"backups": self.backups.listed(), "days": days, "stays": self.backups.stays(days)}
+
+    def set_days(self, job: Job) -> Job:
+        """For how many days a copy stays at most. With `only_try` only says how many copies go."""
+        days = job["days"]
+        if not isinstance(days, int) or isinstance(days, bool) or not 1 <= days <= MOST_DAYS:
+            raise Fault(f"a copy stays for 1 to {MOST_DAYS:,} days. Nothing was changed.")
+        gone = len(self.backups.old(days))
+        if not job.get("only_try"):
+            self.journal.note(who=job["who"], line=f"copies stay for {days} days", answer=f"{gone} copies are deleted")
+            self.backups.set_days(days)
+        return {"gone": gone}
 
     def compare(self, job: Job) -> Job:
         """What becomes of people, if the office goes back to a kept copy."""
@@ -255,7 +272,7 @@ class Asks:
         label = text(job, "label")
 
         def carry_out(copy: Path) -> list[Answer]:
-            blank(label, copy)
+            blank([label], copy)
             return [self.program.look(copy)]
         spoken = masked(f"blank {label}")
         change = self.hand.change(Change(job["who"], spoken, carry_out, whole=True, seen=seen_in(job)))
@@ -263,6 +280,27 @@ class Asks:
             said = change.answers[-1].text.strip()
             raise Fault(f"the program does not take the office afterwards ({said}). Nothing was changed.")
         return {"blanked": label}
+
+    def forget(self, job: Job) -> Job:
+        """Removes a person, and blanks each kept list that names them: all of it, or nothing."""
+        person = text(job, "person")
+        if not IDENTIFIER.fullmatch(person):
+            raise Fault("not understood: an identifier has up to twelve capital letters and digits")
+
+        def carry_out(copy: Path) -> list[Answer]:
+            homes = {row[0]: row[2] for row in rows_of(copy)["people"]}
+            lines = [f"leave {person}"] if homes.get(person) else []
+            lines += [f"remove {person}"] if person in homes else []
+            answers = self.program.tell_all(lines, copy)
+            if lines and is_refused(answers):
+                return answers
+            blank(sorted({record[0] for record in kept_in(copy, person)["lists"]}), copy)
+            return [*answers, self.program.look(copy)]
+        change = self.hand.change(Change(job["who"], f"forget {person}", carry_out, whole=True, kind="forget",
+                                         why=f"before forget {person}, by {job['who']}", seen=seen_in(job),
+                                         saw=saw_in(job)))
+        return {"answers": change.answers, "done": not is_refused(change.answers), "took": change.took,
+                "copy": change.copy}
 
     def correct(self, job: Job) -> Job:
         """Another name or key for a person (`correct` in program.py). The journal has neither."""

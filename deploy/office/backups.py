@@ -3,7 +3,8 @@ taken back.
 
 Each is a folder below `backups` with the time of the copy as its name. In it are `rooms.db`, which is the whole
 office in one file, and `why`, a line of JSON that says why the copy was taken. If the office was damaged, the
-copy has file and log as they were.
+copy has file and log as they were. Beside the folders `days` says for how many days a copy stays at most, if the
+office has set that.
 """
 
 import contextlib
@@ -15,7 +16,7 @@ import sqlite3
 import tempfile
 import time
 from pathlib import Path
-from typing import Any
+from typing import Any, NamedTuple
 
 from copies import ENDS, Copies, make_whole
 from placing import beside, to_disk
@@ -23,7 +24,16 @@ from settings import Fault, Settings, unwritten
 
 NAME = re.compile(r"[0-9]{8}T[0-9]{6}Z(-[0-9]{2})?")
 TIME = "%Y%m%dT%H%M%SZ"
-ASKED_FOR = "backup"
+ASKED_FOR, BACK = "backup", "back"
+DAYS = "days"
+MOST_DAYS = 3650
+
+
+class Stay(NamedTuple):
+    """Until which day a copy stays at most, and after how many more of its kind it goes earlier."""
+
+    until: str
+    more: int
 
 
 class Backups:
@@ -65,8 +75,9 @@ class Backups:
         except BaseException:
             shutil.rmtree(part, ignore_errors=True)
             raise
-        with contextlib.suppress(OSError):
-            self.drop_old()
+        if entry["kind"] != BACK:  # the copy that is about to be put back may be the oldest one
+            with contextlib.suppress(OSError):
+                self.drop_old()
         return name
 
     def free_name(self) -> str:
@@ -105,15 +116,48 @@ class Backups:
         return [(name, sum(one.stat().st_size for one in (self.folder / name).iterdir()), self.entry(name)["why"])
                 for name in self.names()]
 
-    def drop_old(self) -> None:
-        """Deletes the oldest copies of each kind. Those taken before lines make none of those of the nights go."""
+    def days(self) -> int:
+        """For how many days a copy stays at most."""
+        with contextlib.suppress(OSError, ValueError):
+            return int((self.folder / DAYS).read_text(encoding="ascii"))
+        return self.settings.kept_days
+
+    def set_days(self, days: int) -> None:
+        """Sets for how many days a copy stays at most, and deletes the older ones."""
+        part = self.folder / f"{DAYS}.part"
+        try:
+            self.folder.mkdir(mode=0o700, exist_ok=True)
+            part.write_text(f"{days}\n", encoding="ascii")
+            to_disk(part)
+            part.rename(self.folder / DAYS)
+            to_disk(self.folder)
+        except OSError as fault:
+            raise unwritten("the number of days", fault) from fault
+        self.drop_old()
+
+    def stays(self, days: int) -> dict[str, Stay]:
+        """How long each copy stays, if a copy stays for so many days at most. Those taken before lines make none of those of
+        the nights go."""
         kinds: dict[str, list[str]] = {}
         for name in self.names():
             kinds.setdefault(self.entry(name)["kind"], []).append(name)
+        found = {}
         for kind, names in kinds.items():
             count = self.settings.kept_backups if kind == ASKED_FOR else self.settings.kept_before
-            for name in names[:-count]:
-                shutil.rmtree(self.folder / name)
+            for newer, name in enumerate(reversed(names)):
+                until = made_at(name) + datetime.timedelta(days=days)
+                found[name] = Stay(until.astimezone().date().isoformat(), count - newer)
+        return found
+
+    def old(self, days: int) -> list[str]:
+        """The copies that go, if a copy stays for so many days at most."""
+        last = datetime.datetime.now(datetime.timezone.utc) - datetime.timedelta(days=days)
+        return [name for name, stay in self.stays(days).items() if stay.more <= 0 or made_at(name) < last]
+
+    def drop_old(self) -> None:
+        """Deletes the copies that are too old, and the oldest ones of each kind."""
+        for name in self.old(self.days()):
+            shutil.rmtree(self.folder / name)
 
     def take(self, name: str, target: Path) -> None:
         """Puts a kept copy over another copy, as one file."""
@@ -133,10 +177,17 @@ class Backups:
         if self.folder.exists():
             for part in self.folder.glob(".part-*"):
                 shutil.rmtree(part)
+            with contextlib.suppress(OSError):
+                self.drop_old()
 
 
-def blank(label: str, file: Path) -> None:
-    """Empties the kept bytes of a list, in a copy of the office.
+def made_at(name: str) -> datetime.datetime:
+    """When a copy was made, by its name."""
+    return datetime.datetime.strptime(name[:16], TIME).replace(tzinfo=datetime.timezone.utc)
+
+
+def blank(labels: list[str], file: Path) -> None:
+    """Empties the kept bytes of lists, in a copy of the office.
 
     The program keeps the bytes of each imported list, to recognise the list: names, keys and homes of people who may
     have left. This puts the word `blanked` in their place, and writes the copy anew, so that nothing of them is left
@@ -147,7 +198,8 @@ def blank(label: str, file: Path) -> None:
     with contextlib.closing(sqlite3.connect(file)) as database:
         database.execute("PRAGMA secure_delete = ON")
         with database:
-            if database.execute("UPDATE list SET body = ? WHERE label = ?", (b"blanked", label)).rowcount != 1:
-                raise Fault(f"no list has come in under the label {label!r}")
+            for label in labels:
+                if database.execute("UPDATE list SET body = ? WHERE label = ?", (b"blanked", label)).rowcount != 1:
+                    raise Fault(f"no list has come in under the label {label!r}")
         database.execute("VACUUM")
         database.execute("PRAGMA wal_checkpoint(TRUNCATE)")

@@ -34,6 +34,7 @@ class Settings:  # pylint: disable=too-many-instance-attributes  # each is a set
     stop_seconds: float = 5   # after so long a stop the server is started, even if more changes wait
     kept_backups: int = 30    # the copies that were asked for, as those of each night
     kept_before: int = 20     # the copies that were taken before lines, for each kind of line
+    kept_days: int = 400      # for so many days at most, unless the office has set another number
 
     @property
     def journal(self) -> Path:

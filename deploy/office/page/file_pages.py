@@ -11,8 +11,8 @@ import bottle  # type: ignore[import]  # Debian's bottle has no types
 
 import explaining
 import plain
-from app import HERE, app, ask, download, drawn_order, field, go_to, office_now, show, tell
-from keeper_client import answers_of
+from app import HERE, app, ask, download, drawn_order, field, go_to, office_now, show, tell, text_of
+from keeper_client import KeeperFault, answers_of
 from many_pages import propose_keys
 from office_view import Office
 from questions import Fact, Question, put_question
@@ -110,25 +110,72 @@ def audit_download() -> bottle.HTTPResponse:
 # --- copies and the way back
 
 class Copy(NamedTuple):
-    """A copy of the office: its name, when it was made, its size, and why it was taken."""
+    """A copy of the office: its name, when it was made, its size, and why it was taken; until which day it stays at most,
+    and after how many more of its kind it goes earlier."""
 
     name: str
     made: str
     kilobytes: int
     why: str
+    until: str
+    more: int
 
 
-def copy_of(row: list[Any]) -> Copy:
-    """A copy as the keeper lists it. Its name is the time when it was made."""
-    name, size, why = str(row[0]), int(row[1]), str(row[2])
-    made = f"{name[:4]}-{name[4:6]}-{name[6:8]} {name[9:11]}:{name[11:13]}:{name[13:15]}"
-    return Copy(name, made, size // 1024, why)
+def made_of(name: str) -> str:
+    """When a copy was made, by its name, in UTC."""
+    return f"{name[:4]}-{name[4:6]}-{name[6:8]} {name[9:11]}:{name[11:13]}:{name[13:15]}"
+
+
+def copies_of(kept: dict[str, Any]) -> list[Copy]:
+    """The copies as the keeper lists them, the newest first. The name of each is the time when it was made."""
+    return [Copy(name, made_of(name), size // 1024, why, *kept["stays"].get(name, ("", 0)))
+            for name, size, why in reversed(kept["backups"])]
 
 
 @app.get("/office/copies")
 def copies() -> str:
     """The copies that are kept, the newest first."""
-    return show("copies", office=office_now(), copies=[copy_of(row) for row in ask("backups")["backups"]][::-1])
+    kept = ask("backups")
+    return show("copies", office=office_now(), copies=copies_of(kept), days=kept["days"])
+
+
+@app.post("/office/copies/days")
+def look_at_days() -> None:
+    """Leads to the question about a number of days."""
+    days = text_of("days")
+    if not re.fullmatch(r"[0-9]{1,4}", days):
+        tell("bad", "Write a number of days, such as 400. Nothing was changed.")
+        go_to("/office/copies")
+    go_to(f"/office/copies/days/{int(days)}")
+
+
+@app.get("/office/copies/days/<days:int>")
+def ask_days(days: int) -> str:
+    """Asks before copies stay for another number of days."""
+    gone = days_gone(days, True)
+    counted = f"{gone} copies are older, and are" if gone > 1 else "One copy is older, and is"
+    says = [f"{counted} deleted at once. You cannot take this back." if gone else "No copy is older now.",
+            f"From then on each copy is deleted when it is {days} days old, or earlier if there are enough newer ones of its "
+            "kind. Copies that the administrator has taken elsewhere stay there."]
+    title = f"Keep copies for {days} days at most?"
+    return put_question(office_now(), Question(title, says, "Yes: keep them for so long", "/office/copies"))
+
+
+@app.post("/office/copies/days/<days:int>")
+def set_days(days: int) -> None:
+    """Sets for how many days copies stay."""
+    gone = days_gone(days, False)
+    tell("good", f"Copies stay for {days} days at most. {gone or 'No'} {'copy was' if gone == 1 else 'copies were'} deleted.")
+    go_to("/office/copies")
+
+
+def days_gone(days: int, only_try: bool) -> int:
+    """How many copies are older than so many days, and are deleted unless this is only tried."""
+    try:
+        return int(ask("days", days=days, only_try=only_try)["gone"])
+    except KeeperFault as fault:
+        tell("bad", f"{str(fault)[:1].upper()}{str(fault)[1:]}")
+        go_to("/office/copies")
 
 
 @app.post("/office/copies")

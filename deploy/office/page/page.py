@@ -15,6 +15,7 @@ sys.path.insert(1, str(Path(__file__).resolve().parent.parent))
 # pylint: disable=wrong-import-position  # each module adds its pages to the app
 import waitress
 
+import about_pages  # noqa: F401  # pylint: disable=unused-import
 import file_pages  # noqa: F401  # pylint: disable=unused-import
 import list_pages  # noqa: F401  # pylint: disable=unused-import
 import many_pages  # noqa: F401  # pylint: disable=unused-import

@@ -1,0 +1,199 @@
+"""What the office keeps of a person, for how long, and how it forgets: /usr/bin/python3 deploy/trial/office_forget.py PROGRAM.
+
+Copies by age, all about one person on a page, and a person who is forgotten.
+"""
+
+import datetime
+import re
+import sqlite3
+import sys
+from pathlib import Path
+
+# The repository stays as it is.
+sys.dont_write_bytecode = True
+
+# pylint: disable=wrong-import-position  # nothing may be written before
+from office_requests import Page
+from office_sheets import bring_in
+from stand import Stand, check, key_of
+
+NAME = "Zoe Zander"
+KEY = "fedcba98765432100123456789abcdef"
+HEADER = ["person", "name", "key", "home"]
+
+
+def copies(stand):
+    """The names of the kept copies, the oldest first."""
+    return [row[0] for row in stand.ask(ask="backups")["backups"]]
+
+
+def age(stand, name, days):
+    """Makes a copy older by so many days, and gives its new name."""
+    made = datetime.datetime.strptime(name[:16], "%Y%m%dT%H%M%SZ") - datetime.timedelta(days=days)
+    folder = stand.data / "backups"
+    new = f"{made:%Y%m%dT%H%M%SZ}{name[16:]}"
+    (folder / name).rename(folder / new)
+    return new
+
+
+def try_days(stand, page):
+    """Copies go by their age, as the office has set it."""
+    first, second = (stand.ask(ask="backup")["name"] for _ in range(2))
+    old, older = age(stand, first, 399), age(stand, second, 401)
+    shown = page.get("/office/copies")[2]
+    until = (datetime.date.today() + datetime.timedelta(days=1)).isoformat()
+    said = (f"Stays until {until}, or until 30 more are made", 'name="days" value="400"')
+    check("the page says until when each copy stays", all(one in shown for one in said), shown)
+    stand.ask(ask="backup")
+    check("a copy of 401 days goes with the next one, and one of 399 stays", old in copies(stand) and older not in copies(stand))
+    _, fields, _ = page.form("/office/copies/days", {"days": "398"}, page="/office/copies")
+    shown = page.get(fields["location"])[2]
+    check("another number of days is asked about, with what goes", "One copy is older, and is deleted at once" in shown, shown)
+    check("and nothing has gone before the answer", old in copies(stand))
+    page.form("/office/copies/days/398", page="/office/copies/days/398")
+    shown = page.get("/office/copies")[2]
+    told = "Copies stay for 398 days at most. 1 copy was deleted" in shown
+    check("then the copy goes", told and old not in copies(stand), shown)
+    for days in ("0", "3651", "-1", "x"):
+        fields = page.form("/office/copies/days", {"days": days}, page="/office/copies")[1]
+        shown = page.get(fields["location"])[2] + page.get("/office/copies")[2]
+        check(f"{days} days are refused", "Yes: keep them" not in shown and "Nothing was changed" in shown, shown)
+    check("and the number stays", stand.ask(ask="backups")["days"] == 398)
+
+
+def try_restart(stand, page):
+    """The number of days outlives the keeper, and an old copy is put back before it goes."""
+    name = age(stand, stand.ask(ask="backup")["name"], 500)
+    page.form("/office/rooms", {"change": "room", "code": "A-9"}, page="/office/rooms")
+    check("a copy that is too old can be put back", stand.command("back", name)[0] == 0, copies(stand))
+    check("and the office is as it was then", "A-9" not in {row[0] for row in stand.ask(ask="view")["rooms"]})
+    stand.stop_keeper()
+    stand.start()
+    check("after a restart the number of days is the same", stand.ask(ask="backups")["days"] == 398)
+    check("and what is too old has gone", name not in copies(stand), copies(stand))
+
+
+def year_of(stand, page):
+    """Zoe Zander comes by a list, hands in a list, moves, and has a home."""
+    for code in ("A-1", "A-2", "A-3"):
+        stand.office(f"room {code}")
+    bring_in(page, "people", "people-1", HEADER, [["Z1", NAME, KEY, "A-1"], ["T1", "Tim Tan", key_of("T1"), "A-2"],
+                                                  ["Z11", "Zoe Other", key_of("Z11"), ""]])
+    stand.office("open")
+    bring_in(page, "choices", "choices-1", ["person", "choices"], [["Z1", "A-3"]])
+    stand.office("choose Z1 A-3 A-2")
+    stand.office("close")
+    stand.ask(ask="draw", who="anna", seed="0" * 64)
+
+
+def try_about(stand, page):
+    """All about one person."""
+    shown = page.get("/office/about/Z1")[2]
+    said = (NAME, "A-1", "A-3 A-2", "by the word", "people-1 (people): Z1 | Zoe Zander | (key) | A-1",
+            "choices-1 (choices): Z1 | A-3", "choose Z1 A-3 A-2", "have this person", "there is one; no page shows it")
+    missing = [one for one in said if one not in shown]
+    check("one page has register, list, order, kept lists, copies and journal", not missing, (missing, shown))
+    check("and neither the key nor somebody else", KEY not in shown and "Tim Tan" not in shown and "Zoe Other" not in shown, shown)
+    for line in ("run", "publish"):
+        stand.office(line)
+    shown = page.get("/office/about/Z1")[2]
+    check("then the result, and how it came about", "A-3, your choice 1, was the best room on your list" in shown, shown)
+    status, fields, _ = page.get("/office/forget/Z1")
+    check("in a round nobody is forgotten", status == 303 and fields["location"] == "/office/about/Z1")
+    check("and the page says why", "only between two rounds" in page.get("/office/about/Z1")[2])
+    stand.office("settle")
+    check("after the round the move", "Round 1: from A-1 to A-3" in page.get("/office/about/Z1")[2])
+    shown = page.form("/office/about", {"about": "z1"}, page="/office/register")[2]
+    check("an identifier is found by a form", "All about Zoe Zander (Z1)" in shown, shown)
+    fields = page.form("/office/about", {"about": "Zoe Zander"}, page="/office/register")[1]
+    check("and what is none goes into no address", fields.get("location") == "/office/register")
+
+
+def holds(stand, text):
+    """Whether the office's own files have a text; not its copies."""
+    return any(text.encode() in one.read_bytes() for one in stand.data.glob("rooms.db*"))
+
+
+def try_forget(stand, page):
+    """The person is forgotten."""
+    before = {row[0]: row[1:] for row in stand.ask(ask="view")["people"]}
+    check("this trial finds the person where they are", holds(stand, NAME) and holds(stand, KEY))
+    shown = page.get("/office/forget/Z1")[2]
+    said = ("name, key, room and grade", "A-3 becomes free", "choices-1, people-1", "until it is too old",
+            "the identifier, and no name")
+    check("the question says what goes at once, and what stays", all(one in shown for one in said), shown)
+    made = len(copies(stand))
+    fields = page.form("/office/forget/Z1", page="/office/forget/Z1")[1]
+    after = {row[0]: row[1:] for row in stand.ask(ask="view")["people"]}
+    check("the person is out of the register, and nobody else", after == {one: before[one] for one in before if one != "Z1"}, after)
+    check("neither name nor key is left in the office's file", not holds(stand, NAME) and not holds(stand, KEY))
+    check("there is one copy more", len(copies(stand)) == made + 1)
+    shown = page.get(fields["location"])[2]
+    last = (datetime.date.today() + datetime.timedelta(days=398)).isoformat()
+    said = ("Z1 is forgotten", "Nobody in the register", f"The last one goes on {last}", "Round 1: from A-1 to A-3", "forget Z1")
+    check("the page says what is left, and until when", all(one in " ".join(shown.split()) for one in said), shown)
+    check("and that no list is left", "None that names this person" in shown and "Forget this person" not in shown, shown)
+    journal = (stand.data / "journal").read_text(encoding="utf-8")
+    check("the journal has no name", NAME not in journal and KEY not in journal)
+    check("the keeper finds each copy that has the person", left_in_copies(stand) > 0)
+
+
+def left_in_copies(stand):
+    """How many kept copies have the person, by SQLite itself."""
+    found = 0
+    for name in copies(stand):
+        with sqlite3.connect(f"file:{stand.data / 'backups' / name / 'rooms.db'}?mode=ro&immutable=1", uri=True) as database:
+            found += database.execute("SELECT count(*) FROM person WHERE id = 'Z1'").fetchone()[0]
+    shown = stand.ask(ask="about", person="Z1")["copies"]
+    return found if len(shown) >= found else 0
+
+
+def try_removed(stand, page):
+    """Somebody was removed, and their list is still there."""
+    bring_in(page, "people", "people-2", HEADER, [["T2", "Tea Tal", key_of("T2"), ""]])
+    stand.office("remove T2")
+    shown = page.get("/office/about/T2")[2]
+    check("a kept list still names who was removed", "people-2 (people): T2 | Tea Tal" in shown, shown)
+    page.form("/office/forget/T2", page="/office/forget/T2")
+    check("until they are forgotten", not holds(stand, "Tea Tal"))
+    told = stand.command("about", "Z11")
+    check("the clerk's command says it, too", told[0] == 0 and "name Zoe Other" in told[1], told)
+    told = stand.command("forget", "Z11")
+    check("and forgets", told[0] == 0 and not holds(stand, "Zoe Other"), told)
+    told = [stand.script("rooms-office", *words) for words in (("days", "200"), ("days",))]
+    check("and sets the days", told == ["200\n", "200\n"], told)
+    bad = [stand.ask(ask="forget", person=one).get("fault", "") for one in ("z1", "", "A B", "1" * 13)]
+    check("what is no identifier is refused", all("not understood" in one for one in bad), bad)
+
+
+def try_stale(stand, page):
+    """Somebody has changed the person since the question."""
+    bring_in(page, "people", "people-3", HEADER, [["T3", "Tom Tao", key_of("T3"), ""]])
+    old = page.hidden("/office/forget/T3", "/office/forget/T3")
+    page.form("/office/person/T3/name", {"name": "Tom Other"}, page="/office/person/T3")
+    page.post("/office/forget/T3", old)
+    check("nobody is forgotten who has changed since", "T3" in {row[0] for row in stand.ask(ask="view")["people"]})
+    check("and the clerk reads so", "was changed after you looked" in page.get("/office/about/T3")[2])
+
+
+def try_office_forget(program):
+    """All of it."""
+    with Stand(program) as stand:
+        stand.start()
+        stand.start_page()
+        stand.start_proxy()
+        page = Page(stand)
+        try_days(stand, page)
+        try_restart(stand, page)
+        year_of(stand, page)
+        try_about(stand, page)
+        try_forget(stand, page)
+        try_removed(stand, page)
+        try_stale(stand, page)
+        check("no name is in a log", not re.search("zander|zoe", stand.proxy_log() + stand.log("page") + stand.log("keeper"), re.I))
+
+
+if __name__ == "__main__":
+    if len(sys.argv) != 2 or not Path(sys.argv[1]).exists():
+        sys.exit("usage: /usr/bin/python3 deploy/trial/office_forget.py PROGRAM")
+    try_office_forget(sys.argv[1])
