@@ -13,6 +13,7 @@ from office_view import Office
 from people_pages import IDENTIFIER
 from questions import Question, put_question
 
+
 class Kept(NamedTuple):
     """What the keeper has found of a person, beside what every page shows."""
 

@@ -39,7 +39,8 @@ HEADERS = {
     "Cross-Origin-Opener-Policy": "same-origin",
     "Cross-Origin-Resource-Policy": "same-origin",
 }
-STALE = "This form was made before the page was restarted, or on another page. Nothing was changed. Fill it in again."
+STALE = ("This form was made before the page was restarted, or on another page. Nothing was changed. Fill it in again. "
+         "If you printed slips for a list that is not in yet, destroy them: they do not work.")
 
 # A host as a browser names it, with its port if that is another than HTTPS has.
 HOST = re.compile(r"[A-Za-z0-9.-]+(:[0-9]+)?")

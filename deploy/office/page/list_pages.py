@@ -137,7 +137,8 @@ def bring_list() -> str:
     office, name = office_now(), text_of("held")
     job: Any = memory.held(clerk(), name)
     if not isinstance(job, Job):
-        tell("bad", "The page no longer holds this list. Nothing was imported: send the list again.")
+        tell("bad", "The page no longer holds this list. Nothing was imported now. If the list is not in yet, send it again, and "
+                    "destroy slips that you printed for it: they do not work.")
     elif office.has_label(job.label):
         tell("bad", f"A list was imported under the label {job.label} meanwhile. Send yours under another label.")
     elif is_stale(office, job):
