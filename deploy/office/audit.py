@@ -9,18 +9,16 @@ Sonmez, House Allocation with Existing Tenants, Journal of Economic Theory 88, 1
     the first person in the drawn order who remains. So each person points to one person, and some are in
     circles. Everybody in a circle gets the room that they ask for, and leaves with it, until nobody remains.
 
-The drawn order goes by the grade, a smaller one first, and then by the drawn word. Somebody who leaves the college has
-no part in the round, and their room has no tenant.
+The drawn order goes by the grade, a smaller one first, then by the drawn word. Somebody who leaves the college has no
+part in the round, and their room has no tenant. It compares these results with the recorded ones, and looks for what
+may never be: a room given twice, somebody with less than their own room, a better room that nobody got, people who
+would all gain by passing on their rooms. With the seed it works out the words of the draw. It explains how the result
+of each PERSON came about. The record - is standard input, and the arguments may come in any order.
 
-It compares these results with the recorded ones, and looks for what may never be: a room given twice, somebody with
-less than their own room, a better room that nobody got, people who would all gain by passing on their rooms. With the
-seed it works out the words of the draw. It explains how the result of each PERSON came about.
-
-Exit status: 0 all is right, 1 faults were found, 2 the record cannot be read. The record - is standard input.
+Exit status: 0 all is right, 1 faults, 2 the record cannot be read, 3 no faults, but no seed: the draw was not checked.
 """
 
 import argparse
-import struct
 import sys
 from collections.abc import Mapping
 from pathlib import Path
@@ -113,8 +111,6 @@ class Audit:  # pylint: disable=too-many-instance-attributes  # others read what
                 if room:
                     self.taken[room], self.giver[room] = (person, step), points[person]
 
-    # --- what is wrong with the recorded results
-
     def rank(self, person: str, room: str | None) -> int:
         """How a person ranks a room, 0 being the best: the list, then the own room (or no room), then all else."""
         wishes = self.list[person]
@@ -158,8 +154,6 @@ class Audit:  # pylint: disable=too-many-instance-attributes  # others read what
                  for person, other in zip(circle, circle[1:] + circle[:1])]
         return found + (["all of these would gain by passing on their rooms: " + "; ".join(gains)] if circle else [])
 
-    # --- how a result came about
-
     def facts(self, person: str) -> Facts | None:
         """How a person's result came about; None for somebody who takes no part."""
         if person not in self.home:
@@ -190,18 +184,13 @@ class Audit:  # pylint: disable=too-many-instance-attributes  # others read what
                  for one, room in found.circle if room]
         return f"in step {found.step} " + "; ".join(links)
 
-    def absence(self, person: str) -> str:
-        """Why somebody has no result."""
-        if person not in self.going:
-            return f"{person} takes no part in the round."
-        room = self.going[person]
-        return f"{person} leaves the college" + (f", and gives the room {room} to the round." if room else ".")
-
     def explain(self, person: str) -> list[str]:
         """How a person's result came about, as sentences."""
         found = self.facts(person)
         if found is None:
-            return [self.absence(person)]
+            room = self.going.get(person)
+            return [f"{person} " + ("takes no part in the round." if person not in self.going else "leaves the college"
+                                    + (f", and gives the room {room} to the round." if room else "."))]
         home, got, listed = self.home[person], self.got[person], self.handed_in[person]
         grade = f", with grade {self.grade.get(person, 0)}" if self.grade else ""
         said = [f"{person} was number {found.place} of {len(self.order)} in the drawn order{grade}, and had "
@@ -243,61 +232,53 @@ def circle_in(points: dict[str, list[str]]) -> list[str]:
     return walk[walk.index(walk[-1]):-1] if walk else []
 
 
+QUARTERS = ((0, 4, 8, 12), (1, 5, 9, 13), (2, 6, 10, 14), (3, 7, 11, 15),
+            (0, 5, 10, 15), (1, 6, 11, 12), (2, 7, 8, 13), (3, 4, 9, 14))
+
+
 def seed_words(seed: str, count: int) -> list[str]:
     """The words of a seed: the keystream of ChaCha20 (RFC 8439) with this key and all else zero, eight bytes a word."""
-    key = struct.unpack("<8I", bytes.fromhex(seed))
+    key = [int.from_bytes(bytes.fromhex(seed[place:place + 8]), "little") for place in range(0, 64, 8)]
     stream: list[int] = []
     for block in range((count + 7) // 8):
         start = [0x61707865, 0x3320646E, 0x79622D32, 0x6B206574, *key, block, 0, 0, 0]
         mixed = start[:]
-        for _ in range(10):
-            for places in ((0, 4, 8, 12), (1, 5, 9, 13), (2, 6, 10, 14), (3, 7, 11, 15),
-                           (0, 5, 10, 15), (1, 6, 11, 12), (2, 7, 8, 13), (3, 4, 9, 14)):
-                quarter_round(mixed, *places)
+        for one, two, three, four in QUARTERS * 10:
+            for left, right, turned, bits in ((one, two, four, 16), (three, four, two, 12),
+                                              (one, two, four, 8), (three, four, two, 7)):
+                mixed[left] = (mixed[left] + mixed[right]) & 0xFFFFFFFF
+                both = mixed[turned] ^ mixed[left]
+                mixed[turned] = (both << bits | both >> 32 - bits) & 0xFFFFFFFF
         stream += [(one + two) & 0xFFFFFFFF for one, two in zip(mixed, start)]
     return [f"{high:08x}{low:08x}" for low, high in zip(stream[::2], stream[1::2])][:count]
 
 
-def quarter_round(state: list[int], one: int, two: int, three: int, four: int) -> None:
-    """The step of which ChaCha20 is made."""
-    for left, right, turned, bits in ((one, two, four, 16), (three, four, two, 12),
-                                      (one, two, four, 8), (three, four, two, 7)):
-        state[left] = (state[left] + state[right]) & 0xFFFFFFFF
-        both = state[turned] ^ state[left]
-        state[turned] = (both << bits | both >> 32 - bits) & 0xFFFFFFFF
+def read_hex(text: str, length: int, what: str) -> str:
+    """A seed or a word in small letters. There may be spaces around it and in it, as on the office's page."""
+    found = "".join(text.split()).lower()
+    if len(found) != length or set(found) - set("0123456789abcdef"):
+        raise Unreadable(f"{what} has to have {length} signs out of 0 to 9 and a to f, and is {text[:64]!r}")
+    return found
 
-
-def read_seed(text: str) -> str:
-    """A seed, in small letters."""
-    if len(text) != 64 or set(text.lower()) - set("0123456789abcdef"):
-        raise ValueError("a seed has 64 signs out of 0 to 9 and a to f")
-    return text.lower()
-
-
-# --- the record
 
 class Unreadable(Exception):
     """This is not the record of a round; says why."""
 
 
-def new(rows: dict[str, Any], name: str) -> dict[str, Any]:
-    """The rows, if this name is not among them yet."""
-    if name in rows:
-        raise ValueError
-    return rows
-
-
-GRADES = set("0123456789")
 # The order of the lines of a record. Rounds that were opened and cancelled may come before them.
 LINES = ["room", "person", "home", "grade", "open", "cancel", "choose", "withdraw", "going", "shut", "close", "draw",
          "run", "publish", "round", "order", "results"]
+COMMENTS = ["round"], ["seed"], ["result"]
+NEEDED = ["# round", "open", "close", "draw", "run"]
 
 
 class Record:  # pylint: disable=too-many-instance-attributes  # a list for each kind of line
-    """What a record says. Comments have the round's number, the office's own results and, if it is known, the seed."""
+    """What a record says. Comments have the number, the results, the seed, and what the journal says (`history`)."""
 
     def __init__(self, text: str) -> None:
         self.number, self.seed, self.last = 0, "", 0
+        self.lines: set[str] = set()  # those that were read, by their first words: each of them comes once
+        self.history: list[str] = []
         self.rooms: dict[str, bool] = {}
         self.homes: dict[str, str | None] = {}
         self.withdrawn: set[str] = set()
@@ -309,46 +290,60 @@ class Record:  # pylint: disable=too-many-instance-attributes  # a list for each
         for number, line in enumerate(text.split("\n"), 1):
             try:
                 self.read(line.split())
+            except Unreadable as why:
+                raise Unreadable(f"line {number}: {why}") from why
             except (KeyError, ValueError) as why:
                 raise Unreadable(f"line {number} is none of a record, or in a wrong place: {line[:60]!r}") from why
-        if self.last < LINES.index("run") or (self.words and not self.results):
-            raise Unreadable("it ends before `run`, or it has no results of the office (# result PERSON ROOM)")
+        missing = [name for name in NEEDED if name not in self.lines] + ["# result"] * (not self.results and bool(self.words))
+        if missing:
+            raise Unreadable(f"it has no line `{missing[0]}`")
 
     def read(self, words: list[str]) -> None:
-        """One line. One that is unknown, out of order or twice there ends in a KeyError or a ValueError."""
-        if words and not words[0].startswith("#"):
+        """One line. One that is unknown or out of order ends in a KeyError or a ValueError."""
+        if not words or (words[0].startswith("#") and words[1:2] not in COMMENTS):
+            self.history += [" ".join(words[1:])] if len(words) > 3 and words[2].count(":") == 3 else []
+            return
+        name = " ".join(words[:1 if words[0] == "draw" else 3 if words[1:2] == ["result"] else 2])
+        if name in self.lines:
+            raise Unreadable(f"there is a second line `{name}`")
+        self.lines.add(name)
+        if words[0] != "#":
             if LINES.index(words[0]) < self.last:
                 raise ValueError
-            self.last = 0 if words[0] == "cancel" else LINES.index(words[0])
+            self.last = LINES.index(words[0])
         match words:
+            case ["cancel"]:
+                self.last, self.lines = 0, self.lines - {"open", "cancel"}
             case ["#", "round", number, "ran" | "published"]:
                 self.number = int(number)
             case ["#", "seed", seed]:
-                self.seed = read_seed(seed)
+                self.seed = read_hex(seed, 64, "a seed")
             case ["#", "result", person, room]:
-                new(self.results, person)[person] = None if room == "none" else room
+                self.results[person] = None if room == "none" else room
             case ["room", room]:
-                new(self.rooms, room)[room] = False
+                self.rooms[room] = False
             case ["person", person, _, _, *_]:
-                new(self.homes, person)[person] = None
+                self.homes[person] = None
             case ["home", person, room] if not (self.homes[person] or self.rooms[room] or room in self.homes.values()):
                 self.homes[person] = room
             case ["choose", person, *rooms] if person in self.homes and len(self.rooms.keys() & {*rooms}) == len(rooms):
-                new(self.choices, person)[person] = rooms
+                self.choices[person] = rooms
             case ["withdraw", person] if person in self.homes:
                 self.withdrawn.add(person)
             case ["going", person] if self.homes[person] and person not in self.withdrawn:
                 self.going.add(person)
-            case ["grade", person, grade] if person in self.homes and grade in GRADES:
-                new(self.grades, person)[person] = int(grade)
+            case ["grade", person, grade] if person in self.homes and grade in {*"0123456789"}:
+                self.grades[person] = int(grade)
             case ["shut", room] if not self.rooms[room] and room not in self.homes.values():
                 self.rooms[room] = True
             case ["draw", *drawn]:
-                part = self.homes.keys() - self.withdrawn - self.going
-                self.words = dict(zip(sorted(part), drawn, strict=True))
-            case [] | ["open" | "cancel" | "close" | "run" | "publish" | "round" | "order" | "results"]:
+                part = sorted(self.homes.keys() - self.withdrawn - self.going)
+                if len(part) != len(drawn):
+                    raise Unreadable(f"{len(part)} people take part, and the draw has {len(drawn)} words")
+                self.words = {person: read_hex(word, 16, "a word of a draw") for person, word in zip(part, drawn)}
+            case ["open" | "close" | "run" | "publish" | "round" | "order" | "results"]:
                 pass
-            case [first, *_] if not first.startswith("#"):
+            case _:
                 raise ValueError
 
     def rows(self) -> dict[str, Any]:
@@ -358,10 +353,23 @@ class Record:  # pylint: disable=too-many-instance-attributes  # a list for each
                 "results": list(self.results.items()), "grades": list(self.grades.items()),
                 "going": [(person,) for person in self.going]}
 
-    def is_drawn_by(self, seed: str) -> bool:
-        """Whether the words of the draw are those of this seed."""
-        drawn = [word.lower() for _, word in sorted(self.words.items())]
-        return drawn == seed_words(seed, len(drawn))
+
+RIGHT = ["the results are those of the definition", "nobody has less than their own room", "no room was given twice",
+         "no other rooms would make somebody better off and nobody worse"]
+NO_SEED = "the record names no seed, and no seed was given (--seed): the office may have chosen the order"
+
+
+def verdict(record: Record, found: Audit, given: str) -> tuple[int, list[str]]:
+    """The exit status, and what is said of a round. The seed that a record names is the office's own word for it."""
+    seeds = {seed: said for seed, said in ((record.seed, ", which the record names"), (given, "")) if seed}
+    words = [word for _, word in sorted(record.words.items())]
+    drawn = {f"the seed {seed}{source}": seed_words(seed, len(words)) == words for seed, source in seeds.items()}
+    faults = found.faults() + [f"the words of the draw are not those of {seed}" for seed, fits in drawn.items() if not fits]
+    said = (faults or RIGHT + [f"the words of the draw are those of {seed}" for seed in drawn]) + [NO_SEED] * (not seeds)
+    headline = ("not right" if faults else "the draw was not checked; all else is right" if not seeds else "all is right" if given
+                else "all is right, if the witnesses' seed is the one that the record names")
+    return (1 if faults else 0 if seeds else 3,
+            [f"Round {record.number}, {len(found.order)} people: {headline}", *(f"- {line}" for line in said)])
 
 
 def main(words: list[str]) -> int:
@@ -369,27 +377,22 @@ def main(words: list[str]) -> int:
     parser = argparse.ArgumentParser(prog="audit.py", description="Checks the results of a room exchange.")
     parser.add_argument("record", help="the record of the round, as the office wrote it; - is standard input")
     parser.add_argument("person", nargs="*", help="an identifier: how this person's result came about")
-    parser.add_argument("--seed", help="the seed of the draw: 64 signs out of 0 to 9 and a to f")
-    asked = parser.parse_args(words)
+    parser.add_argument("--seed", default="", help="the seed of the draw, in quotes if there are spaces in it")
+    asked = parser.parse_intermixed_args(words)
+    reads, people = "the seed", [asked.record, *asked.person]
+    file = next((word for word in people if word == "-" or Path(word).is_file()), asked.record)
+    people.remove(file)
     try:
-        record = Record((sys.stdin.buffer.read() if asked.record == "-" else Path(asked.record).read_bytes()).decode())
-        seeds = [read_seed(asked.seed)] if asked.seed else []
+        given, reads = read_hex(asked.seed, 64, "it") if asked.seed else "", file
+        record = Record((sys.stdin.buffer.read() if file == "-" else Path(file).read_bytes()).decode("utf-8-sig"))
     except (Unreadable, OSError, ValueError) as why:
-        print(f"audit.py: {asked.record} cannot be read: {why}", file=sys.stderr)
+        print(f"audit.py: {reads} cannot be read: {why}", file=sys.stderr)
         return 2
     found = Audit(record.rows())
-    faults = found.faults()
-    seeds += [record.seed] if record.seed and record.seed not in seeds else []
-    faults += [f"the words of the draw are not those of the seed {seed}" for seed in seeds
-               if not record.is_drawn_by(seed)]
-    right = ["the results are those of the definition", "nobody has less than their own room",
-             "no room was given twice", "no other rooms would make somebody better off and nobody worse",
-             *[f"the words of the draw are those of the seed {seed}" for seed in seeds]]
-    print(f"Round {record.number}, {len(found.order)} people: {'not right' if faults else 'all is right'}")
-    print("\n".join(f"- {line}" for line in faults or right))
-    for person in asked.person:
-        print("\n".join(["", *found.explain(person)]))
-    return 1 if faults else 0
+    status, said = verdict(record, found, given)
+    said += ["", "The office's journal says:", *record.history] if record.history else []
+    print("\n".join([*said, *(line for person in people for line in ["", *found.explain(person)])]))
+    return status
 
 
 if __name__ == "__main__":

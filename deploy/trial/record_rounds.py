@@ -172,14 +172,16 @@ class Rounds(Trial):
         if not people:
             return
         status, said, _ = self.audit(text, people[0])
-        self.check(status == 0 and "all is right" in said and f"So {people[0]} " in said, "status 0", status, said)
+        known = "\n# seed " in text
+        headline = "all is right, if the witnesses'" if known else "the draw was not checked"
+        self.check(status == (0 if known else 3) and headline in said and f"So {people[0]} " in said, "status", status, said)
         if drawn.seed:
             program = [self.program, "words", "--seed", drawn.seed, "--count", str(len(people))]
             words = subprocess.run(program, capture_output=True, text=True, check=True).stdout.split()
             self.check(words == audit.seed_words(drawn.seed, len(people)), "the words of a seed", words)
             self.check(f"\n# seed {drawn.seed}\n" in text, "the seed is in the record", text)
             status, said, _ = self.audit(text, "--seed", drawn.seed.upper())
-            self.check(status == 0 and said.count(drawn.seed) == 1, "the seed", status, said)
+            self.check(status == 0 and "all is right\n" in said and said.count(drawn.seed) == 1, "the seed", status, said)
             other = drawn.seed[:20] + ("1" if drawn.seed[20] == "0" else "0") + drawn.seed[21:]
             for status, said, _ in (self.audit(text, "--seed", other), self.audit(text.replace(drawn.seed, other))):
                 self.check(status == 1 and f"not those of the seed {other}" in said, "a wrong seed", status, said)

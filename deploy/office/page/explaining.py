@@ -73,6 +73,12 @@ def audit_of(office: Office) -> Any | None:
     return None if module is None else LAST.audit_of(module, office)
 
 
+def faults_of(office: Office) -> list[str] | None:
+    """What the audit finds wrong with the office's results; None if it is not installed, or if there are no results."""
+    audit = audit_of(office) if office.results else None
+    return None if audit is None else list(audit.faults())
+
+
 class Explainer:  # pylint: disable=too-few-public-methods  # what is worked out once for all people
     """Gives the facts of the participants of a round."""
 
@@ -99,8 +105,8 @@ class Explainer:  # pylint: disable=too-few-public-methods  # what is worked out
                 gone.append(Gone(room, choice, step, other, self.place[other], self.tenants.get(room, "")))
             else:
                 out.append(room)
-        return Facts(ident, self.place[ident], len(self.place), home, wishes, out, gone, got,
-                     office.choice_number(ident), audit.step[ident])
+        number = wishes.index(got) + 1 if got in wishes and got != home else None
+        return Facts(ident, self.place[ident], len(self.place), home, wishes, out, gone, got, number, audit.step[ident])
 
 
 def explainer_of(office: Office) -> Explainer | None:
@@ -110,7 +116,7 @@ def explainer_of(office: Office) -> Explainer | None:
 
 
 def about(office: Office, ident: str) -> list[str]:
-    """The sentences for the office."""
+    """The sentences for the office. They end with what the office has, if that is something else."""
     explainer = explainer_of(office)
     facts = explainer.facts_of(ident) if explainer else None
     if facts is None:
@@ -120,11 +126,18 @@ def about(office: Office, ident: str) -> list[str]:
     said += [f"{room}, on the list, was not in the round." for room in facts.out]
     for gone in facts.gone:
         said.append(f"{gone.room}, choice {gone.choice}, {to_whom(gone)}.")
+    said.append(outcome_of(facts))
+    other = office.results.get(ident)
+    return said + ([f"But the office has {other or 'no room'} for {ident}."] if other != facts.got else [])
+
+
+def outcome_of(facts: Facts) -> str:
+    """What somebody gets, for the office."""
     if facts.choice:
-        return said + [f"In step {facts.step}, {ident} got {facts.got}, choice {facts.choice}."]
+        return f"In step {facts.step}, {facts.ident} got {facts.got}, choice {facts.choice}."
     better = "Nothing better" if facts.got else "Nothing"
-    why = f"{better} on the list was left" if facts.wishes else f"{ident} handed in no list"
-    return said + [f"{why}, so {ident} " + (f"keeps {facts.got}." if facts.got else "gets no room.")]
+    why = f"{better} on the list was left" if facts.wishes else f"{facts.ident} handed in no list"
+    return f"{why}, so {facts.ident} " + (f"keeps {facts.got}." if facts.got else "gets no room.")
 
 
 def to_whom(gone: Gone) -> str:

@@ -6,6 +6,8 @@ from seen import Saw, saw, stamp
 
 import plain
 
+OFF_THE_LIST = "a room off the list"
+
 
 class Person(NamedTuple):
     """A person of the register."""
@@ -118,8 +120,10 @@ class Office:  # pylint: disable=too-many-instance-attributes  # each is a part 
         return wishes.index(room) + 1
 
     def outcome(self, ident: str) -> str:
-        """What this person gets, in a word or two."""
+        """What this person gets, in a word or two. Right results have no room off the list."""
         room, number = self.results.get(ident), self.choice_number(ident)
         if room is None:
             return "no room"
-        return f"choice {number}" if number else "keeps the room"
+        if room == self.people[ident].home:
+            return "keeps the room"
+        return f"choice {number}" if number else OFF_THE_LIST

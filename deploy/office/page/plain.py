@@ -90,6 +90,8 @@ CANCELLABLE = ("open", "closed", "drawn", "ran")
 COPY_FIRST = ("The keeper makes a copy of the office first. The page Copies brings you back to it; what happens after "
               "the copy is then lost.")
 
+OTHER_RESULTS = "The independent audit finds other results. Do not go on, and call the administrator."
+
 REGISTER = ("idle", "open")
 KINDS = {
     "rooms": Kind("room", "One room code a line.", REGISTER, 1),

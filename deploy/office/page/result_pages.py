@@ -18,8 +18,7 @@ def results() -> str:
     office = office_now()
     if not office.results:
         return show("no_results", office=office)
-    audit = explaining.audit_of(office)
-    return show("results", office=office, figures=figures.figures_of(office), faults=audit.faults() if audit else None)
+    return show("results", office=office, figures=figures.figures_of(office), faults=explaining.faults_of(office))
 
 
 # --- letters
@@ -54,8 +53,7 @@ def letters() -> str:
     if office.phase != "published":
         tell("bad", "Letters can be printed while the results are published, until the round is settled.")
         go_to("/office/print")
-    audit = explaining.audit_of(office)
-    if audit and audit.faults():
+    if explaining.faults_of(office):
         tell("bad", "The audit finds other results. Send no letters, and call the administrator.")
         go_to("/office/results")
     written, explainer = [], explaining.explainer_of(office)

@@ -7,6 +7,7 @@ import secrets
 from journal import masked
 from lines import on_one_line
 
+import explaining
 import plain
 from app import app, ask, change, drawn_order, field, go_to, office_now, show, tell, text_of
 from office_view import Office
@@ -36,7 +37,8 @@ def without_slash() -> None:
 @app.get("/office/")
 def overview() -> str:
     """How far the round is, what comes next, and who has handed in no list."""
-    return show("overview", office=office_now())
+    office = office_now()
+    return show("overview", office=office, faults=explaining.faults_of(office))
 
 
 @app.get("/office/step/<name>")
@@ -52,6 +54,8 @@ def ask_step(name: str) -> str:
     says = [step.does, step.undo, *([plain.COPY_FIRST] if step.final else [])]
     if name == "close" and office.without_list:
         says.insert(0, f"{len(office.without_list)} of {len(office.participants)} participants have handed in no list.")
+    if name in ("publish", "settle") and explaining.faults_of(office):
+        says.insert(0, plain.OTHER_RESULTS)
     title, yes = f"{step.name}?", f"Yes: {step.name[0].lower()}{step.name[1:]}"
     return put_question(office, Question(title, says, yes, "/office/", BEFORE.get(name)))
 
