@@ -40,6 +40,7 @@ from about import IDENTIFIER, about, kept_in
 from backups import ASKED_FOR, MOST_DAYS, blank
 from differences import differences
 from hand import CarryOut, Change, Hand
+from history import history
 from journal import masked, masked_line, masked_note
 from office import Office
 from program import NOT_UNDERSTOOD, Answer, correct, is_of_earlier_version, is_refused
@@ -49,7 +50,8 @@ from settings import Fault
 from watching import watch
 
 Job = dict[str, Any]
-SPOKEN = 400  # signs of a line, or of several, that the journal keeps
+SPOKEN = 400   # signs of several lines that the journal keeps as they are
+LONGEST = 800  # and of what it keeps at most
 
 
 def text(job: Job, name: str) -> str:
@@ -89,6 +91,18 @@ def body_of(job: Job) -> bytes:
         return base64.b64decode(text(job, "body"), validate=True)
     except binascii.Error as fault:
         raise Fault("not understood: the body is not in base 64") from fault
+
+
+def spoken_of(lines: list[str]) -> str:
+    """Lines as the journal has them. Of many it has the first ones, and the steps of the round among the others, so that
+    no draw is hidden there."""
+    whole = "; ".join(map(masked_line, lines))
+    if len(whole) <= SPOKEN:
+        return whole
+    first = whole[:SPOKEN].rpartition("; ")[0]
+    others = lines[first.count("; ") + 1 if first else 0:]
+    steps = [masked_line(line) for line in others if told.verb_of(line) in told.STEPS]
+    return "; ".join([*filter(None, [first]), "..", *steps]) if len(lines) > 1 else whole
 
 
 def participants(rows: Rows) -> int:
@@ -156,8 +170,10 @@ class Asks:  # pylint: disable=too-many-public-methods  # one for each request
         except ImportError as fault:
             raise Fault("the program of the public record (record.py) is not installed next to the keeper") from fault
         with self.copies.copied() as copy:
+            rows = rows_of(copy)
+            told_before = history(list(self.journal.entries()), self.journal.is_whole(), rows["number"], rows["settled"])
             try:
-                body = record.record(copy, self.journal.seeds())
+                body = record.record(copy, self.journal.seeds(), told_before)
             except record.Refused as why:
                 raise Fault(f"there is no record: {why}") from why
         self.journal.note(who=job["who"], line="the public record was taken")
@@ -180,7 +196,7 @@ class Asks:  # pylint: disable=too-many-public-methods  # one for each request
 
         def carry_out(file: Path) -> list[Answer]:
             return self.program.tell_all(lines, file) if whole else [self.program.tell(lines[0], file)]
-        return self.change(job, "; ".join(map(masked_line, lines)), carry_out, whole=whole, kind=kind)
+        return self.change(job, spoken_of(lines), carry_out, whole=whole, kind=kind)
 
     def draw(self, job: Job) -> Job:
         """The draw by a seed."""
@@ -203,7 +219,7 @@ class Asks:  # pylint: disable=too-many-public-methods  # one for each request
 
     def change(self, job: Job, spoken: str, carry_out: CarryOut, *, whole: bool = False, kind: str = "") -> Job:
         """Hands a change to the hand, and gives its answers."""
-        spoken = spoken if len(spoken) <= SPOKEN else spoken[:SPOKEN] + " .."
+        spoken = spoken if len(spoken) <= LONGEST else spoken[:LONGEST] + " .."
         why = f"before {spoken[:60]}, by {job['who']}"
         asked = Change(job["who"], spoken, carry_out, whole=whole, kind=kind, why=why, seen=seen_in(job),
                        saw=saw_in(job))

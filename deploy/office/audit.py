@@ -301,7 +301,7 @@ class Record:  # pylint: disable=too-many-instance-attributes  # a list for each
     def read(self, words: list[str]) -> None:
         """One line. One that is unknown or out of order ends in a KeyError or a ValueError."""
         if not words or (words[0].startswith("#") and words[1:2] not in COMMENTS):
-            self.history += [" ".join(words[1:])] if len(words) > 3 and words[2].count(":") == 3 else []
+            self.history += [f"- {' '.join(words[2:])}"] if words[1:2] == ["journal:"] else []
             return
         name = " ".join(words[:1 if words[0] == "draw" else 3 if words[1:2] == ["result"] else 2])
         if name in self.lines:
@@ -390,7 +390,7 @@ def main(words: list[str]) -> int:
         return 2
     found = Audit(record.rows())
     status, said = verdict(record, found, given)
-    said += ["", "The office's journal says:", *record.history] if record.history else []
+    said += ["", "Of the office's journal the record says:", *record.history] if record.history else []
     print("\n".join([*said, *(line for person in people for line in ["", *found.explain(person)])]))
     return status
 

@@ -24,6 +24,8 @@ LASTING = {
     "leave": "the office forgets where the person lived",
     "remove": "the person's key is nowhere else",
 }
+# The steps of a round.
+STEPS = frozenset({"open", "close", "cancel", "draw", "run", "publish", "settle"})
 REPLACED = "the list that it replaces is nowhere else"
 MANY = "a list or a bundle of lines is not taken back as a whole"
 

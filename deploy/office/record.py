@@ -28,6 +28,8 @@ VERSION = 3       # of the file: the tables that are read here
 ROUNDS = 40       # earlier rounds are opened and cancelled, up to so many; beyond them a comment gives the number
 FORMS = {"room": "[A-Z0-9][A-Z0-9-]{0,7}", "person": "[A-Z0-9]{1,12}", "word": "[0-9a-f]{16}"}
 SEED = "[0-9a-fA-F]{64}"
+# In place of what the journal says, where there is none.
+NOT_READ = ("it was not read, so seeds that were noted and rounds that were given up are not named",)
 
 
 class Refused(Exception):
@@ -202,8 +204,9 @@ def seed_of(office: Office, seeds: Iterable[str]) -> str | None:
     return next((seed for seed in whole if seed_words(seed, len(words)) == words), None)
 
 
-def record(file: Path, seeds: Iterable[str] = ()) -> str:
-    """The record of the round in an office's file. Of the seeds that may be the draw's, it names the one that is."""
+def record(file: Path, seeds: Iterable[str] = (), history: Iterable[str] = NOT_READ) -> str:
+    """The record of the round in an office's file, with what the keeper's journal says of the draw (`history`). Of the
+    seeds that may be the draw's, it names the one that is."""
     office = read_office(file)
     check(office)
     seed = seed_of(office, seeds)
@@ -212,6 +215,7 @@ def record(file: Path, seeds: Iterable[str] = ()) -> str:
         "# The record of a round of room exchange: rooms rehearse < RECORD. Names and keys are made up.",
         "# Homes and lists are those of the end of the round. Lists of people who take no part are left out.",
         f"# seed {seed}" if seed else "# No seed of the draw is recorded.",
+        *(f"# journal: {line}" for line in history),
         *round_number(office), *register(office), "open", *wishes(office), *outcome(office), ""])
 
 

@@ -49,10 +49,12 @@ def forged(stand):
 
 def thrown(page):
     """Dice are noted as they are hashed, even if a sign came in that nobody sees."""
-    seed = hashlib.sha256(b"3 1 6 6 2 5").hexdigest()
-    page.form("/office/seed", {"way": "text", "text": "3 1\u200b6\n6 \ufeff2 5"}, page="/office/draw")
+    throws = " ".join("3166254" * 8)
+    seed = hashlib.sha256(throws.encode()).hexdigest()
+    page.form("/office/seed", {"way": "text", "text": throws.replace(" ", "\u200b", 1).replace(" ", "\n\ufeff", 1)},
+              page="/office/draw")
     text = page.get("/office/draw")[2]
-    check("what witnesses saw has the hash that the page shows", seed in text and "3 1 6 6 2 5" in text, text)
+    check("what witnesses saw has the hash that the page shows", seed in text and throws in text, text)
 
 
 if __name__ == "__main__":

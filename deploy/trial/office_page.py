@@ -24,7 +24,8 @@ from office_register import bring_lists_in, keep_the_register
 from office_requests import Page, hand_in
 from stand import OFFICE, PYTHON, Stand, check
 
-THROWS = " ".join("31662541226316625415263412"[:25])
+THROWS = " ".join("3166254122631662541526341" * 2)
+FEW = THROWS[:49]
 CLOSING = "Moving day is 1 October. Questions: office@example.org"
 
 
@@ -133,6 +134,11 @@ def draw_and_run(clerk, stand):
     clerk.put("text", THROWS.replace(" ", ""))
     clerk.press("Write the seed of this text")
     clerk.reads("Write a space between two throws")
+    clerk.put("text", FEW)
+    clerk.press("Write the seed of this text")
+    clerk.reads("You entered 25 throws", "50 throws are needed")
+    clerk.shot("16-few")
+    clerk.press("No, go back")
     clerk.put("text", THROWS)
     clerk.press("Write the seed of this text")
     sums = subprocess.run(["sha256sum"], input=THROWS, capture_output=True, text=True, check=True).stdout.split()[0]

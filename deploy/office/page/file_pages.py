@@ -9,6 +9,8 @@ from typing import Any, NamedTuple
 
 import bottle  # type: ignore[import]  # Debian's bottle has no types
 
+from seeds import merged
+
 import explaining
 import plain
 from app import HERE, app, ask, download, drawn_order, field, go_to, office_now, show, tell, text_of
@@ -16,7 +18,6 @@ from keeper_client import KeeperFault, answers_of
 from many_pages import propose_keys
 from office_view import Office
 from questions import Fact, Question, put_question
-from seeds import merged
 
 SHOWN_ENTRIES = 1000
 # Where a spreadsheet begins a formula: at the start of a field. It may read a comma or a semicolon in a name as the end

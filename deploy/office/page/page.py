@@ -16,6 +16,7 @@ sys.path.insert(1, str(Path(__file__).resolve().parent.parent))
 import waitress
 
 import about_pages  # noqa: F401  # pylint: disable=unused-import
+import draw_pages  # noqa: F401  # pylint: disable=unused-import
 import file_pages  # noqa: F401  # pylint: disable=unused-import
 import list_pages  # noqa: F401  # pylint: disable=unused-import
 import many_pages  # noqa: F401  # pylint: disable=unused-import

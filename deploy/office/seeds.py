@@ -13,8 +13,9 @@ from typing import Any, NamedTuple
 NOTED = re.compile(r"seed ([0-9A-Fa-f]{64})\b ?(.*)", re.DOTALL)
 DRAWN = re.compile(r"draw \$\(rooms words --seed ([0-9A-Fa-f]{64})")
 OF_TEXT = "SHA-256 of "
+STRUCK = "struck out"  # what is noted of a seed that was noted by mistake
 # Steps after which the round is over.
-LAST_STEPS = {"settle", "cancel"}
+LAST_STEPS = frozenset({"settle", "cancel"})
 REFUSED = (1, 2)
 BEGINNING = datetime.datetime.min.replace(tzinfo=datetime.timezone.utc)
 
@@ -22,8 +23,8 @@ Entry = dict[str, Any]
 
 
 class Noted(NamedTuple):
-    """A seed: when it was noted, by whom, how it came about, the line that works it out again from a text, and whether
-    it was noted before the round was closed, when lists could still change."""
+    """A seed: when it was noted, by whom, how it came about, the line that works it out again from a text, whether it was
+    noted before the round was closed, when lists could still change, and who has struck it out, and when."""
 
     at: str
     who: str
@@ -31,6 +32,12 @@ class Noted(NamedTuple):
     source: str
     check: str
     early: bool
+    struck: str = ""
+
+    @property
+    def counts(self) -> bool:
+        """Whether it may be drawn with."""
+        return not self.early and not self.struck
 
 
 class Seeds(NamedTuple):
@@ -65,12 +72,12 @@ def lines_of(entry: Entry) -> list[str]:
     return str(entry.get("line", "")).split("; ")
 
 
-def round_of_now(entries: list[Entry]) -> list[Entry]:
-    """The entries since the round before this one was over."""
+def round_of_now(entries: list[Entry], last_steps: frozenset[str] = LAST_STEPS) -> list[Entry]:
+    """The entries since the round before this one was over, which is so after these steps."""
     starts = [Start(BEGINNING, 0)]
     for place, entry in enumerate(entries):
         lines, time = lines_of(entry), datetime.datetime.fromisoformat(entry["at"])
-        if entry.get("status") == 0 and LAST_STEPS.intersection(lines):
+        if entry.get("status") == 0 and last_steps.intersection(lines):
             starts.append(Start(time, place + 1))
         elif lines and lines[0].startswith("back "):
             starts.append(Start(time, start_at(starts, lines[0].removeprefix("back "))))
@@ -80,11 +87,16 @@ def round_of_now(entries: list[Entry]) -> list[Entry]:
 def start_at(starts: list[Start], copy: str) -> int:
     """Where the round began that was under way when a copy was made, by the copy's name. What was done in the same
     second may have come after it."""
+    made = made_at(copy) or BEGINNING
+    return ([starts[0], *itertools.takewhile(lambda start: start.time < made, starts)])[-1].place
+
+
+def made_at(copy: str) -> datetime.datetime | None:
+    """When a copy was made, by its name; nothing if that is no copy's."""
     try:
-        made = datetime.datetime.strptime(copy[:16], "%Y%m%dT%H%M%SZ").replace(tzinfo=datetime.timezone.utc)
+        return datetime.datetime.strptime(copy[:16], "%Y%m%dT%H%M%SZ").replace(tzinfo=datetime.timezone.utc)
     except ValueError:
-        return 0
-    return list(itertools.takewhile(lambda start: start.time < made, starts))[-1].place
+        return None
 
 
 def when(entry: Entry) -> str:
@@ -92,8 +104,8 @@ def when(entry: Entry) -> str:
     return str(entry["at"]).replace("T", " ")[:19]
 
 
-def noted_in(entry: Entry, early: bool) -> Noted | None:
-    """The seed that somebody has noted."""
+def noted_in(entry: Entry, early: bool = False) -> Noted | None:
+    """The seed that somebody has noted, or struck out: that is its source then."""
     match = NOTED.fullmatch(str(entry.get("note", entry.get("line", ""))))
     if match is None or "n" in entry:
         return None
@@ -108,9 +120,22 @@ def noted_seeds(journal: list[Entry], whole: bool) -> Seeds:
     rows = merged(journal)
     entries = round_of_now(rows)
     closed = next((place for place, entry in enumerate(entries) if "close" in lines_of(entry)), 0)
-    found = [noted_in(entry, place < closed) for place, entry in enumerate(entries)]
+    noted = [noted_in(entry, place < closed) for place, entry in enumerate(entries)]
+    found = with_struck([one for one in noted if one])
     drawn = ""
     for line in [line for entry in entries for line in lines_of(entry) if line.startswith("draw ")]:
         by_seed = DRAWN.match(line)
         drawn = by_seed[1].lower() if by_seed else ""
-    return Seeds([noted for noted in found if noted], drawn, "" if whole or len(entries) < len(rows) else when(rows[0]))
+    return Seeds(found, drawn, "" if whole or len(entries) < len(rows) else when(rows[0]))
+
+
+def with_struck(noted: list[Noted]) -> list[Noted]:
+    """The seeds that were noted, with who has struck one out afterwards. One may be noted once more after that."""
+    found: list[Noted] = []
+    for one in noted:
+        if one.source != STRUCK:
+            found.append(one)
+            continue
+        struck = f"{one.at} by {one.who}"
+        found = [other._replace(struck=struck) if other.seed == one.seed and not other.struck else other for other in found]
+    return found

@@ -1,0 +1,173 @@
+"""The draw: a seed comes into the journal, may be struck out there, and the order is drawn with it."""
+
+import hashlib
+import re
+import secrets
+from typing import NamedTuple
+
+from journal import masked
+from lines import on_one_line
+from seeds import OF_TEXT, STRUCK, Noted, Seeds, noted_seeds
+
+import plain
+from app import app, ask, change, clerk, drawn_order, field, go_to, memory, office_now, show, tell, text_of
+from office_view import Office
+from questions import Question, put_question
+
+SEED = re.compile(r"[0-9a-f]{64}")
+# Throws of a die, with anything between them that is no letter and no other digit.
+THROWS = re.compile(r"(?:[1-6]|[^\w])+")
+ENOUGH = 50  # throws of a die are 129 bits
+SHORTEST_TEXT, LONGEST_TEXT = 8, 400
+# As much of the journal as the keeper gives.
+ALL_ENTRIES = 1_000_000
+BACK = "/office/draw"
+
+
+class Pending(NamedTuple):
+    """A note that waits for the clerk's yes, and what the clerk is asked."""
+
+    line: str
+    question: Question
+
+
+def seeds_of(office: Office) -> Seeds:
+    """The seeds of this round, and that of its draw."""
+    if office.phase == "idle":
+        return Seeds([], "", "")
+    reply = ask("journal", last=ALL_ENTRIES)
+    return noted_seeds(reply["journal"], reply["whole"])
+
+
+def throws_in(text: str) -> int | None:
+    """How many throws of a die a text has; nothing if it is something else."""
+    return sum(sign in "123456" for sign in text) if THROWS.fullmatch(text) else None
+
+
+def source_of(noted: Noted) -> str:
+    """How a seed came about, with the number of throws."""
+    text = noted.source.removeprefix(OF_TEXT)
+    throws = throws_in(text) if text != noted.source else None
+    return noted.source[:1].upper() + noted.source[1:] + (f" ({throws} throws)" if throws else "")
+
+
+@app.get("/office/draw")
+def draw_page() -> str:
+    """The forms for a seed, or the drawn order."""
+    office = office_now()
+    order = drawn_order() if office.phase in plain.DRAWN else []
+    seeds = seeds_of(office)
+    return show("draw", office=office, order=order, seeds=seeds.found, drawn=seeds.drawn, since=seeds.since,
+                source_of=source_of)
+
+
+def seed_of(way: str, text: str) -> tuple[str, str] | str:
+    """The seed of what was entered, and how it came about; or what is wrong with it."""
+    if way == "machine":
+        return secrets.token_hex(32), "made by the machine"
+    if way == "seed":
+        seed = "".join(text.split()).lower()
+        if SEED.fullmatch(seed):
+            return seed, "entered as it is"
+        return f"A seed has 64 signs out of 0 to 9 and a to f. You entered {len(seed)} signs."
+    text = " ".join(on_one_line(text).split())  # as the journal has it, or the noted text would have another hash
+    if not SHORTEST_TEXT <= len(text) <= LONGEST_TEXT:
+        return f"Enter {SHORTEST_TEXT} to {LONGEST_TEXT} signs: the throws of the dice, or the public number."
+    if masked(text) != text:
+        return ("Write a space between two throws or numbers. Sixteen letters and digits in a row look like a key, and "
+                "the journal takes no keys.")
+    return hashlib.sha256(text.encode()).hexdigest(), OF_TEXT + text
+
+
+def doubt_of(text: str) -> list[str]:
+    """What to ask about the text of a seed before it is noted; nothing about enough throws of a die."""
+    throws = throws_in(text)
+    if throws is None:
+        return [f"You entered: {text}", "These are no throws of a die, which are numbers from 1 to 6. Go on if this is "
+                "a public number that the witnesses had agreed on before the round was closed, and that nobody could "
+                "know then."]
+    if throws < ENOUGH:
+        return [f"You entered {throws} throws: {text}", f"{ENOUGH} throws are needed. With fewer, somebody can try all "
+                "orders that may come out, and know beforehand what suits them. Go back, throw on, and enter all "
+                "throws together."]
+    return []
+
+
+@app.post("/office/seed")
+def note_seed() -> None:
+    """Writes a seed into the journal before anything is drawn with it, so that nobody can try seeds in secret."""
+    office = office_now()
+    made = seed_of(field("way"), text_of("text"))
+    if office.phase != "closed":
+        tell("bad", f"There is nothing to draw now. {plain.PHASES[office.phase].title}.")
+    elif isinstance(made, str):
+        tell("bad", made)
+    else:
+        seed, source = made
+        doubt = doubt_of(source.removeprefix(OF_TEXT)) if source.startswith(OF_TEXT) else []
+        if doubt:
+            put_off(f"seed {seed} {source}", Question("Note this seed?", doubt, "Yes: note the seed of this text", BACK))
+        ask("note", line=f"seed {seed} {source}")
+    go_to(BACK)
+
+
+# --- notes that wait for a yes
+
+def put_off(line: str, question: Question) -> None:
+    """Asks before something is noted."""
+    go_to(f"/office/seed/{memory.hold(clerk(), Pending(line, question))}")
+
+
+def pending(name: str) -> Pending:
+    """What waits for this clerk's yes."""
+    found = memory.held(clerk(), name)
+    if not isinstance(found, Pending):
+        tell("bad", "The page no longer holds this. Nothing was noted.")
+        go_to(BACK)
+    return found
+
+
+@app.get("/office/seed/<name:re:[0-9a-f]{32}>")
+def ask_note(name: str) -> str:
+    """Asks before something is noted."""
+    return put_question(office_now(), pending(name).question)
+
+
+@app.post("/office/seed/<name:re:[0-9a-f]{32}>")
+def note(name: str) -> None:
+    """Notes it."""
+    line = pending(name).line
+    memory.let_go(clerk(), name)
+    phase = office_now().phase
+    if phase != "closed":
+        tell("bad", f"Nothing was noted. {plain.PHASES[phase].title}.")
+    else:
+        ask("note", line=line)
+    go_to(BACK)
+
+
+@app.post("/office/seed/strike")
+def strike() -> None:
+    """Asks before a seed that was noted by mistake is struck out."""
+    office, seed = office_now(), text_of("seed")
+    found = [noted for noted in seeds_of(office).found if noted.seed == seed and not noted.struck]
+    if office.phase != "closed" or not found:
+        tell("bad", "There is no such seed to strike out.")
+        go_to(BACK)
+    says = [f"The seed {seed} stays in the journal and in the public record, marked as struck out. Nothing is drawn "
+            "with it.", "Strike out only what was noted by mistake, such as a typing error, and only if the witnesses "
+            "agree. It cannot be undone, but the same seed can be noted again."]
+    put_off(f"seed {seed} {STRUCK}", Question("Strike this seed out?", says, "Yes: strike it out", BACK))
+
+
+# --- the draw itself
+
+@app.post("/office/draw")
+def draw() -> None:
+    """Draws with a seed that is in the journal."""
+    seed = text_of("seed")
+    if seed not in [noted.seed for noted in seeds_of(office_now()).found if noted.counts]:
+        tell("bad", "This seed was not noted after the round was closed, or was struck out. Enter it first.")
+    else:
+        change("draw", seed=seed)
+    go_to(BACK)
