@@ -44,6 +44,7 @@ from page import try_page
 from page_link import try_link
 from parts import try_parts
 from port import try_port
+from record_browser import try_record_browser
 from refused import try_refused
 from replacing import try_replacing
 from restoring import try_restoring
@@ -62,7 +63,8 @@ def all_parts(program, folder):
         try_office_again, try_office_formats, try_office_sheets, try_office_keys, try_office_forget, try_draws, try_refused,
         try_burst, try_limits, try_ciphers, try_memory, try_port, try_stall, try_waits,
     ]
-    pages = [partial(one, program, folder) for one in (try_page, try_link, try_office_page)]
+    of_browser: list[Callable[..., None]] = [try_page, try_link, try_office_page, try_record_browser]
+    pages = [partial(one, program, folder) for one in of_browser]
     return [try_parts, try_replacing, *(partial(one, program) for one in of_program), *pages]
 
 

@@ -108,6 +108,12 @@ def audit_download() -> bottle.HTTPResponse:
     return download(Path(str(module.__file__)).read_bytes(), "audit.py", "text/plain; charset=utf-8")
 
 
+@app.get("/office/check-draw.html")
+def check_download() -> bottle.HTTPResponse:
+    """The page that checks a draw. It has a script, so it is opened from a file: no page of the office's has one."""
+    return download((HERE.parent / "check-draw.html").read_bytes(), "check-draw.html", "text/html; charset=utf-8")
+
+
 # --- copies and the way back
 
 class Copy(NamedTuple):
