@@ -46,6 +46,8 @@ def try_throws(stand, page):
         where = enter(page, text)
         shown = page.get(re.sub("^https?://[^/]*", "", where))[2]
         check(f"{text[:30]!r} is asked about", says in shown and notes(stand) == before, shown[-1500:])
+        back = re.findall('href="(/office/draw/[0-9a-f]{32})"', shown)
+        check("and is still there after a no", "Enter" in says or f'value="{text}"' in page.get(back[0])[2], shown[-1500:])
     where = re.sub("^https?://[^/]*", "", enter(page, LOTTERY))
     page.form(where, page=where)
     check("a yes notes it", notes(stand)[-1] == f"seed {sha256(LOTTERY)} SHA-256 of {LOTTERY}", notes(stand))

@@ -25,10 +25,11 @@ BACK = "/office/draw"
 
 
 class Pending(NamedTuple):
-    """A note that waits for the clerk's yes, and what the clerk is asked."""
+    """A note that waits for the clerk's yes, what the clerk is asked, and what the clerk entered."""
 
     line: str
     question: Question
+    text: str = ""
 
 
 def seeds_of(office: Office) -> Seeds:
@@ -52,13 +53,14 @@ def source_of(noted: Noted) -> str:
 
 
 @app.get("/office/draw")
-def draw_page() -> str:
-    """The forms for a seed, or the drawn order."""
-    office = office_now()
+@app.get("/office/draw/<name:re:[0-9a-f]{32}>")
+def draw_page(name: str = "") -> str:
+    """The forms for a seed, or the drawn order. After a no, the form has what the clerk entered."""
+    office, entered = office_now(), pending(name).text if name else ""
     order = drawn_order() if office.phase in plain.DRAWN else []
     seeds = seeds_of(office)
     return show("draw", office=office, order=order, seeds=seeds.found, drawn=seeds.drawn, since=seeds.since,
-                source_of=source_of)
+                source_of=source_of, entered=entered)
 
 
 def seed_of(way: str, text: str) -> tuple[str, str] | str:
@@ -106,16 +108,17 @@ def note_seed() -> None:
         seed, source = made
         doubt = doubt_of(source.removeprefix(OF_TEXT)) if source.startswith(OF_TEXT) else []
         if doubt:
-            put_off(f"seed {seed} {source}", Question("Note this seed?", doubt, "Yes: note the seed of this text", BACK))
+            asked = Question("Note this seed?", doubt, "Yes: note the seed of this text", BACK)
+            put_off(Pending(f"seed {seed} {source}", asked, source.removeprefix(OF_TEXT)))
         ask("note", line=f"seed {seed} {source}")
     go_to(BACK)
 
 
 # --- notes that wait for a yes
 
-def put_off(line: str, question: Question) -> None:
+def put_off(waits: Pending) -> None:
     """Asks before something is noted."""
-    go_to(f"/office/seed/{memory.hold(clerk(), Pending(line, question))}")
+    go_to(f"/office/seed/{memory.hold(clerk(), waits)}")
 
 
 def pending(name: str) -> Pending:
@@ -130,7 +133,8 @@ def pending(name: str) -> Pending:
 @app.get("/office/seed/<name:re:[0-9a-f]{32}>")
 def ask_note(name: str) -> str:
     """Asks before something is noted."""
-    return put_question(office_now(), pending(name).question)
+    waits = pending(name)
+    return put_question(office_now(), waits.question._replace(back=f"{BACK}/{name}" if waits.text else BACK))
 
 
 @app.post("/office/seed/<name:re:[0-9a-f]{32}>")
@@ -157,7 +161,7 @@ def strike() -> None:
     says = [f"The seed {seed} stays in the journal and in the public record, marked as struck out. Nothing is drawn "
             "with it.", "Strike out only what was noted by mistake, such as a typing error, and only if the witnesses "
             "agree. It cannot be undone, but the same seed can be noted again."]
-    put_off(f"seed {seed} {STRUCK}", Question("Strike this seed out?", says, "Yes: strike it out", BACK))
+    put_off(Pending(f"seed {seed} {STRUCK}", Question("Strike this seed out?", says, "Yes: strike it out", BACK)))
 
 
 # --- the draw itself
