@@ -60,8 +60,8 @@ def all_parts(program, folder):
     of_program: list[Callable[..., None]] = [
         try_crash_states, try_keeping, try_clock, try_silent, try_watch, try_flush, try_byhand, try_restoring, try_earlier,
         try_kills, try_copying, try_full, try_signing, try_guessing, try_noted, try_office_doors, try_office_clerks,
-        try_office_again, try_office_formats, try_office_sheets, try_office_keys, try_office_forget, try_draws, try_refused,
-        try_burst, try_limits, try_ciphers, try_memory, try_port, try_stall, try_waits,
+        try_office_again, try_office_formats, try_office_sheets, try_office_keys, try_office_forget, try_draws,
+        try_refused, try_burst, try_limits, try_ciphers, try_memory, try_port, try_stall, try_waits,
     ]
     of_browser: list[Callable[..., None]] = [try_page, try_link, try_office_page, try_record_browser]
     pages = [partial(one, program, folder) for one in of_browser]
@@ -77,8 +77,9 @@ def gate_parts(program):
     of_program: list[Callable[..., None]] = [
         try_crash_states, try_keeping, try_clock, try_watch, try_flush, try_byhand, try_restoring, try_earlier,
         partial(try_kills, kills=1), partial(try_copying, length=5), try_full, try_signing, try_noted,
-        partial(try_office_doors, requests=150), try_office_clerks, try_office_again, try_office_formats, try_office_sheets,
-        try_office_keys, try_office_forget, try_draws, try_refused, try_burst, try_limits, try_ciphers,
+        partial(try_office_doors, requests=150), try_office_clerks, try_office_again, try_office_formats,
+        try_office_sheets, try_office_keys, try_office_forget, try_draws, try_refused, try_burst, try_limits,
+        try_ciphers,
     ]
     return [try_parts, try_replacing, *(partial(one, program) for one in of_program)]
 

@@ -106,6 +106,7 @@ def try_next_year(stand, page):
     shown = send(page, "people-2", STAYED + NEW)
     check("the page says who is new", "26 people of this list" in shown and "70 are new" in shown, shown[:2500])
     check("keys are made for the new ones alone", re.findall(MADE, shown) == ["70"] and "(P05)" not in shown)
+    check("and it calls no slip of the others void", "Slips that were made for these people at another time" in shown)
     for text in ("Person Four", "A-139", "2 fields differ"):
         check(f"and where the list differs: {text}", text in shown, shown[:3500])
     check("it says how many are not on the list", "4 people of the register are not" in shown, shown[:2500])
@@ -117,7 +118,8 @@ def try_next_year(stand, page):
     check("then the page shows the departed", "Who is not on the list" in shown
           and all(f"/office/person/P0{number}" in shown for number in range(4)) and "person/P04" not in shown, shown[:3500])
     text = re.findall(r"<textarea[^>]*>([^<]*)</textarea>", shown)[0]
-    check("and offers them", text.split() == ["P00", "P01", "P02", "P03"], text)
+    check("and offers them, but no new keys for them", text.split() == ["P00", "P01", "P02", "P03"]
+          and "Remove them from the register" in shown and "new keys" not in shown, text)
     shown = page.form("/office/many", {"act": "remove", "text": "P00 P01"}, page="/office/many")[2]
     check("it asks before it removes any", "Remove them from the register: 2 people" in shown and register(stand)[0] == after)
     page.form("/office/many/do", {"held": re.findall(r'name="held" value="(\w+)"', shown)[0]}, page="/office/many")
