@@ -16,7 +16,7 @@ from pathlib import Path
 ROOT = Path(__file__).resolve().parent.parent.parent
 OFFICE = ROOT / "deploy" / "office"
 BLOCK = re.compile(r"^```(\w*)\n(.*?)^```$", re.MULTILINE | re.DOTALL)
-LIMIT = 160  # lines of the page
+LIMIT = 180  # lines of the page
 
 
 def run(command: list[str], status: int = 0, **options: object) -> str:
