@@ -80,10 +80,10 @@ StatesVersion db version = BeginsOffice db.schema × HoldsVersion db version
 -- The database holds no office of an earlier version. It begins with the first three tables of an office
 -- (`first_tables`). If the row of table `round` holds a version, that is 1 or 2 (`version`). The schema then begins
 -- with the tables of a layout of that version; or it is exactly that of some layout, and nothing has the name of a
--- table that the version lacks; or a table of that version is absent or declared in another way (`known`). So tables in
--- an unknown order satisfy this record only if table `round` holds no version (`HoldsVersion`); otherwise they may hold
--- an office. In no layout of an earlier version do the first tables hold the rows of an office of that version
--- (`none`).
+-- table that the version lacks; or a table of that version is absent or declared in another way (`known`). So if all
+-- tables of that version are there, in an unknown order, they satisfy this record only if table `round` holds no version
+-- (`HoldsVersion`); otherwise they may hold an office. In no layout of an earlier version do the first tables hold the
+-- rows of an office of that version (`none`).
 pub record HoldsNoEarlier (db : Database) : Type 0 where
   pub first_tables : BeginsOffice db.schema
   pub version : (version : ℤ) → IsNotEarlier version → ¬ HoldsVersion db version

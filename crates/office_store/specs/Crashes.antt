@@ -46,7 +46,7 @@ module _ {S : Type 0} (g : Ghosts S) where
       → HandlesAt g old request answer new → HasCleanDisk (state g new.conn) → ShowsCommitted (state g old.conn)
       → Shows g old office → LeavesBeforeOrAfter new office request
 
-  -- Once a fault has closed the connection, a request changes nothing of what a crash may leave.
+  -- Once a fault has closed the connection, a request adds nothing to what a crash may leave.
   abbrev pub LeavesNothingOnceClosed : Type 0
   LeavesNothingOnceClosed =
       (old new : DeskState S) (request : Request) (answer : Answer) → HandlesAt g old request answer new

@@ -11,7 +11,7 @@ pub fn crash_leaves_what_is_shown<S: Alter>()
 {}
 
 /// Theorem: after a request, a crash leaves the office before the request or the office after it. Once a fault has
-/// closed the connection, a further request changes nothing of what a crash may leave.
+/// closed the connection, a further request adds nothing to what a crash may leave.
 pub fn crash_leaves_before_or_after<S: Alter>()
     ensures request { LeavesAfterRequest S.Store }
     ensures closed { LeavesNothingOnceClosed S.Store }

@@ -31,12 +31,12 @@ use std::alloc::Global;
 pub enum FindFault {
     /// The database failed, memory ran out, the rowids of a table do not ascend, or the tables are those of an office
     /// in no known layout: they were created in an unknown order, or something else is declared next to them. If there
-    /// is a view, or if table `round` is not the third table or is declared in another way than an office's, it is
-    /// `Unavailable` too, since the version is then unknown.
+    /// is a view, or if the first three tables are not those of an office, it is `Unavailable` too, since the version
+    /// is then unknown.
     Unavailable,
-    /// Nothing has the name of table `round`; or a table of an office is absent or declared in another way; or the
-    /// tables do not hold the rows of a lawful office of this program's version. This includes the tables of an earlier
-    /// version, unless the row of table `round` holds a version other than this program's.
+    /// Nothing has the name of table `round`; or a table of an office besides the first three is absent or declared in
+    /// another way; or the tables do not hold the rows of a lawful office of this program's version. This includes the
+    /// tables of an earlier version, unless the row of table `round` holds a version other than this program's.
     NotAnOffice,
     /// The row of table `round` holds the version in this fault, which is not the version of this program. Any tables
     /// may follow the first three.
