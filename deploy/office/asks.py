@@ -2,95 +2,69 @@
 
 | ask | fields | answer |
 |---|---|---|
-| view | | the rows of the office (rows.py); server: whether it runs; status, ended: of those that ended by themselves |
+| view | | the rows of the office (rows.py); server: whether it runs; status, ended: of those that ended by themselves; until |
 | watch | | faults: what is wrong with the server, the disk and the copies; age: of the newest copy, in seconds |
 | try | lines | answers: of a copy, which is thrown away |
-| do | lines, seen, saw | answers, done, took, copy |
+| do | lines, seen, saw | answers, done, took, copy; unkept: what went wrong with the figures of the round |
 | draw | seed, seen | as `do` |
 | import | kind, label, body, only_try, seen, saw | as `do`; known: whether its label was taken; `body` in base 64 |
 | export | kind | answers |
+| figures | | rounds: number, day and tables of each published round (figures_counted.py); damaged: the file, if it is damaged |
 | record | | body: the public record of the round |
 | backup, backups | | name; backups: name, bytes and reason of each; days: how long one stays at most; stays: of each |
 | days | days, only_try | gone: how many copies are older than so many days, and are deleted |
 | compare | name | what becomes of people by going back to a copy (differences.py) |
+| given-up | name of a copy, or none | rounds: copy, number, phase of each that was given up; or what the one in the copy had |
 | back | name, seen | name: of the copy of the present office that was taken before; and as `compare`, if that could be read |
 | blank | label, seen | blanked: the label |
 | correct | person, name or key or both, seen, saw | corrected: the person; copy |
 | keys | keys: by person, seen, saw | corrected: how many; copy |
-| about | person | lists, moves, copies, journal: what names the person (about.py) |
+| about | person | lists, moves, copies, journal: what names the person (about.py); mail; account: theirs |
 | forget | person, seen, saw | as `do`: the person is removed, and the lists that name them are blanked |
 | note, journal | line; last | nothing; journal: the last entries; whole: whether no entry is too old to be had |
-| blank-journal | | blanked: how many answers, which may have had names, were taken out of the journal |
+| blank-journal | | blanked: how many lines of the journal had wishes, or an answer that may have had names |
+| told | | told: what residents read of rooms (told.py); marks: of its parts |
+| set-until | at, closes, seen, saw | untold: why residents do not read the date that was set (dates.py), if so |
+| tell-words, tell-rooms | notice, contact; rooms; saw | |
+| add-picture, drop-picture | room, body, shows; room, file | file: its name; nothing |
+| mail, mail-.. | | mail.py has these |
+| accounts | | rule: how the person of an account is found (accounts.py); count: of the accounts in the list |
+| set-accounts | rule, list | as `accounts`; `list` for the rule `list` alone |
 
 By `seen` and `saw` the sender says what it saw of the round and of people; if that is so no more, nothing is changed
 (seen.py). An answer is a text and a status of the program. What cannot be done is answered `fault`, with the reason.
 """
 
-import base64
-import binascii
+import collections
 import contextlib
 import importlib
 import sqlite3
 from collections.abc import Callable
 from pathlib import Path
-from typing import Any
 
 import lines as told
 from about import IDENTIFIER, about, kept_in
+from accounts import Accounts, ClerkAsks
 from backups import ASKED_FOR, MOST_DAYS, blank
+from dates import Dates
 from differences import differences
+from figures_kept import Before
+from given_up import given_up
 from hand import CarryOut, Change, Hand
 from history import history
+from job import Job, body_of, lines_of, saw_in, seen_in, text
 from journal import masked, masked_line, masked_note
+from mail import Post
 from office import Office
 from program import NOT_UNDERSTOOD, Answer, correct, is_of_earlier_version, is_refused
 from rows import rows_of
-from seen import PARTS, Rows, Saw
+from seen import Rows
 from settings import Fault
 from watching import watch
 
-Job = dict[str, Any]
 SPOKEN = 400   # signs of several lines that the journal keeps as they are
 LONGEST = 800  # and of what it keeps at most
-
-
-def text(job: Job, name: str) -> str:
-    """A field that has to be a text."""
-    value = job[name]
-    if not isinstance(value, str):
-        raise Fault(f"not understood: {name} is no text")
-    return value
-
-
-def seen_in(job: Job) -> str | None:
-    """In which state the sender saw the office, if the request says so."""
-    return text(job, "seen") if job.get("seen") is not None else None
-
-
-def saw_in(job: Job) -> Saw | None:
-    """What the sender saw of people, if the request says so."""
-    if job.get("saw") is None:
-        return None
-    part, people, mark = job["saw"]
-    if part not in PARTS or not isinstance(people, list) or not all(isinstance(one, str) for one in people):
-        raise Fault("not understood: saw is no part of what is on record of people")
-    return Saw(part, people, mark)
-
-
-def lines_of(job: Job) -> list[str]:
-    """The lines of a request."""
-    lines = job["lines"]
-    if not isinstance(lines, list) or not lines or not all(isinstance(line, str) for line in lines):
-        raise Fault("not understood: lines are no list of texts")
-    return lines
-
-
-def body_of(job: Job) -> bytes:
-    """The bytes of a list."""
-    try:
-        return base64.b64decode(text(job, "body"), validate=True)
-    except binascii.Error as fault:
-        raise Fault("not understood: the body is not in base 64") from fault
+SHORT = 60     # signs of a line that a copy keeps
 
 
 def spoken_of(lines: list[str]) -> str:
@@ -103,6 +77,13 @@ def spoken_of(lines: list[str]) -> str:
     others = lines[first.count("; ") + 1 if first else 0:]
     steps = [masked_line(line) for line in others if told.verb_of(line) in told.STEPS]
     return "; ".join([*filter(None, [first]), "..", *steps]) if len(lines) > 1 else whole
+
+
+def short_of(lines: list[str]) -> str:
+    """Lines as the copy before them has them: one line as in the journal, or how many there are of each verb."""
+    if len(lines) == 1:
+        return masked_line(lines[0])[:SHORT]
+    return ", ".join(f"{verb} ({count})" for verb, count in collections.Counter(map(told.verb_of, lines)).items())
 
 
 def participants(rows: Rows) -> int:
@@ -121,12 +102,14 @@ def only(answer: Answer) -> Job:
     return {"answers": [answer], "done": False}
 
 
-class Asks:  # pylint: disable=too-many-public-methods  # one for each request
+# pylint: disable-next=too-many-public-methods,too-many-instance-attributes  # one for each request; the parts of the office
+class Asks:
     """Answers what is asked of the keeper."""
 
     def __init__(self, office: Office, hand: Hand) -> None:
         self.office, self.program, self.copies, self.hand = office, office.program, office.copies, hand
-        self.backups, self.journal = office.backups, office.journal
+        self.backups, self.journal, self.dates = office.backups, office.journal, Dates(office, hand)
+        self.post, self.accounts = Post(office, hand), Accounts(office.settings.file)
         self.known: dict[str, Callable[[Job], Job]] = {
             "view": self.view, "watch": lambda _: watch(self.office, self.hand), "try": self.try_out,
             "do": self.do_lines, "draw": self.draw, "import": self.bring_in, "export": self.export,
@@ -134,7 +117,11 @@ class Asks:  # pylint: disable=too-many-public-methods  # one for each request
             "compare": self.compare, "back": self.put_back, "blank": self.blank, "note": self.note,
             "journal": self.show_journal, "blank-journal": self.blank_journal, "correct": self.correct,
             "keys": self.new_keys, "days": self.set_days, "forget": self.forget,
-            "about": lambda job: about(self.office, text(job, "person")),
+            "about": self.about,
+            "given-up": lambda job: given_up(self.office, self.hand.view, text(job, "name") if "name" in job else None),
+            **office.told.asks(), "set-until": self.dates.set, **self.post.asks(),
+            "figures": lambda _: self.office.figures.shown(self.hand.view.rows()),
+            **ClerkAsks(self.accounts, hand.view, office.journal).known,
         }
 
     def answer(self, job: Job) -> Job:
@@ -151,7 +138,12 @@ class Asks:  # pylint: disable=too-many-public-methods  # one for each request
     def view(self, _: Job) -> Job:
         """The office as it is now."""
         return {**self.hand.view.rows(), "server": self.hand.server is not None, "status": self.hand.status,
-                "ended": self.hand.ended()}
+                "ended": self.hand.ended(), "until": self.dates.shown(), "mail": self.post.is_on()}
+
+    def about(self, job: Job) -> Job:
+        """All that is kept of a person."""
+        person = text(job, "person")
+        return {**about(self.office, person), "mail": self.post.about(person), **self.accounts.about(person)}
 
     def try_out(self, job: Job) -> Job:
         """Questions, and what lines would do."""
@@ -194,16 +186,44 @@ class Asks:  # pylint: disable=too-many-public-methods  # one for each request
         if not told.reason_to_copy(lines, self.hand.view.rows()["choices"]):
             kind = ""
 
+        before = Before(self.copies.file)
+
         def carry_out(file: Path) -> list[Answer]:
-            return self.program.tell_all(lines, file) if whole else [self.program.tell(lines[0], file)]
-        return self.change(job, spoken_of(lines), carry_out, whole=whole, kind=kind)
+            if whole:
+                return self.program.tell_all(lines, file, before.look)
+            before.look(lines[0], file)
+            return [self.program.tell(lines[0], file)]
+        reply = self.change(job, (short_of(lines), spoken_of(lines)), carry_out, whole=whole, kind=kind)
+        if reply["done"]:
+            self.follow(lines, before, reply)
+        return reply
+
+    def follow(self, lines: list[str], before: Before, reply: Job) -> None:
+        """Brings what is kept beside the office up to lines that were carried out: addresses, accounts and figures."""
+        if unkept := self.office.figures.follow(lines, before.rows, self.hand.view.rows):
+            reply["unkept"] = unkept
+        if removed := [line.split()[1] for line in lines if told.verb_of(line) == "remove"]:
+            self.let_go(removed)
+
+    def let_go(self, removed: list[str]) -> None:
+        """Takes people who are out of the register out of the mail addresses and the accounts. If one file fails, the other is
+        changed all the same: whoever gets such an identifier later is somebody else."""
+        failed = []
+        erasures: list[Callable[[list[str]], None]] = [self.post.erase, self.accounts.forget]
+        for erase in erasures:
+            try:
+                erase(removed)
+            except Fault as fault:
+                failed.append(str(fault))
+        if failed:
+            raise Fault(" ".join(failed))
 
     def draw(self, job: Job) -> Job:
         """The draw by a seed."""
         seed, count = text(job, "seed"), participants(self.hand.view.rows())
         line = " ".join(["draw", *self.program.words(seed, count)])
         spoken = f"draw $(rooms words --seed {seed} --count {count})"
-        return self.change(job, spoken, lambda file: [self.program.tell(line, file)], kind="draw")
+        return self.change(job, ("draw", spoken), lambda file: [self.program.tell(line, file)], kind="draw")
 
     def bring_in(self, job: Job) -> Job:
         """A list. With `only_try` it is tried alone, and so is one under a label that is taken: it changes nothing."""
@@ -214,13 +234,15 @@ class Asks:  # pylint: disable=too-many-public-methods  # one for each request
                 answer = self.program.bring_in(kind, label, body, copy)
             if job.get("only_try") or known:
                 return {**only(answer), "known": known}
-        spoken = masked(f"import {kind} {label} ({len(body)} bytes)")
-        return self.change(job, spoken, lambda file: [self.program.bring_in(kind, label, body, file)], kind="import")
+        short = masked(f"import {kind} {label}")
+        return self.change(job, (short, f"{short} ({len(body)} bytes)"),
+                           lambda file: [self.program.bring_in(kind, label, body, file)], kind="import")
 
-    def change(self, job: Job, spoken: str, carry_out: CarryOut, *, whole: bool = False, kind: str = "") -> Job:
-        """Hands a change to the hand, and gives its answers."""
+    def change(self, job: Job, names: tuple[str, str], carry_out: CarryOut, *, whole: bool = False, kind: str = "") -> Job:
+        """Hands a change to the hand, and gives its answers. The names are those of the copy before it and in the journal."""
+        short, spoken = names
         spoken = spoken if len(spoken) <= LONGEST else spoken[:LONGEST] + " .."
-        why = f"before {spoken[:60]}, by {job['who']}"
+        why = f"before {short}, by {job['who']}"
         asked = Change(job["who"], spoken, carry_out, whole=whole, kind=kind, why=why, seen=seen_in(job),
                        saw=saw_in(job))
         change = self.hand.change(asked)
@@ -315,8 +337,10 @@ class Asks:  # pylint: disable=too-many-public-methods  # one for each request
         change = self.hand.change(Change(job["who"], f"forget {person}", carry_out, whole=True, kind="forget",
                                          why=f"before forget {person}, by {job['who']}", seen=seen_in(job),
                                          saw=saw_in(job)))
-        return {"answers": change.answers, "done": not is_refused(change.answers), "took": change.took,
-                "copy": change.copy}
+        done = not is_refused(change.answers)
+        if done:
+            self.let_go([person])
+        return {"answers": change.answers, "done": done, "took": change.took, "copy": change.copy}
 
     def correct(self, job: Job) -> Job:
         """Another name or key for a person (`correct` in program.py). The journal has neither."""
@@ -366,7 +390,7 @@ class Asks:  # pylint: disable=too-many-public-methods  # one for each request
         return {"journal": list(self.journal.entries())[-last:], "whole": self.journal.is_whole()}
 
     def blank_journal(self, job: Job) -> Job:
-        """Takes out of the journal what earlier versions noted of names."""
+        """Takes out of the journal what earlier versions noted of names and wishes."""
         count = self.journal.blank()
-        self.journal.note(who=job["who"], line="blank-journal", answer=f"{count} answers")
+        self.journal.note(who=job["who"], line="blank-journal", answer=f"{count} lines")
         return {"blanked": count}

@@ -18,13 +18,15 @@ import time
 from pathlib import Path
 from typing import Any, NamedTuple
 
+import times
 from copies import ENDS, Copies, make_whole
 from placing import beside, to_disk
 from settings import Fault, Settings, unwritten
 
 NAME = re.compile(r"[0-9]{8}T[0-9]{6}Z(-[0-9]{2})?")
-TIME = "%Y%m%dT%H%M%SZ"
 ASKED_FOR, BACK = "backup", "back"
+# What versions up to 3.1.0 wrote into the reason of a copy: the list that somebody handed in.
+WISHES = re.compile(r"\b(choose [^ ,;]+)(?: [^ ,;(]+)+")
 DAYS = "days"
 MOST_DAYS = 3650
 
@@ -83,15 +85,15 @@ class Backups:
     def free_name(self) -> str:
         """The time as a name. Names are in order: if the last copy has this time, or a later one since the clock was set
         back, its name is counted on."""
-        now = datetime.datetime.now(datetime.timezone.utc).strftime(TIME)
+        now = datetime.datetime.now(datetime.timezone.utc).strftime(times.COPY)
         last = (self.names() or [""])[-1]
         if last[:len(now)] < now:
             return now
         number = int(last[len(now) + 1:] or 1) + 1
         if number < 100:
             return f"{last[:len(now)]}-{number:02}"
-        following = datetime.datetime.strptime(last[:len(now)], TIME) + datetime.timedelta(seconds=1)
-        return following.strftime(TIME)
+        following = datetime.datetime.strptime(last[:len(now)], times.COPY) + datetime.timedelta(seconds=1)
+        return following.strftime(times.COPY)
 
     def names(self) -> list[str]:
         """The names of the kept copies, the oldest first."""
@@ -108,7 +110,7 @@ class Backups:
         """Why a copy was taken. One that was put there by hand counts as asked for."""
         with contextlib.suppress(OSError, ValueError, KeyError, TypeError):
             entry = json.loads((self.folder / name / "why").read_text(encoding="utf-8"))
-            return {"kind": str(entry["kind"]), "why": str(entry["why"])}
+            return {"kind": str(entry["kind"]), "why": WISHES.sub(r"\1", str(entry["why"]))}
         return {"kind": ASKED_FOR, "why": ""}
 
     def listed(self) -> list[tuple[str, int, str]]:
@@ -183,7 +185,7 @@ class Backups:
 
 def made_at(name: str) -> datetime.datetime:
     """When a copy was made, by its name."""
-    return datetime.datetime.strptime(name[:16], TIME).replace(tzinfo=datetime.timezone.utc)
+    return datetime.datetime.strptime(name[:16], times.COPY).replace(tzinfo=datetime.timezone.utc)
 
 
 def blank(labels: list[str], file: Path) -> None:

@@ -5,16 +5,25 @@ from typing import Any
 from seen import Rows
 
 
+def away_in(rows: Rows) -> dict[str, str]:
+    """Who takes no part in the round, and why."""
+    return {**{person: "withdrawn" for person, _, _, withdrawn in rows["people"] if withdrawn},
+            **{person: "going" for person, in rows["going"]}}
+
+
 def differences(then: Rows, now: Rows) -> dict[str, Any]:
-    """How far the round was, whose key and name and list become again what they were, who comes back, and who goes."""
+    """How far the round was, whose key, name, list and part in the round become again what they were, who comes back, and who
+    goes."""
     old, new = ({person: name for person, name, *_ in rows["people"]} for rows in (then, now))
     both = [person for person in old if person in new]
     marks, lists = (then["key_marks"], now["key_marks"]), (then["choices"], now["choices"])
+    away = away_in(then), away_in(now)
     return {
         "round": [then["number"], then["phase"]],
         "keys": [person for person in both if marks[0][person] != marks[1][person]],
         "names": [[person, old[person], new[person]] for person in both if old[person] != new[person]],
         "lists": [person for person in both if lists[0].get(person) != lists[1].get(person)],
+        "part": [person for person in both if away[0].get(person) != away[1].get(person)],
         "come": [[person, name] for person, name in old.items() if person not in new],
         "go": [[person, name] for person, name in new.items() if person not in old],
     }

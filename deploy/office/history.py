@@ -6,8 +6,9 @@ until the order pleases, and say nothing of it.
 import datetime
 from typing import NamedTuple
 
+import times
 from lines import on_one_line
-from seeds import DRAWN, STRUCK, Entry, lines_of, made_at, merged, noted_in, round_of_now, when
+from seeds import DRAWN, STRUCK, Entry, lines_of, merged, noted_in, round_of_now
 
 # When a round was given up, by the last of these steps.
 AFTER = {"open": " while it was open", "close": " after it was closed", "draw": " after the order was drawn",
@@ -50,7 +51,7 @@ class Years:
     def say(self, place: int, entry: Entry, text: str) -> None:
         """Keeps a sentence, with its time."""
         unknown = UNKNOWN if "n" in entry and entry.get("status") != 0 else ""
-        self.said.append((place, f"{when(entry)} {text}{unknown}"))
+        self.said.append((place, f"{times.of_entry(entry['at'])} {text}{unknown}"))
 
     def carry_out(self, place: int, entry: Entry, line: str) -> None:
         """One line that the keeper carried out, or may have carried out."""
@@ -80,10 +81,10 @@ class Years:
 
     def go_back(self, place: int, entry: Entry, copy: str) -> None:
         """The office is again what it was when a copy was made."""
-        made = made_at(copy)
+        made = times.moment_of(copy)
         if made is None:
             return
-        self.say(place, entry, f"the office went back to the copy of {made.astimezone():%Y-%m-%d %H:%M:%S}")
+        self.say(place, entry, f"the office went back to the copy of {times.shown(made)}")
         older = (state for time, state in reversed(self.times) if time < made)
         self.state = self.before[copy] if copy in self.before else next(older, State(0, ""))
 
@@ -97,7 +98,7 @@ def history(journal: list[Entry], whole: bool, number: int, settled: list[int]) 
     start = len(rows) - len(round_of_now(rows, frozenset({"settle"})))
     said = [text for place, text in years.said if place >= start]
     if not whole and not start and rows:
-        said.insert(0, f"what was before {when(rows[0])} could not be read")
+        said.insert(0, f"what was before {times.of_entry(rows[0]['at'])} could not be read")
     last = max((one for one in settled if one < number), default=0)
     said += [f"it does not say what became of round {one}" for one in range(last + 1, number) if one not in years.ended]
     drawn = years.draws.get(number, 0)

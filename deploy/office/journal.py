@@ -1,5 +1,5 @@
-"""The journal: who changed what, when, and with what answer. It never has a key, nor the name of a person, unless a clerk
-writes one into a note.
+"""The journal: who changed what, when, and with what answer. It never has a key, nor the name of a person or what somebody
+wishes for, unless a clerk writes it into a note.
 
 Each entry is a line of JSON, and on the disk before the keeper goes on. A change has two: one before it begins,
 with `n`, `at`, `who` and `line` (and `copy`, if the office was copied first), and one after it has ended, with
@@ -27,6 +27,9 @@ WITHOUT_NAMES = re.compile(
     r"ok|not understood|unavailable|withdrawn|going|cancelled|(?:refused|round|chosen|shut|added|closed|drawn|ran|published"
     r"|settled|would get)\b.*")
 NOT_NOTED = "(an answer that is not noted)"
+# A person's list, in a line or in its answer, and the number of its rooms in its place.
+WISHES = re.compile(r"(choose \S+|chosen)((?: (?!\()\S+)*)")
+COUNTED = re.compile(rb"\(\d+ rooms?\)")
 OWN = ("fault: ", "not known: ")  # the keeper's own answers begin so
 SEED = re.compile(r"seed [0-9A-Fa-f]{64}\b")
 SEEDS = re.compile(r"^(?:seed|draw \$\(rooms words --seed) ([0-9A-Fa-f]{64})\b")
@@ -40,6 +43,15 @@ def masked(text: str) -> str:
     return LIKE_A_KEY.sub("(key)", text)
 
 
+def without_wishes(line: str) -> str:
+    """A line, or its answer, with the number of rooms in the place of somebody's list: a list is deleted after the round."""
+    found = WISHES.fullmatch(line)
+    if not found:
+        return line
+    count = len(found[2].split())
+    return f"{found[1]} ({count} room{'' if count == 1 else 's'})"
+
+
 def masked_line(line: str) -> str:
     """A line as the journal has it: of a new person the identifier alone, since a name would outlive `remove` here."""
     words = line.split()
@@ -47,7 +59,7 @@ def masked_line(line: str) -> str:
         return f"draw ({len(words) - 1} words)"
     if words[:1] == ["person"]:
         return masked(" ".join([*words[:2], "(key) (name)"]))
-    return masked(" ".join(words))
+    return masked(without_wishes(" ".join(words)))
 
 
 def masked_note(text: str) -> str:
@@ -63,18 +75,26 @@ def without_names(answer: str) -> str:
     if answer.startswith(OWN):
         return masked(answer)[:ANSWER].strip()
     first = answer.strip().partition("\n")[0]
-    return masked(first)[:ANSWER] if WITHOUT_NAMES.fullmatch(first) else NOT_NOTED
+    return masked(without_wishes(first))[:ANSWER] if WITHOUT_NAMES.fullmatch(first) else NOT_NOTED
 
 
 def blanked(line: bytes) -> bytes:
-    """A line of the journal, without an answer that may have a name. One that is cut off may end with a part of that."""
+    """A line of the journal, without an answer that may have a name, and without wishes. One that is cut off may end with a
+    part of that."""
     try:
         entry = json.loads(line)
     except ValueError:
         entry = {"line": "(an entry that was cut off)"}
     if isinstance(entry, dict) and "n" in entry and "answer" in entry:
         entry["answer"] = without_names(str(entry["answer"]))
+    if isinstance(entry, dict) and "n" in entry and "line" in entry:
+        entry["line"] = "; ".join(map(without_wishes, str(entry["line"]).split("; ")))
     return json.dumps(entry, ensure_ascii=False).encode("utf-8", "replace")
+
+
+def is_rid_of(before: bytes, after: bytes) -> bool:
+    """Whether a line of the journal was rid of an answer or of wishes."""
+    return before != after and (NOT_NOTED.encode() in after or len(COUNTED.findall(after)) > len(COUNTED.findall(before)))
 
 
 class Journal:
@@ -149,8 +169,8 @@ class Journal:
         return [seed[1].lower() for seed in reversed(found) if seed]
 
     def blank(self) -> int:
-        """Takes answers that may have names out of the whole journal, and gives their number. Versions up to 3.1.0
-        noted the answer of the last of several lines, even if that line asked for names."""
+        """Takes answers that may have names, and wishes, out of the whole journal, and gives the number of such lines. Versions
+        up to 3.1.0 noted the answer of the last of several lines, even if that line asked for names, and each `choose`."""
         with self.lock:
             old = [line for line in self.path.read_bytes().split(b"\n") if line] if self.path.exists() else []
             new = [blanked(line) for line in old]
@@ -162,7 +182,7 @@ class Journal:
             except OSError as fault:
                 self.part.unlink(missing_ok=True)
                 raise unwritten("the journal", fault) from fault
-            return sum(NOT_NOTED.encode() in after and after != before for before, after in zip(old, new))
+            return sum(map(is_rid_of, old, new))
 
     def end_unfinished(self) -> None:
         """Notes of each change in which a keeper was ended that its answer is not known."""

@@ -8,7 +8,8 @@ started again (hand.py). Before a line that cannot be taken back the office is c
 in the journal before it begins and after it has ended (journal.py).
 
 A request is one line of JSON on a connection of its own, and so is its answer. Everybody who may open the socket may
-act for the office.
+act for the office. A second socket, which is there only where residents sign in by the college's accounts, gives keys
+and nothing else (accounts.py).
 """
 
 import collections
@@ -24,8 +25,10 @@ import struct
 import sys
 import threading
 import time
-from typing import Any
+from pathlib import Path
+from typing import Any, Protocol
 
+from accounts import KeyAsks
 from asks import Asks
 from hand import Hand
 from journal import masked
@@ -38,6 +41,14 @@ OPEN, ALL_OPEN = 12, 64    # connections of one account, and of all, at a time; 
 REQUEST_SECONDS = 3.0      # within which a request has to be here, from its connection on
 ANSWER_SECONDS = 20.0      # within which an answer has to be taken
 LAST_WORDS = 2.0           # seconds for the answers that are on their way when the keeper ends
+OFFICE, ACCOUNTS = "office", "accounts"  # the sockets; the second is so named by FileDescriptorName= of its unit
+
+
+class Answers(Protocol):  # pylint: disable=too-few-public-methods  # it is what a door needs
+    """What can be asked by a socket."""
+
+    def answer(self, job: dict[str, Any]) -> dict[str, Any]:
+        """The answer to a request."""
 
 
 def user_of(connection: socket.socket) -> int:
@@ -112,16 +123,16 @@ class Door(socketserver.ThreadingUnixStreamServer):
     daemon_threads = True
     request_queue_size = 50
 
-    def __init__(self, settings: Settings, asks: Asks) -> None:
+    def __init__(self, settings: Settings, asks: Answers, path: Path, number: int | None) -> None:
         self.speakers, self.asks, self.talks = settings.speakers, asks, threading.BoundedSemaphore(TALKS)
         self.open: collections.Counter[int] = collections.Counter()  # connections by account
         self.counting = threading.Lock()
-        super().__init__(str(settings.socket), Talk, bind_and_activate=False)
-        if os.environ.get("LISTEN_PID") == str(os.getpid()):  # rooms-keeper.socket
+        super().__init__(str(path), Talk, bind_and_activate=False)
+        if number is not None:
             self.socket.close()
-            self.socket = socket.socket(fileno=3)
+            self.socket = socket.socket(fileno=number)
         else:
-            settings.socket.unlink(missing_ok=True)
+            path.unlink(missing_ok=True)
             self.server_bind()
             self.server_activate()
 
@@ -151,19 +162,42 @@ class Door(socketserver.ThreadingUnixStreamServer):
             time.sleep(0.01)
 
 
+def handed_over() -> dict[str, int]:
+    """The numbers of the sockets that systemd hands over: that of rooms-keeper.socket, and that for accounts if it is there."""
+    if os.environ.get("LISTEN_PID") != str(os.getpid()):
+        return {}
+    names = os.environ.get("LISTEN_FDNAMES", "").split(":")
+    return {name if name == ACCOUNTS else OFFICE: number for number, name in enumerate(names, 3)}
+
+
+def doors_of(office: Office, asks: Asks) -> list[Door]:
+    """The doors of the office, and of signed_in.py where residents sign in by the college's accounts."""
+    settings, numbers = office.settings, handed_over()
+    doors = [Door(settings, asks, settings.socket, numbers.get(OFFICE))]
+    if settings.account_socket or ACCOUNTS in numbers:
+        keys = KeyAsks(asks.accounts, office.copies)
+        doors.append(Door(settings, keys, settings.account_socket or Path(), numbers.get(ACCOUNTS)))
+    return doors
+
+
 def main() -> int:
     """Keeps the office until a signal ends it."""
     os.umask(0o077)
     office = Office(from_environment())
     office.clear()
     hand = Hand(office)
-    door = Door(office.settings, Asks(office, hand))
-    threading.Thread(target=door.serve_forever, daemon=True).start()
+    asks = Asks(office, hand)
+    doors = doors_of(office, asks)
+    for door in doors:
+        threading.Thread(target=door.serve_forever, daemon=True).start()
+    asks.dates.start()
     for number in (signal.SIGTERM, signal.SIGINT):
         signal.signal(number, lambda *_: hand.end())
     print("rooms-keeper: ready", flush=True)
     hand.keep()
-    door.wait_for_talks()
+    asks.post.sender.stop()
+    for door in doors:
+        door.wait_for_talks()
     return 0
 
 

@@ -2,10 +2,12 @@
 
 from backups import Backups
 from copies import Copies
+from figures_kept import Kept
 from journal import Journal
 from placing import beside
 from program import Program
 from settings import Settings
+from told import Told
 
 
 class Office:  # pylint: disable=too-few-public-methods  # a place for the parts
@@ -14,11 +16,15 @@ class Office:  # pylint: disable=too-few-public-methods  # a place for the parts
     def __init__(self, settings: Settings) -> None:
         self.settings, self.program, self.copies = settings, Program(settings), Copies(settings)
         self.journal, self.backups = Journal(settings.journal), Backups(settings, self.copies)
+        self.told = Told(settings.told, self.journal)
+        self.figures = Kept(settings.figures)
 
     def clear(self) -> None:
         """Puts away what a killed keeper left, and notes of its unfinished changes that their answers are not known."""
         self.copies.clear()
         beside(self.settings.file, ".watch").unlink(missing_ok=True)
         self.copies.place.finish()
+        self.figures.part.unlink(missing_ok=True)
         self.backups.clear()
         self.journal.end_unfinished()
+        self.told.clear()

@@ -14,6 +14,7 @@ import sqlite3
 import subprocess
 import tempfile
 import time
+from collections.abc import Callable
 from pathlib import Path
 from typing import NamedTuple
 
@@ -110,8 +111,8 @@ class Program:
             return NOT_UNDERSTOOD
         return self.run("do", "--db", str(file), "--", *line.split(" "))
 
-    def tell_all(self, lines: list[str], copy: Path) -> list[Answer]:
-        """Has a copy answer lines, up to the first that is not accepted. These may have keys."""
+    def tell_all(self, lines: list[str], copy: Path, look: Callable[[str, Path], None] | None = None) -> list[Answer]:
+        """Has a copy answer lines, up to the first that is not accepted. These may have keys. Before each line it is looked at."""
         with_key = {"person": self.add_person, "me": self.ask_me}
         answers: list[Answer] = []
         limit = self.settings.line_seconds
@@ -120,6 +121,8 @@ class Program:
             if time.monotonic() > end:
                 raise Fault(f"these lines take longer than {limit:g} seconds together, and residents would wait for so "
                             "long. Nothing was changed: make several files of them.")
+            if look:
+                look(line, copy)
             verb = verb_of(line)
             answers.append(with_key.get(verb, self.tell)(line, copy))
             if is_refused(answers):

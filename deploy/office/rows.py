@@ -5,6 +5,7 @@ import hashlib
 import secrets
 import sqlite3
 import threading
+from collections.abc import Callable
 from pathlib import Path
 
 from copies import Copies, State
@@ -17,6 +18,8 @@ TABLES = {
     "results": "SELECT person, room FROM result ORDER BY person",
     "lists": "SELECT label, kind, added FROM list ORDER BY label",
     "words": "SELECT person, hex FROM word ORDER BY person",
+    # Who left the college in the round of this number, once that is settled. Nobody else moves out without a new room.
+    "left": "SELECT person FROM move, round WHERE move.round = round.number AND to_room IS NULL ORDER BY person",
 }
 # Tables that a file has from a version on. In a file of an earlier version, which the program has yet to migrate,
 # nobody has a grade and nobody leaves.
@@ -46,10 +49,10 @@ def rows_of(file: Path) -> Rows:
 
 
 class View:  # pylint: disable=too-few-public-methods  # it keeps what it has read
-    """The rows of now. They are kept until the file changes."""
+    """The rows of now, or what else is read of a copy. They are kept until the file changes."""
 
-    def __init__(self, copies: Copies) -> None:
-        self.copies, self.lock = copies, threading.Lock()
+    def __init__(self, copies: Copies, read: Callable[[Path], Rows] = rows_of) -> None:
+        self.copies, self.read, self.lock = copies, read, threading.Lock()
         self.seen: tuple[State, Rows] | None = None
 
     def rows(self, still: bool = False) -> Rows:
@@ -59,7 +62,7 @@ class View:  # pylint: disable=too-few-public-methods  # it keeps what it has re
             if self.seen and self.seen[0] == now:
                 return self.seen[1]
             with self.copies.copied(still) as copy:
-                rows = rows_of(copy)
+                rows = self.read(copy)
             # Rows that may be older than the next change of the same tick of the clock are not kept.
             self.seen = (now, rows) if now.is_settled() else None
             return rows

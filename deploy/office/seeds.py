@@ -10,6 +10,8 @@ import re
 import shlex
 from typing import Any, NamedTuple
 
+import times
+
 NOTED = re.compile(r"seed ([0-9A-Fa-f]{64})\b ?(.*)", re.DOTALL)
 DRAWN = re.compile(r"draw \$\(rooms words --seed ([0-9A-Fa-f]{64})")
 OF_TEXT = "SHA-256 of "
@@ -87,21 +89,8 @@ def round_of_now(entries: list[Entry], last_steps: frozenset[str] = LAST_STEPS) 
 def start_at(starts: list[Start], copy: str) -> int:
     """Where the round began that was under way when a copy was made, by the copy's name. What was done in the same
     second may have come after it."""
-    made = made_at(copy) or BEGINNING
+    made = times.moment_of(copy) or BEGINNING
     return ([starts[0], *itertools.takewhile(lambda start: start.time < made, starts)])[-1].place
-
-
-def made_at(copy: str) -> datetime.datetime | None:
-    """When a copy was made, by its name; nothing if that is no copy's."""
-    try:
-        return datetime.datetime.strptime(copy[:16], "%Y%m%dT%H%M%SZ").replace(tzinfo=datetime.timezone.utc)
-    except ValueError:
-        return None
-
-
-def when(entry: Entry) -> str:
-    """The time of an entry, for the screen."""
-    return str(entry["at"]).replace("T", " ")[:19]
 
 
 def noted_in(entry: Entry, early: bool = False) -> Noted | None:
@@ -112,7 +101,7 @@ def noted_in(entry: Entry, early: bool = False) -> Noted | None:
     source = match[2] or "without a word on how it came about"
     text = source.removeprefix(OF_TEXT)
     check = f"printf %s {shlex.quote(text)} | sha256sum" if text != source else ""
-    return Noted(when(entry), entry.get("who", ""), match[1].lower(), source, check, early)
+    return Noted(times.of_entry(entry["at"]), entry.get("who", ""), match[1].lower(), source, check, early)
 
 
 def noted_seeds(journal: list[Entry], whole: bool) -> Seeds:
@@ -126,7 +115,7 @@ def noted_seeds(journal: list[Entry], whole: bool) -> Seeds:
     for line in [line for entry in entries for line in lines_of(entry) if line.startswith("draw ")]:
         by_seed = DRAWN.match(line)
         drawn = by_seed[1].lower() if by_seed else ""
-    return Seeds(found, drawn, "" if whole or len(entries) < len(rows) else when(rows[0]))
+    return Seeds(found, drawn, "" if whole or len(entries) < len(rows) else times.of_entry(rows[0]["at"]))
 
 
 def with_struck(noted: list[Noted]) -> list[Noted]:

@@ -35,6 +35,9 @@ class Settings:  # pylint: disable=too-many-instance-attributes  # each is a set
     kept_backups: int = 30    # the copies that were asked for, as those of each night
     kept_before: int = 20     # the copies that were taken before lines, for each kind of line
     kept_days: int = 400      # for so many days at most, unless the office has set another number
+    told: Path = Path("/var/lib/rooms-told")  # the folder of what residents read of rooms, which is public
+    mail: Path = Path("/etc/rooms/mail.conf")  # the settings of mail; without this file there is none
+    account_socket: Path | None = None  # for the keys of accounts (accounts.py), if systemd does not open it
 
     @property
     def journal(self) -> Path:
@@ -42,9 +45,24 @@ class Settings:  # pylint: disable=too-many-instance-attributes  # each is a set
         return self.file.with_name("journal")
 
     @property
+    def until(self) -> Path:
+        """The date until which lists are taken."""
+        return self.file.with_name("until")
+
+    @property
+    def figures(self) -> Path:
+        """The figures of published rounds."""
+        return self.file.with_name("figures")
+
+    @property
     def backups(self) -> Path:
         """The folder of the kept copies."""
         return self.file.with_name("backups")
+
+    @property
+    def mail_book(self) -> Path:
+        """The file of mail addresses, and of what was sent."""
+        return self.file.with_name("mail.db")
 
 
 def from_environment() -> Settings:
@@ -60,4 +78,7 @@ def from_environment() -> Settings:
         speakers=frozenset(variables.get("ROOMS_SPEAKERS", "rooms-page").split()),
         line_seconds=float(variables.get("ROOMS_LINE_SECONDS", "15")),
         turn_seconds=float(variables.get("ROOMS_TURN_SECONDS", "30")),
+        told=Path(variables.get("ROOMS_TOLD", "/var/lib/rooms-told")),
+        mail=Path(variables.get("ROOMS_MAIL", "/etc/rooms/mail.conf")),
+        account_socket=Path(path) if (path := variables.get("ROOMS_ACCOUNT_SOCKET")) else None,
     )

@@ -5,12 +5,13 @@ import { recallDraft, rememberDraft } from "./memory.js";
 export const LONGEST_LIST = 40;
 export const ROOMS_AT_ONCE = 20;
 
-// The key; the answers to GET /me and GET /rooms; what the college says of each room; the list as it stands in the
-// page, the one on record from which it was begun, and the one that was handed in last; how many rooms are shown;
-// whether an answer is awaited.
+// The key; the answers to GET /me and GET /rooms; what the administrator's file says of each room, and what the clerks say
+// (told.js); the rooms whose pictures are shown; the list as it stands in the page, the one on record from which it was begun,
+// and the one that was handed in last; how many rooms are shown; whether an answer is awaited.
 export const desk = {
-  key: "", me: null, rooms: [], descriptions: new Map(), list: [], base: [], sent: null, shown: ROOMS_AT_ONCE,
-  isBusy: false,
+  key: "", me: null, rooms: [], descriptions: new Map(),
+  told: { notice: new Map(), contact: "", until: null, rooms: new Map(), pictures: new Map() }, pictured: new Set(),
+  list: [], base: [], sent: null, shown: ROOMS_AT_ONCE, isBusy: false,
 };
 
 export const isSameList = (one, other) => one.length === other.length && one.every((code, at) => code === other[at]);

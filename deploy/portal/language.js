@@ -7,6 +7,8 @@ const FIRST = Object.keys(TEXTS)[0];
 
 let chosen = FIRST;
 
+export const language = () => chosen;
+
 // The text with this name, for example "faults.busy", or nothing. Names may come from the server, so only own members
 // count.
 function found(language, name) {

@@ -7,7 +7,8 @@
 // How long the key outlives the page, in milliseconds. A browser may have a page in the background work once a minute.
 const GONE = 2 * 60 * 1000;
 
-const KEY = "room-key", LINKED = "room-key-link", UNTIL = "room-key-until", DRAFT = "rooms-draft", LANGUAGE = "rooms-language";
+const KEY = "room-key", LINKED = "room-key-link", UNTIL = "room-key-until", DRAFT = "rooms-draft", LANGUAGE = "rooms-language",
+  NEWS = "rooms-news";
 
 const kept = new Map();
 
@@ -59,9 +60,21 @@ export function recallKey() {
   return left > 0 && left < 2 * GONE ? read(KEY) : "";
 }
 
+// Gives the key that was there.
 export function forgetKey() {
+  const key = read(KEY);
   drop(KEY);
   drop(UNTIL);
+  return key;
+}
+
+// The name of a text, for the page as it is loaded next in this tab.
+export const rememberNews = name => write(NEWS, name);
+
+export function takeNews() {
+  const name = read(NEWS);
+  drop(NEWS);
+  return name;
 }
 
 // A link on a slip has a key behind `#`, which no browser sends to a server. Takes what is there out of the address, and says

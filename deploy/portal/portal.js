@@ -5,12 +5,15 @@
 import {
   backToRecord, changeList, desk, isChanged, isChangedElsewhere, mayEdit, rememberList, ROOMS_AT_ONCE, takeRecord,
 } from "./desk.js";
+import { clearFilters } from "./filters.js";
 import { firstLanguage, setLanguage, text } from "./language.js";
 import {
-  forgetDraft, forgetKey, hasKey, keepKey, leaveLink, recallKey, rememberKey, rememberLanguage, takeLinkedKey,
+  forgetDraft, forgetKey, hasKey, keepKey, leaveLink, recallKey, rememberKey, rememberLanguage, rememberNews, takeLinkedKey,
+  takeNews,
 } from "./memory.js";
 import { inOrder, readDescriptions } from "./rooms.js";
-import { call, Fault, roomsFile } from "./server.js";
+import { ACCOUNT, call, endSignIn, Fault, roomsFile, SIGN_IN, SIGN_OUT, toldFile } from "./server.js";
+import { readTold } from "./told.js";
 import {
   ask, byHome, byId, draw, drawList, drawRooms, inWords, fitToScreen, nextFocus, say, sayFault, showMore,
 } from "./view.js";
@@ -48,9 +51,13 @@ async function during(work) {
 }
 
 async function tellFault(fault) {
-  if (fault.status === 403) {
+  if (fault.status === 401 || fault.status === 403) {
     // A list that was begun stays in this tab, for the same person.
-    leave();
+    const isOfAccount = leave();
+    if (isOfAccount && fault.status === 403) {
+      leaveAccount(fault.names[0]);
+      return;
+    }
     byId("key").focus();
   } else if (desk.me !== null && fault.isOfOffice) {
     try {
@@ -73,14 +80,25 @@ function signIn(event) {
     byId("key").focus();
     return;
   }
+  signInWith(given);
+}
+
+function signInWith(key) {
   during(async () => {
-    desk.key = given;
+    desk.key = key;
     const taken = await load();
-    rememberKey(given);
+    rememberKey(key);
     byId("key").value = "";
     sayTaken(taken, "signedIn");
     byId("round-heading").focus();
   });
+}
+
+// Whether the browser comes back from signing in by an account.
+function comesFromAccount() {
+  if (location.search !== "?account") return false;
+  history.replaceState(null, "", location.pathname);
+  return true;
 }
 
 function sayTaken({ hasDraft, isLate }, otherwise) {
@@ -92,19 +110,28 @@ function sayTaken({ hasDraft, isLate }, otherwise) {
 function takeLink() {
   const given = takeLinkedKey();
   if (!given || given === recallKey() || desk.isBusy || byId("question").open) return false;
-  if (hasKey()) leave();
+  if (hasKey() && leave()) endSignIn();
   byId("key").value = given;
   say("keyFromLink");
-  byId("sign-in").querySelector("button").focus();
+  byId("sign-in").querySelector("button.main").focus();
   return true;
 }
 
-// Takes the person out of the page.
+// Takes the person out of the page, and says whether they were signed in by an account.
 function leave() {
+  const isOfAccount = [desk.key, forgetKey()].includes(ACCOUNT);
   Object.assign(desk, { key: "", me: null, rooms: [], list: [], base: [], sent: null, shown: ROOMS_AT_ONCE });
+  desk.pictured.clear();
   byId("find").value = "";
-  forgetKey();
+  clearFilters();
   draw();
+  return isOfAccount;
+}
+
+// Signs out at the proxy and at the college. The page is then loaded again, and shows the text with this name.
+function leaveAccount(name) {
+  rememberNews(name);
+  location.assign(SIGN_OUT);
 }
 
 async function signOut() {
@@ -115,7 +142,10 @@ async function signOut() {
     if (answer !== "go") return;
   }
   forgetDraft();
-  leave();
+  if (leave()) {
+    leaveAccount("signedOut");
+    return;
+  }
   say("signedOut");
   byId("key").focus();
 }
@@ -137,7 +167,10 @@ function timeLeft() {
 // A list that was begun stays in this tab, for the same person.
 function endByTime() {
   isWarned = false;
-  leave();
+  if (leave()) {
+    leaveAccount("timedOut");
+    return;
+  }
   sayFault("timedOut");
   byId("key").focus();
 }
@@ -289,11 +322,13 @@ async function askAgain() {
 
 function listen() {
   byId("sign-in").addEventListener("submit", signIn);
+  // A college's own index.html may be of a version before.
+  byId("account")?.addEventListener("click", () => location.assign(SIGN_IN));
   byId("show-key").addEventListener("change", onShowKey);
   byId("language").addEventListener("change", onLanguage);
   byId("desk").addEventListener("click", onButton);
   byId("list").addEventListener("keydown", onKey);
-  byId("find").addEventListener("input", onFind);
+  for (const id of ["find", "filters"]) byId(id)?.addEventListener("input", onFind);
   const presses = { "sign-out": signOut, "ask-again": askAgain, "hand-in": handIn, more: showMore, undo, withdraw };
   for (const [id, act] of Object.entries(presses)) byId(id).addEventListener("click", act);
   for (const use of ["keydown", "pointerdown", "pointermove", "wheel"]) {
@@ -311,23 +346,36 @@ async function describeRooms() {
   if (desk.me !== null && desk.descriptions.size > 0) draw();
 }
 
+async function takeTold() {
+  desk.told = readTold(await toldFile());
+  draw();
+}
+
 function start() {
+  if (comesFromAccount()) {
+    signInWith(ACCOUNT);
+    return;
+  }
   desk.key = recallKey();
   if (desk.key) {
     during(async () => sayTaken(await load(), ""));
   } else if (hasKey()) {
     endByTime();
   } else {
+    const news = takeNews();
+    if (news) sayFault(news);
     byId("key").focus();
   }
 }
 
 function openPage() {
   setLanguage(firstLanguage());
+  if (document.querySelector('meta[name="sign-in"]')?.content === "account") byId("by-account").hidden = false;
   listen();
   fitToScreen();
   draw();
   describeRooms();
+  takeTold();
   if (!takeLink()) start();
 }
 

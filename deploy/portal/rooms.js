@@ -1,4 +1,4 @@
-// The rooms: their order, what the college says of each, and how they are found.
+// The rooms: their order, what the administrator's file says of each, and how they are found.
 
 import { text } from "./language.js";
 
@@ -34,11 +34,11 @@ export function stateText(row, home) {
   return ["free", "occupied", "shut"].includes(row.state) ? text(`states.${row.state}`) : row.state;
 }
 
-// The rooms in which each word that was typed is found: in the code, the state, or the description.
-export function findRooms(rooms, descriptions, home, typed) {
+// The rooms in which each word that was typed is found: in the code, the state, or what is said of the room.
+export function findRooms(rooms, saidOf, home, typed) {
   const words = typed.toLowerCase().split(/\s+/).filter(word => word !== "");
   return rooms.filter(row => {
-    const all = [row.room, row.state, stateText(row, home), descriptions.get(row.room) ?? ""].join(" ").toLowerCase();
+    const all = [row.room, row.state, stateText(row, home), saidOf(row.room)].join(" ").toLowerCase();
     return words.every(word => all.includes(word));
   });
 }

@@ -16,19 +16,28 @@ export class Fault extends Error {
   }
 }
 
+// In the place of a key: the person is signed in by the college's own account, and the proxy knows the key.
+export const ACCOUNT = "account";
+
+// Where a browser goes to sign in and to sign out by an account.
+export const SIGN_IN = "/account/in";
+export const SIGN_OUT = `/account/redirect?logout=${encodeURIComponent(`${location.origin}/`)}`;
+
 const OPTIONS = { cache: "no-store", credentials: "omit", referrerPolicy: "no-referrer", redirect: "error" };
 
 // Sends a request and gives the answer's value. `doubt` names the text that says, where no answer of the server came,
-// what became of the change: of a request that only reads, nothing has to be said.
+// what became of the change: of a request that only reads, nothing has to be said. By an account, the browser's cookie
+// goes with it, and a field that no other site's page can send.
 //
 // Where the server was stopped before it had answered, the proxy sends a request once more, and the fault is that of
 // the second time. So a fault of the office says nothing of the first time, and what is on record is asked for.
 export async function call(key, method, path, { body, doubt = [] } = {}) {
   let answer, value = null;
+  const [address, more] = key === ACCOUNT
+    ? [`/account${path}`, { credentials: "same-origin", headers: { "Room-Sign-In": "account" } }]
+    : [path, { headers: { "Room-Key": key } }];
   try {
-    answer = await fetch(path, {
-      ...OPTIONS, method, body, headers: { "Room-Key": key }, signal: AbortSignal.timeout(PATIENCE),
-    });
+    answer = await fetch(address, { ...OPTIONS, ...more, method, body, signal: AbortSignal.timeout(PATIENCE) });
   } catch {
     throw new Fault(["faults.unreached", ...doubt]);
   }
@@ -42,12 +51,31 @@ export async function call(key, method, path, { body, doubt = [] } = {}) {
   throw new Fault(name ? [name] : ["faults.busy", ...doubt], answer.status, error);
 }
 
-// The college's file of rooms, which needs no key. Without it the page goes on.
-export async function roomsFile() {
+// Ends the sign-in by an account at the proxy, but not that at the college.
+export async function endSignIn() {
   try {
-    const answer = await fetch("/rooms.csv", { ...OPTIONS, signal: AbortSignal.timeout(PATIENCE) });
+    await fetch(SIGN_OUT, { ...OPTIONS, credentials: "same-origin", redirect: "manual" });
+  } catch { /* it ends by itself after ten minutes */ }
+}
+
+// The answer to a request that needs no key, or nothing. Without it the page goes on.
+async function file(path) {
+  try {
+    const answer = await fetch(path, { ...OPTIONS, signal: AbortSignal.timeout(PATIENCE) });
     return answer.status === 200 ? await answer.text() : "";
   } catch {
     return "";
+  }
+}
+
+// The administrator's file of rooms.
+export const roomsFile = () => file("/rooms.csv");
+
+// What the clerks say.
+export async function toldFile() {
+  try {
+    return JSON.parse(await file("/told/told.json") || "{}");
+  } catch {
+    return {};
   }
 }

@@ -19,6 +19,7 @@ export const TEXTS = {
       + "difference.",
     showKey: "Show the key",
     signIn: "Sign in",
+    signInByAccount: "Sign in with your college account",
     keyFromLink: "The key of your link is filled in. Press \"Sign in\".",
     badKey: "A key has 16 to 64 letters (a to z) and digits. Please look at it again.",
     signedIn: "Signed in.",
@@ -116,6 +117,22 @@ export const TEXTS = {
     add: "Add",
     addLabel: "Add room {room}",
     onList: "on your list",
+    // Of bare numbers in what the office says of a room.
+    room: { floor: "floor {value}", size: "{value} m²" },
+    pictures: { all: "Pictures of {room}: {count}", one: "Picture {number} of room {room}" },
+    filters: {
+      house: "House",
+      allHouses: "All houses",
+      rent: "Rent up to",
+      rentHint: "With a rent, rooms whose rent is not known are left out.",
+      badRent: "This is no amount. Write a number, such as 450.",
+      free: "Only free rooms",
+    },
+    contact: "Questions: {contact}",
+    // By which the date is written.
+    locale: "en-GB",
+    until: "Lists are taken until {date}.",
+    untilPast: "Lists were to be handed in until {date}. The office may close the round at any time.",
 
     listHeading: "Your list",
     listHint: "The room that you want most comes first. There may be 40. A room after your own does not count.",
@@ -215,7 +232,10 @@ export const TEXTS = {
       RoomShut: "A room on your list has been shut. Remove the marked rooms and hand it in again.",
       Unavailable: "The server can't do this at the moment. Please try again in a few minutes.",
       400: "The server did not understand this page. Nothing was changed. Please load the page again.",
+      401: "Your sign-in with your college account has ended. Please sign in again.",
       403: "This key is not known. Please look at it again, or ask the accommodation office.",
+      NoPerson: "Your college account is with nobody in the register. Please sign in with your key, or ask the accommodation "
+        + "office.",
       404: "This page does not fit the server. Nothing was changed. Please load the page again; if that does not help, "
         + "tell the accommodation office.",
       408: "The connection is too slow. Nothing was changed. Please try again.",
@@ -242,6 +262,7 @@ export const TEXTS = {
       + "Bindestriche und Großschreibung spielen keine Rolle.",
     showKey: "Zugangscode anzeigen",
     signIn: "Anmelden",
+    signInByAccount: "Mit dem Konto der Hochschule anmelden",
     keyFromLink: "Der Zugangscode aus Ihrem Link ist eingetragen. Drücken Sie „Anmelden“.",
     badKey: "Ein Zugangscode besteht aus 16 bis 64 Buchstaben (a bis z) und Ziffern. Bitte prüfen Sie Ihre Eingabe.",
     signedIn: "Sie sind angemeldet.",
@@ -338,6 +359,20 @@ export const TEXTS = {
     add: "Hinzufügen",
     addLabel: "Zimmer {room} hinzufügen",
     onList: "auf Ihrer Liste",
+    room: { floor: "Etage {value}", size: "{value} m²" },
+    pictures: { all: "Bilder von {room}: {count}", one: "Bild {number} von Zimmer {room}" },
+    filters: {
+      house: "Haus",
+      allHouses: "Alle Häuser",
+      rent: "Miete bis",
+      rentHint: "Mit einer Miete werden Zimmer ausgelassen, deren Miete nicht bekannt ist.",
+      badRent: "Das ist kein Betrag. Geben Sie eine Zahl ein, zum Beispiel 450.",
+      free: "Nur freie Zimmer",
+    },
+    contact: "Fragen: {contact}",
+    locale: "de-DE",
+    until: "Wunschlisten werden angenommen bis {date}.",
+    untilPast: "Wunschlisten waren bis {date} abzugeben. Die Wohnheimverwaltung kann die Runde jederzeit schließen.",
 
     listHeading: "Ihre Wunschliste",
     listHint: "An erster Stelle steht das Zimmer, das Sie am liebsten hätten. Es dürfen 40 sein. Was nach Ihrem "
@@ -449,7 +484,10 @@ export const TEXTS = {
         + "Liste erneut ab.",
       Unavailable: "Der Server kann das im Augenblick nicht. Bitte versuchen Sie es in ein paar Minuten noch einmal.",
       400: "Der Server hat diese Seite nicht verstanden. Es wurde nichts geändert. Bitte laden Sie die Seite neu.",
+      401: "Ihre Anmeldung mit dem Konto der Hochschule ist zu Ende. Bitte melden Sie sich erneut an.",
       403: "Dieser Zugangscode ist nicht bekannt. Bitte prüfen Sie ihn, oder fragen Sie die Wohnheimverwaltung.",
+      NoPerson: "Ihr Konto der Hochschule gehört zu niemandem im Verzeichnis. Bitte melden Sie sich mit Ihrem Zugangscode an, "
+        + "oder fragen Sie die Wohnheimverwaltung.",
       404: "Diese Seite passt nicht zum Server. Es wurde nichts geändert. Bitte laden Sie die Seite neu. Wenn das "
         + "nicht hilft, sagen Sie der Wohnheimverwaltung Bescheid.",
       408: "Die Verbindung ist zu langsam. Es wurde nichts geändert. Bitte versuchen Sie es noch einmal.",

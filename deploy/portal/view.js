@@ -3,8 +3,10 @@
 import {
   desk, isChanged, isChangedElsewhere, LONGEST_LIST, mayEdit, ROOMS_AT_ONCE, stateOf, takesPart,
 } from "./desk.js";
-import { hasText, text, texts } from "./language.js";
+import { drawFilters, drawRentHint, filterRooms } from "./filters.js";
+import { hasText, language, text, texts } from "./language.js";
 import { findRooms, stateText } from "./rooms.js";
+import { lineOf, noticeParts, picturesOf, untilText, wordsOf } from "./told.js";
 
 export const byId = id => document.getElementById(id);
 
@@ -16,22 +18,24 @@ const outcome = () => desk.me.home === null ? text("getsNone") : text("keeps", {
 // The text for somebody with a room, or the one for somebody without.
 export const byHome = name => text(`${name}.${desk.me.home === null ? "homeless" : "homed"}`, { home: desk.me.home });
 
-function element(tag, content, more = {}) {
-  return Object.assign(document.createElement(tag), { textContent: content }, more);
+// A room code with a hyphen, in a text.
+const CODE = /(?<![\p{L}\d-])([A-Z0-9]+-[A-Z0-9-]*)(?![\p{L}\d])/u;
+
+// Puts a text into an element. No code in it is broken at its hyphen.
+function fill(element, content) {
+  element.replaceChildren(...content.split(CODE).map((part, at) =>
+    at % 2 === 0 ? part : Object.assign(document.createElement("span"), { textContent: part, className: "code" }),
+  ).filter(part => part !== ""));
+  return element;
 }
 
-// A list of rooms, for reading. No code is broken at its hyphen.
-function codeNodes(codes) {
-  if (codes.length === 0) return [text("emptyList")];
-  return codes.flatMap((code, at) => [at > 0 ? ", " : "", element("span", code, { className: "code" })]);
-}
+const element = (tag, content, more = {}) => Object.assign(fill(document.createElement(tag), content), more);
 
 // Pairs of a name and a value, which is a text or a list of rooms. On a narrow page the value goes below its name.
 function pairs(rows) {
   return rows.map(([name, value]) => {
-    const pair = element("div", ""), second = element("dd", "");
-    second.append(...Array.isArray(value) ? codeNodes(value) : [value]);
-    pair.append(element("dt", name), second);
+    const pair = element("div", "");
+    pair.append(element("dt", name), element("dd", Array.isArray(value) ? inWords(value) : value));
     return pair;
   });
 }
@@ -62,7 +66,7 @@ export function sayFault(...names) {
 
 function drawMessages() {
   for (const [place, parts] of Object.entries(said)) {
-    byId(place).textContent = parts.map(([name, values]) => text(name, values)).join(" ");
+    fill(byId(place), parts.map(([name, values]) => text(name, values)).join(" "));
   }
 }
 
@@ -78,6 +82,8 @@ export function draw() {
   const { me } = desk;
   drawMessages();
   drawAbout();
+  drawUntil();
+  drawNotice();
   byId("unready").hidden = true;
   byId("sign-in").hidden = me !== null;
   byId("desk").hidden = byId("sign-out").hidden = me === null;
@@ -86,14 +92,15 @@ export function draw() {
     return;
   }
   byId("facts").replaceChildren(...pairs(facts()));
-  [byId("result").textContent, byId("next").textContent] = resultTexts();
+  for (const [at, content] of resultTexts().entries()) fill(byId(["result", "next"][at]), content);
   byId("recorded").hidden = me.phase === "idle";
-  byId("record").replaceChildren(...recordNodes());
+  fill(byId("record"), recordText());
   byId("edit").hidden = !mayEdit(me);
   if (!mayEdit(me)) return;
   const promises = [byHome("asking"), text("trueList"), text("handsInNothing", { outcome: outcome() })];
   byId("promises").replaceChildren(...promises.map(promise => element("li", promise)));
-  byId("withdraw-text").textContent = byHome("withdrawText");
+  fill(byId("withdraw-text"), byHome("withdrawText"));
+  drawFilters();
   drawRooms();
   drawList();
 }
@@ -105,6 +112,22 @@ function drawAbout() {
     paragraph.append(element("strong", heading), ` ${content}`);
     return paragraph;
   }));
+}
+
+// Until when lists are taken, above the notice.
+function drawUntil() {
+  if (!byId("until")) byId("notice").before(element("p", "", { id: "until" }));
+  byId("until").textContent = untilText(language());
+  byId("until").hidden = byId("until").textContent === "";
+}
+
+// The clerks' notice. If they have written none, that of index.html stays.
+function drawNotice() {
+  const parts = noticeParts(language());
+  if (parts.length === 0) return;
+  byId("notice").replaceChildren(...parts.map(part =>
+    element("span", part.words, { className: "part", lang: part.language })));
+  byId("notice").hidden = false;
 }
 
 // What is on record of the person.
@@ -135,18 +158,21 @@ function resultTexts() {
   return ["", ""];
 }
 
-function recordNodes() {
+function recordText() {
   const { me, sent } = desk;
-  if (!takesPart(me)) return [text(me.withdrawn ? "record.withdrawn" : "record.going")];
-  if (me.choices.length > 0) return codeNodes(me.choices);
+  if (!takesPart(me)) return text(me.withdrawn ? "record.withdrawn" : "record.going");
+  if (me.choices.length > 0) return inWords(me.choices);
   const kind = sent?.length === 0 ? "empty" : me.phase === "open" ? "nothing" : "closed";
-  return [text(`record.${kind}`, { outcome: outcome() })];
+  return text(`record.${kind}`, { outcome: outcome() });
 }
 
 // --- The rooms, and the list
 
+const saidOf = code => `${lineOf(code)} ${wordsOf(code)}`;
+
 export function drawRooms() {
-  const found = findRooms(desk.rooms, desk.descriptions, desk.me.home, byId("find").value);
+  drawRentHint();
+  const found = findRooms(filterRooms(desk.rooms), saidOf, desk.me.home, byId("find").value);
   byId("count").textContent = text("count", { found: found.length, all: desk.rooms.length });
   byId("rooms").replaceChildren(...found.slice(0, desk.shown).map(roomItem));
   byId("more").hidden = found.length <= desk.shown;
@@ -155,8 +181,9 @@ export function drawRooms() {
 function roomItem(row) {
   const item = element("li", "", { className: "item" }), about = element("span", row.room, { className: "about" });
   about.append(element("span", stateText(row, desk.me.home), { className: "note" }));
-  const description = desk.descriptions.get(row.room);
-  if (description) about.append(element("span", description, { className: "note" }));
+  for (const said of [lineOf(row.room), wordsOf(row.room)].filter(words => words)) {
+    about.append(element("span", said, { className: "note" }));
+  }
   item.append(about);
   if (desk.list.includes(row.room)) {
     item.append(element("span", text("onList"), { className: "listed" }));
@@ -164,12 +191,32 @@ function roomItem(row) {
     const label = text("addLabel", { room: row.room });
     item.append(roomButton(text("add"), label, "add", row.room, desk.list.length >= LONGEST_LIST));
   }
+  if (picturesOf(row.room).length > 0) item.append(picturesItem(row.room));
   return item;
+}
+
+// Plans and pictures of a room. The browser asks for them when they are opened.
+function picturesItem(code) {
+  const pictures = picturesOf(code), box = element("details", "", { className: "pictures", open: desk.pictured.has(code) });
+  const show = () => box.append(...pictures.map(({ address, shows }, at) => {
+    const figure = element("figure", "");
+    const alt = shows || text("pictures.one", { number: at + 1, room: code });
+    figure.append(element("img", "", { src: address, alt }));
+    if (shows) figure.append(element("figcaption", shows));
+    return figure;
+  }));
+  box.append(element("summary", text("pictures.all", { count: pictures.length, room: code })));
+  if (box.open) show();
+  box.addEventListener("toggle", () => {
+    if (box.open && box.childElementCount === 1) show();
+    desk.pictured[box.open ? "add" : "delete"](code);
+  });
+  return box;
 }
 
 export function drawList() {
   byId("list").replaceChildren(...desk.list.map(listItem));
-  byId("state").textContent = stateLine();
+  fill(byId("state"), stateLine());
   for (const id of ["hand-in", "undo"]) byId(id).setAttribute("aria-disabled", !isChanged());
 }
 
@@ -182,7 +229,7 @@ function stateLine() {
 function listItem(code, place) {
   const item = element("li", ""), row = element("div", "", { className: "item" });
   const about = element("span", code, { className: "about" });
-  const note = noteOn(code, place), description = desk.descriptions.get(code);
+  const note = noteOn(code, place), description = lineOf(code);
   if (note) about.append(element("span", note, { className: "note" }));
   else if (description) about.append(element("span", description, { className: "note description" }));
   const buttons = element("span", "", { className: "buttons" });
@@ -229,8 +276,8 @@ export function nextFocus(act, code, place) {
 // value, its text, and whether it can't be taken back.
 export function ask(heading, content, lists, answers) {
   const question = byId("question");
-  byId("question-heading").textContent = heading;
-  byId("question-text").textContent = content;
+  fill(byId("question-heading"), heading);
+  fill(byId("question-text"), content);
   byId("question-lists").replaceChildren(...pairs(lists));
   byId("question-lists").hidden = lists.length === 0;
   byId("answers").replaceChildren(...answers.map(([value, label, isFinal]) =>

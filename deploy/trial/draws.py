@@ -72,7 +72,7 @@ def try_strike(stand, page):
     check("striking a seed out is asked about", "Strike this seed out?" in page.get(where)[2], where)
     page.form(where, page=where)
     text = page.get("/office/draw")[2]
-    check("the seed stays, marked", re.search(r"Struck out</strong> [-0-9 :]+ by anna", text) and "1 of them struck" in text,
+    check("the seed stays, marked", re.search(r"Struck out</strong> [-0-9 :]+ [A-Z]+ by anna", text) and "1 of them struck" in text,
           text)
     check("nothing is offered with it", f'value="{SEED}"' not in text, text)
     page.form("/office/draw", {"seed": SEED}, page="/office/draw")
@@ -93,7 +93,7 @@ def until_drawn(stand, page, seed):
 def said_by(page):
     """What the record says of the journal, without the times."""
     record = page.form("/office/record", page="/office/record")[2]
-    return [re.sub("^[-0-9]{10} [0-9:]{8} ", "", line) for line in re.findall("^# journal: (.*)$", record, re.M)], record
+    return [re.sub("^[-0-9]{10} [0-9:]{8} [^ ]+ ", "", line) for line in re.findall("^# journal: (.*)$", record, re.M)], record
 
 
 def try_record(stand, page):
@@ -143,7 +143,7 @@ def try_later(stand, page):
           said == ["round 5 was opened", "round 5 was closed", "the order of round 5 was drawn, by words, without a seed"],
           said)
     line = next(found for entry in stand.ask(ask="journal", last=5)["journal"] if (found := entry.get("line", ""))[:6] == "choose")
-    check("the journal keeps the first lines of a bundle", line.startswith("choose P1 A-1; ") and
+    check("the journal keeps the first lines of a bundle", line.startswith("choose P1 (1 room); ") and
           line.endswith("; ..; close; draw (2 words); run"), line)
     journal = (stand.data / "journal").read_text(encoding="utf-8").splitlines()
     kept = [line for line in journal if json.loads(line).get("line") != "settle"][-2:]

@@ -194,7 +194,7 @@ def journal(stand):
     check("an earlier journal is blanked", stand.script("rooms-office", "blank-journal") == "blanked 1\n")
     now = stand.file.with_name("journal").read_text(encoding="utf-8")
     check("and has no name", "Ann Li" not in now and "noted: close" in stand.script("rooms-office", "journal"))
-    check("which is in the journal", stand.ask(ask="journal", last=1)["journal"][0].get("answer") == "1 answers")
+    check("which is in the journal", stand.ask(ask="journal", last=1)["journal"][0].get("answer") == "1 lines")
 
 
 def tried(stand):

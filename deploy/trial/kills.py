@@ -17,7 +17,7 @@ from beside import copies_of
 from stand import Stand, check, command_of, until
 
 KILLS = 5
-KNOWN = ("rooms.db", "rooms.db-wal", "rooms.db-shm", "journal", "backups")
+KNOWN = ("rooms.db", "rooms.db-wal", "rooms.db-shm", "journal", "figures", "backups")
 SEED = "0123456789abcdef" * 4
 
 

@@ -129,7 +129,7 @@ def try_lists(stand, anna, bert):
           all(part in shown for part in (STALE, "A-104 A-105", 'value="A-103"')), shown[:2500])
     old = anna.hidden("/office/person/T06/withdraw")
     bert.form(path, {"text": "A-106"}, page="/office/person/T06")
-    anna.post("/office/person/T06/withdraw", old)
+    anna.post("/office/person/T06/withdraw", {**old, "sure": "yes"})
     check("nobody is withdrawn whose list another clerk has put on record since",
           person_of(stand, "T06")[2] == ["A-106"] and STALE in anna.get("/office/")[2], person_of(stand, "T06"))
     body = b"person,choices\nT07,A-110\nT08,A-111\n"
@@ -168,7 +168,7 @@ def try_many(stand, anna, bert):
     shown = anna.form("/office/many", {"act": "withdraw", "text": "T09 T10"}, page="/office/many")[2]
     held = held_in(shown)
     bert.form("/office/person/T10/choose", {"text": "A-120"}, page="/office/person/T10")
-    anna.form("/office/many/do", {"held": held}, page="/office/many")
+    anna.form("/office/many/do", {"held": held, "sure": "yes"}, page="/office/many")
     shown = anna.get("/office/register")[2]
     check("many people are not changed if somebody has changed one of them",
           STALE in shown and not person_of(stand, "T09")[4], shown[:2500])

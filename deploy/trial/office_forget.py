@@ -90,7 +90,7 @@ def try_about(stand, page):
     """All about one person."""
     shown = page.get("/office/about/Z1")[2]
     said = (NAME, "A-1", "A-3 A-2", "by the word", "people-1 (people): Z1 | Zoe Zander | (key) | A-1",
-            "choices-1 (choices): Z1 | A-3", "choose Z1 A-3 A-2", "have this person", "there is one; no page shows it")
+            "choices-1 (choices): Z1 | A-3", "choose Z1 (2 rooms)", "have this person", "there is one; no page shows it")
     missing = [one for one in said if one not in shown]
     check("one page has register, list, order, kept lists, copies and journal", not missing, (missing, shown))
     check("and neither the key nor somebody else", KEY not in shown and "Tim Tan" not in shown and "Zoe Other" not in shown, shown)

@@ -143,7 +143,7 @@ def change_after(stand, page, copy):
     page.form("/office/person/T012/remove", page="/office/person/T012/remove")
     found = stand.ask(ask="compare", name=copy)
     check("the keeper says what comes back, without a key", found == {
-        "round": [0, "idle"], "keys": ["T010"], "names": [["T011", "Person T011", "Other Name"]], "lists": [],
+        "round": [0, "idle"], "keys": ["T010"], "names": [["T011", "Person T011", "Other Name"]], "lists": [], "part": [],
         "come": [["T012", "Person T012"]], "go": [["T901", "Just Come"]]}, found)
     return key
 

@@ -66,6 +66,7 @@ def open_round(clerk, stand, college):
     clerk.put("text", "R290 R291")
     clerk.tick("withdraw")
     clerk.press("Show who they are")
+    clerk.tick()
     clerk.press("Yes: withdraw them")
     clerk.reads("Done for 2 people")
     note_leavers(clerk, college)
@@ -77,6 +78,7 @@ def note_leavers(clerk, college):
     clerk.visit(f"/office/person/{one}")
     clerk.press("Leaves the college")
     clerk.shot("15-leaves")
+    clerk.tick()
     clerk.press("Yes: leaves the college")
     clerk.reads("The person leaves the college at the end of the round.", "no, leaves the college")
     clerk.visit("/office/many")
@@ -88,6 +90,7 @@ def note_leavers(clerk, college):
     clerk.tick("going")
     clerk.press("Show who they are")
     clerk.shot("15-many-leave")
+    clerk.tick()
     clerk.press("Yes: note that they leave")
     clerk.reads("Done for 2 people")
     clerk.visit("/office/")
@@ -114,7 +117,8 @@ def look_at_large_text(stand, shots, phase):
         "copies",
         "journal",
     ]
-    pages += {"open": ["step/close", "person/R264/withdraw"], "published": ["letters", "moves/1", "step/settle"]}[phase]
+    published = ["letters", "moves/1", "step/settle", "committee"]
+    pages += {"open": ["step/close", "person/R264/withdraw"], "published": published}[phase]
     with Clerk(stand, "bert", shots, text=32) as clerk:
         for page in pages:
             clerk.visit(f"/office/{page}")

@@ -39,7 +39,7 @@ def bring_people_in(clerk, college):
     clerk.shot("03-faults")
     clerk.try_list("people", college.write("people.csv", ["person", "name", "key", "home"], college.people_rows()))
     clerk.reads("The page made 300 keys")
-    slips = re.findall(rf"\((R\d{{3}})\) made on [-\d]+ at [\d:]+\s+{KEY}", clerk.text())
+    slips = re.findall(rf"\((R\d{{3}})\) made on [-\d]+ at [\d:]+ \S+\s+{KEY}", clerk.text())
     college.keys = {person: key.replace(" ", "") for person, key in slips}
     check("each slip has a key of its own", len(set(college.keys.values())) == PEOPLE, len(college.keys))
     clerk.shot("04-slips")

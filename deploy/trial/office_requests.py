@@ -1,6 +1,7 @@
 """Requests to the office's page through the proxy, without a browser."""
 
 import base64
+import gzip
 import html
 import http.client
 import json
@@ -11,6 +12,8 @@ import urllib.parse
 from stand import CLERKS, HOST, unchecked
 
 EDGE = "edge-of-a-part-8472"
+# What the page puts around a room code in a sentence.
+UNBROKEN = re.compile(r'<span class="nobreak">([^<]*)</span>')
 
 
 def multipart(form, files):
@@ -35,7 +38,7 @@ class Page:
         self.clerk, self.password = clerk, CLERKS.get(clerk, "") if password is None else password
 
     def ask(self, method, path, body=None, headers=None):
-        """One request: the status, the fields (in small letters) and the text of its answer."""
+        """One request: the status, the fields (in small letters) and the text of its answer, with room codes as they read."""
         connection = http.client.HTTPSConnection("127.0.0.1", self.stand.port, context=unchecked(), timeout=130)
         raw = socket.create_connection(("127.0.0.1", self.stand.port), 130)
         connection.sock = unchecked().wrap_socket(raw, server_hostname=HOST)
@@ -47,7 +50,9 @@ class Page:
             connection.request(method, path, body, fields)
             answer = connection.getresponse()
             found = {name.lower(): value for name, value in answer.getheaders()}
-            return answer.status, found, answer.read().decode("utf-8", "replace")
+            data = answer.read()
+            data = gzip.decompress(data) if found.get("content-encoding") == "gzip" else data
+            return answer.status, found, UNBROKEN.sub(r"\1", data.decode("utf-8", "replace"))
         finally:
             connection.close()
 

@@ -77,7 +77,7 @@ def hiding():
         (f"me {KEY}", "me (key)"),
         (f"home R9 {KEY}{KEY}{KEY}", "home R9 (key)"),
         (f"draw {'0123456789abcdef ' * 300}", "draw (300 words)"),
-        ("choose R9 A-101 B-102", "choose R9 A-101 B-102"),
+        ("choose R9 A-101 B-102", "choose R9 (2 rooms)"),
     ):
         check(f"the journal has {wanted!r}", masked_line(line) == wanted, masked_line(line))
     seed = KEY + KEY

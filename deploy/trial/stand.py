@@ -81,7 +81,7 @@ def key_of(person: str) -> str:
 
 def unchecked():
     """A TLS context that takes the trial's own certificate."""
-    context = ssl.create_default_context()
+    context = ssl.SSLContext(ssl.PROTOCOL_TLS_CLIENT)  # the default one reads all authorities of the system each time
     context.check_hostname = False
     context.verify_mode = ssl.CERT_NONE
     return context
@@ -110,9 +110,11 @@ class Stand:  # pylint: disable=too-many-instance-attributes,too-many-public-met
         self.folder = Path(tempfile.mkdtemp(prefix="rooms-trial-"))
         self.data = Path(data) if data else self.folder / "data"
         self.file = self.data / "rooms.db"
-        self.server_port, self.plain_port, self.port = free_ports(3)  # pylint: disable=unbalanced-tuple-unpacking
+        # pylint: disable-next=unbalanced-tuple-unpacking
+        self.server_port, self.plain_port, self.port, self.challenge_port = free_ports(4)
         self.scratch = Path(tempfile.mkdtemp(prefix="rooms-trial-", dir="/dev/shm"))
-        self.keeper = self.page = self.proxy = cast(Any, None)
+        self.keeper = self.page = self.told = self.proxy = cast(Any, None)
+        self.portal = DEPLOY / "portal"
         self.environment = {
             **os.environ,
             "PYTHONDONTWRITEBYTECODE": "1",
@@ -121,8 +123,11 @@ class Stand:  # pylint: disable=too-many-instance-attributes,too-many-public-met
             "ROOMS_PORT": str(self.server_port),
             "ROOMS_SOCKET": str(self.folder / "keeper.sock"),
             "ROOMS_PAGE_SOCKET": str(self.folder / "proxy" / "page.sock"),
+            "ROOMS_TOLD": str(self.folder / "told"),
+            "ROOMS_TOLD_SOCKET": str(self.folder / "proxy" / "told.sock"),
             "ROOMS_SCRATCH": str(self.scratch / "copies"),
             "ROOMS_SPEAKERS": "root",
+            "ROOMS_MAIL": str(self.folder / "mail.conf"),
             # Long enough for a busy machine.
             "ROOMS_LINE_SECONDS": "60",
             "ROOMS_TURN_SECONDS": "120",
@@ -133,6 +138,7 @@ class Stand:  # pylint: disable=too-many-instance-attributes,too-many-public-met
         try:
             self.data.mkdir(exist_ok=True)
             (self.folder / "proxy").mkdir()
+            (self.folder / "told").mkdir()
             subprocess.run([self.program, "new", "--db", self.file], check=True, stdout=subprocess.DEVNULL)
         except BaseException:
             self.__exit__()
@@ -140,7 +146,7 @@ class Stand:  # pylint: disable=too-many-instance-attributes,too-many-public-met
         return self
 
     def __exit__(self, *_):
-        for process in (self.proxy, self.page, self.keeper):
+        for process in (self.proxy, self.page, self.told, self.keeper):
             if process:
                 self.end(process)
         shutil.rmtree(self.folder)
@@ -234,13 +240,18 @@ class Stand:  # pylint: disable=too-many-instance-attributes,too-many-public-met
             until(Path(self.environment["ROOMS_PAGE_SOCKET"]).exists, 30, "the office's page")
         return PAGE.exists()
 
+    def start_told(self):
+        """Starts the server of what residents read of rooms."""
+        self.told = self.launch("told", PYTHON, str(OFFICE / "told_server.py"))
+        until(Path(self.environment["ROOMS_TOLD_SOCKET"]).exists, 30, "the server of what residents read of rooms")
+
     # --- the proxy
 
     def start_proxy(self, *changes):
         """Starts HAProxy over the repository's file, with the trial's ports and paths, and further changes: an old text
         and a new. The addresses are this machine's own, so nothing is reached from outside."""
         self.make_certificate()
-        text = (DEPLOY / "haproxy.cfg").read_text(encoding="utf-8")
+        text = self.proxy_file()
         for old, new in [
             ("    log /dev/log local0 ", "    log stdout format raw local0 "),
             ("    chroot /var/lib/haproxy\n    user haproxy\n    group haproxy\n", self.chroot()),
@@ -248,19 +259,25 @@ class Stand:  # pylint: disable=too-many-instance-attributes,too-many-public-met
             ("bind :::443 v4v6 ", f"bind {self.addresses()} "),
             ("/etc/haproxy/rooms.pem", str(self.folder / "rooms.pem")),
             ("127.0.0.1:290 ", f"127.0.0.1:{self.server_port} "),
+            ("127.0.0.1:291 ", f"127.0.0.1:{self.challenge_port} "),
             ("unix@/rooms-page.sock", f"unix@{'/page.sock' if self.chroot() else self.environment['ROOMS_PAGE_SOCKET']}"),
+            ("unix@/rooms-told.sock", f"unix@{'/told.sock' if self.chroot() else self.environment['ROOMS_TOLD_SOCKET']}"),
             ("    # user anna password $6$..\n", self.userlist()),
             *changes,
         ]:
             if text.count(old) != 1:
                 fail(f"haproxy.cfg has {text.count(old)} times {old!r}")
             text = text.replace(old, new)
-        text = text.replace("/srv/rooms/portal", str(DEPLOY / "portal"))
+        text = text.replace("/srv/rooms/portal", str(self.portal))
         settings = self.folder / "haproxy.cfg"
         settings.write_text(text, encoding="utf-8")
         subprocess.run(["haproxy", "-q", "-c", "-f", settings], check=True)
         self.proxy = self.launch("proxy", "haproxy", "-db", "-f", str(settings))
         self.until_listening(self.port)
+
+    def proxy_file(self):
+        """The repository's file."""
+        return (DEPLOY / "haproxy.cfg").read_text(encoding="utf-8")
 
     def chroot(self):
         """The folder that the proxy sees once it has started: only root can have it so."""

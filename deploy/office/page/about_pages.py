@@ -7,7 +7,6 @@ from journal import masked
 import explaining
 import plain
 from app import app, ask, drawn_order, field, go_to, office_now, saw, show, tell, text_of
-from file_pages import made_of
 from keeper_client import KeeperFault, answers_of
 from office_view import Office
 from people_pages import IDENTIFIER
@@ -21,6 +20,8 @@ class Kept(NamedTuple):
     moves: list[Any]
     copies: list[Any]
     entries: list[Any]
+    mail: dict[str, Any]
+    account: str
 
     @property
     def labels(self) -> list[str]:
@@ -39,7 +40,7 @@ def kept_of(ident: str) -> Kept:
         tell("bad", f"{masked(ident)[:12]} is no identifier. {plain.IDENTIFIER}")
         go_to("/office/register")
     found = ask("about", person=ident)
-    return Kept(found["lists"], found["moves"], found["copies"], found["journal"])
+    return Kept(found["lists"], found["moves"], found["copies"], found["journal"], found["mail"], found["account"])
 
 
 def place_of(office: Office, ident: str) -> str:
@@ -69,7 +70,7 @@ def page_about(ident: str) -> str:
     facts = explainer.facts_of(ident) if explainer else None
     told = explaining.to_resident(facts) if facts else []  # as in a letter: the page may go to the person, and names nobody else
     return show("about", office=office, ident=ident, person=office.people.get(ident), kept=kept, told=told,
-                place=place_of(office, ident), made_of=made_of)
+                place=place_of(office, ident))
 
 
 def question_of(office: Office, ident: str, kept: Kept) -> Question:
@@ -83,6 +84,8 @@ def question_of(office: Office, ident: str, kept: Kept) -> Question:
     if kept.labels:
         says.append(f"At once the lists that name the person are blanked: {', '.join(kept.labels)}. This deletes what they "
                     "say of everybody; the register stays as it is. Their labels stay taken.")
+    if kept.mail["address"] or kept.mail["sent"]:
+        says.append("At once the mail address is erased, and which messages were sent to the person.")
     count = len(kept.copies)
     older = f", and so {f'do {count} older copies' if count > 1 else 'does one older copy'}" if count else ""
     says.append(f"The keeper makes a copy of the office first, so you can come back from this. This copy has the person{older}, "

@@ -8,6 +8,7 @@ state of the round when the form was made.
 import functools
 import hmac
 import io
+import os
 import re
 import secrets
 import sys
@@ -19,8 +20,11 @@ from typing import Any, NoReturn
 import bottle  # type: ignore[import]  # Debian's bottle has no types
 from bottle import HTTPResponse, request
 
+import times
+
 import keeper_client
 import plain
+from codes import unbroken
 from keeper_client import Answer, KeeperFault
 from memory import Memory
 from office_view import Office
@@ -31,7 +35,7 @@ HERE = Path(__file__).resolve().parent
 LONGEST_FORM = 5_000_000
 UNAVAILABLE = 3  # the program's status if the file, the disk or the memory failed
 HEADERS = {
-    "Content-Security-Policy": "default-src 'none'; style-src 'self'; img-src data:; form-action 'self'; "
+    "Content-Security-Policy": "default-src 'none'; style-src 'self'; img-src 'self' data:; form-action 'self'; "
                                "base-uri 'none'; frame-ancestors 'none'",
     "Referrer-Policy": "same-origin",
     "X-Content-Type-Options": "nosniff",
@@ -44,6 +48,9 @@ STALE = ("This form was made before the page was restarted, or on another page. 
 
 # A host as a browser names it, with its port if that is another than HTTPS has.
 HOST = re.compile(r"[A-Za-z0-9.-]+(:[0-9]+)?")
+
+# How residents reach their page. Only rooms-demo, on the machine itself, has no TLS.
+SCHEME = os.environ.get("ROOMS_SCHEME", "https")
 
 # A form that was made before a restart has another token, and is refused.
 SECRET = secrets.token_bytes(32)
@@ -84,7 +91,7 @@ def guard() -> None:
 def residents_page() -> str:
     """The address of the residents' page, which has the host of this page; nothing if the browser names no host."""
     host = str(request.get_header("Host", ""))
-    return f"https://{host}/" if HOST.fullmatch(host) else ""
+    return f"{SCHEME}://{host}/" if HOST.fullmatch(host) else ""
 
 
 # --- forms and answers
@@ -92,6 +99,11 @@ def residents_page() -> str:
 def field(name: str) -> str:
     """A field of a form as it was sent."""
     return request.forms.getunicode(name) or ""  # pylint: disable=no-member  # bottle makes it when it is asked for
+
+
+def ticked(name: str) -> list[str]:
+    """The values of the boxes of this name that are ticked in a form."""
+    return [str(value) for value in request.forms.getall(name)]  # pylint: disable=no-member  # as above
 
 
 def text_of(name: str) -> str:
@@ -103,6 +115,12 @@ def upload_of(name: str, longest: int) -> bytes:
     """The bytes of a file in a form. One that is too long is cut behind the limit."""
     upload = request.files.get(name)  # pylint: disable=no-member  # bottle makes it when it is asked for
     return bytes(upload.file.read(longest + 1)) if upload else b""
+
+
+def uploads_of(name: str) -> list[tuple[str, bytes]]:
+    """The files of a field that takes several, each with its name in plain letters. HAProxy bounds them together."""
+    return [(str(one.filename)[:60], bytes(one.file.read()))
+            for one in request.files.getall(name)]  # pylint: disable=no-member  # as above
 
 
 def tell(kind: str, text: str) -> None:
@@ -119,7 +137,7 @@ def show(view: str, **values: Any) -> str:
     """A page of a template."""
     values = {"office": None, **values}
     return str(bottle.template(view, template_lookup=[str(HERE / "views")], token=token(), clerk=clerk(), plain=plain,
-                               news=memory.news(clerk()), here=request.path, **values))
+                               times=times, unbroken=unbroken, news=memory.news(clerk()), here=request.path, **values))
 
 
 def download(body: str | bytes, name: str, kind: str = "text/csv; charset=utf-8") -> HTTPResponse:
@@ -171,6 +189,8 @@ def change(question: str, **fields: Any) -> bool:
         tell("bad", f"{unchanged}{plain.meaning(last.text)}")
         return False
     tell("good", plain.done(last.text))
+    if reply.get("unkept"):
+        tell("bad", reply["unkept"])
     return True
 
 

@@ -21,11 +21,19 @@ NAMES = {
     "room": "room roomcode roomno roomnumber roomnr code home zimmer zimmernummer zimmernr raum",
     "grade": "grade priority stufe",
     "choices": "choices choice wishes list rooms wünsche wunschliste",
+    "house": "house building block wing haus gebäude trakt",
+    "floor": "floor storey story level etage stock stockwerk geschoss",
+    "size": "size area sizem² aream² m² m2 sqm grösse grösseinm² grössem² fläche flächeinm² flächem² qm",
+    "rent": "rent price monthlyrent rentpermonth miete monatsmiete warmmiete kaltmiete gesamtmiete preis",
+    "text": "text description notes note remarks comment beschreibung bemerkung bemerkungen ausstattung hinweis",
+    "email": "email mail emailaddress mailaddress studentemail studentmail emailadresse mailadresse",
 }
 KNOWN = {target: frozenset(names.split()) for target, names in NAMES.items()}
 NUMBERED = re.compile(r"(choice|wish|wunsch)\d{1,2}")  # one column for each choice
+# Mail addresses are no kind of list of the program's.
+ADDRESSES = "addresses"
 # The columns that a list may be without.
-OPTIONAL = ("key", "home")
+OPTIONAL = ("key", "home", "house", "floor", "size", "rent", "text")
 LOOKED_AT = 10  # rows in which the names of the columns may be
 
 
@@ -48,8 +56,13 @@ def bare(name: str) -> str:
 
 
 def targets_of(kind: str) -> list[str]:
-    """The columns of a kind of list, as the program has them."""
-    return plain.KINDS[kind].header.split(",")
+    """The columns of a kind of list, as the program has them; or those of addresses."""
+    return ["person", "email"] if kind == ADDRESSES else plain.header_of(kind).split(",")
+
+
+def is_known_as(target: str, name: str) -> bool:
+    """Whether a column of this name is such a column."""
+    return bare(name) in KNOWN[target]
 
 
 def is_known(kind: str, name: str) -> bool:
@@ -112,7 +125,8 @@ def to_do_for(kind: str) -> str:
     target = targets_of(kind)[0]
     others = {"people": "The name may be in two columns, first name and last name. A list without the columns key and home "
                         "is taken too.",
-              "choices": "The choices may be in one column for each: choice 1, choice 2, and so on."}
+              "choices": "The choices may be in one column for each: choice 1, choice 2, and so on.",
+              plain.DESCRIPTIONS: "Only the room is needed, and one column more."}
     return (f"Check that you chose the right kind. Write the names of the columns into the first line: "
             f"{', '.join(targets_of(kind))}. {others.get(kind, '')} For {target} the page also takes "
             f"{', '.join(sorted(KNOWN[target] - {target})[:4])} and the like.").replace("  ", " ")

@@ -9,10 +9,12 @@ from typing import Any, NamedTuple
 
 import bottle  # type: ignore[import]  # Debian's bottle has no types
 
+import times
 from seeds import merged
 
 import explaining
 import plain
+import reasons
 from app import HERE, app, ask, download, drawn_order, field, go_to, office_now, show, tell, text_of
 from keeper_client import KeeperFault, answers_of
 from many_pages import propose_keys
@@ -68,10 +70,11 @@ def own_export(office: Office, name: str) -> str | None:
         return csv_of(["place", "person", "name", "grade", "word"], (
             [place, ident, office.people[ident].name if ident in office.people else "", grade, word]
             for place, word, ident, grade in drawn_order()))
-    if name == "missing":
-        people = office.without_list
-        return csv_of(["person", "name", "home"], ([one.ident, one.name, one.home or ""] for one in people))
-    return None
+    groups = {"missing": office.without_list, "withdrawn": office.withdrawn, "leavers": office.going,
+              "without-room": office.without_room}
+    if name not in groups:
+        return None
+    return csv_of(["person", "name", "home"], ([one.ident, one.name, one.home or ""] for one in groups[name]))
 
 
 @app.get("/office/export/<name>.csv")
@@ -128,14 +131,9 @@ class Copy(NamedTuple):
     more: int
 
 
-def made_of(name: str) -> str:
-    """When a copy was made, by its name, in UTC."""
-    return f"{name[:4]}-{name[4:6]}-{name[6:8]} {name[9:11]}:{name[11:13]}:{name[13:15]}"
-
-
 def copies_of(kept: dict[str, Any]) -> list[Copy]:
-    """The copies as the keeper lists them, the newest first. The name of each is the time when it was made."""
-    return [Copy(name, made_of(name), size // 1024, why, *kept["stays"].get(name, ("", 0)))
+    """The copies as the keeper lists them, the newest first. The name of each is the time when it was made, in UTC."""
+    return [Copy(name, times.of_copy(name), size // 1024, reasons.of_copy(why), *kept["stays"].get(name, ("", 0)))
             for name, size, why in reversed(kept["backups"])]
 
 
@@ -188,7 +186,7 @@ def days_gone(days: int, only_try: bool) -> int:
 @app.post("/office/copies")
 def copy() -> None:
     """Makes a copy of the office."""
-    tell("good", f"The copy {ask('backup')['name']} is made.")
+    tell("good", f"The copy of {times.of_copy(ask('backup')['name'])} is made.")
     go_to("/office/copies")
 
 
@@ -199,7 +197,8 @@ def facts_of(found: dict[str, Any]) -> tuple[Fact, ...]:
              Fact("Names that become again what they were", [f"{ident}: {old}, now {new}" for ident, old, new in found["names"]]),
              Fact("People who come back into the register", named["come"]),
              Fact("People who go out of the register", named["go"]),
-             Fact("People whose lists of this round become again what they were", found["lists"])]
+             Fact("People whose lists of this round become again what they were", found["lists"]),
+             Fact("People whose withdrawal, or note that they leave the college, goes or comes back", found["part"])]
     return tuple(fact for fact in facts if fact.items)
 
 
@@ -208,7 +207,8 @@ def ask_back(name: str) -> str:
     """Asks before the office goes back to a copy."""
     office, found = office_now(), ask("compare", name=name)
     number, phase = found["round"]
-    says = [f"The office becomes again what it was when the copy {name} was made. All that happened since then is "
+    made = times.of_copy(name)
+    says = [f"The office becomes again what it was when the copy was made, on {made}. All that happened since then is "
             "undone: lists that residents handed in, steps of the round, imports, and what you changed in the register.",
             f"Then this holds again: {plain.PHASES[phase].title[0].lower()}{plain.PHASES[phase].title[1:]}"
             + (f" (round {number})." if phase != "idle" else "."),
@@ -216,7 +216,7 @@ def ask_back(name: str) -> str:
             "Tell the residents if they handed in lists after the copy: they have to hand them in again."]
     if found["keys"]:
         says.append("If a key was lost, or others know it, make new keys for these people afterwards.")
-    title = f"Go back to the copy {name}?"
+    title = f"Go back to the copy of {made}?"
     return put_question(office, Question(title, says, "Yes: go back to this copy", "/office/copies", facts=facts_of(found)))
 
 
@@ -224,7 +224,8 @@ def ask_back(name: str) -> str:
 def back(name: str) -> None:
     """Puts a copy back."""
     found = ask("back", name=name, seen=field("seen"))
-    tell("good", f"The office is back at the copy {name}. What it was before is in the copy {found['name']}.")
+    tell("good", f"The office is back at the copy of {times.of_copy(name)}. What it was before is in the copy of "
+                 f"{times.of_copy(found['name'])}.")
     if keys := found.get("keys"):
         of = f"{len(keys)} people work" if len(keys) > 1 else "one person work"
         tell("bad", f"Old keys of {of} again, and the newer ones do not. If a key was lost, or others know it, make a new key "

@@ -8,6 +8,7 @@ from seen import Saw
 
 import known_people
 import list_faults
+import mail_lists
 import plain
 import understanding
 from app import app, ask, change, clerk, field, go_to, memory, office_now, show, tell, text_of, upload_of
@@ -16,6 +17,7 @@ from keeper_client import Answer, answers_of
 from known_people import Beside
 from many_pages import KEYS, MOST_AT_ONCE, acts_for
 from list_faults import Findings
+from mail_lists import NO_ADDRESSES, Addresses
 from office_view import Office
 from questions import Question, put_question
 from sheet_limits import LONGEST_FILE
@@ -32,6 +34,7 @@ class Job(NamedTuple):
     body: bytes
     saw: Saw | None = None  # what the list replaces, or of people that they are not in the register
     departed: tuple[str, ...] = ()  # of people: who is in the register, and not on the list
+    mailed: Addresses = NO_ADDRESSES  # of people: their mail addresses, which the program does not get
 
     def fields(self) -> dict[str, Any]:
         """The list as the keeper takes it."""
@@ -80,8 +83,11 @@ def look_at_list() -> str:
     if len(read.body) > plain.LONGEST_LIST:
         tell("bad", plain.TOO_LONG)
         go_to("/office/lists")
-    beside = known_people.compare(office, read.table) if kind == "people" else NOBODY
-    return looked_at(office, Job(kind, label, read.body), read.table, beside, read)
+    beside, mailed = NOBODY, NO_ADDRESSES
+    if kind == "people":
+        beside = known_people.compare(office, read.table)
+        mailed, read = mail_lists.beside_people(office, body, read)
+    return looked_at(office, Job(kind, label, read.body, mailed=mailed), read.table, beside, read)
 
 
 def looked_at(office: Office, job: Job, table: CsvList, beside: Beside, read: Understood | None) -> str:
@@ -90,7 +96,9 @@ def looked_at(office: Office, job: Job, table: CsvList, beside: Beside, read: Un
     if office.has_label(job.label) and try_list(job).status == 0:
         return known_list(office, job)
     if beside.known and len(beside.known) == len(table.records) - 1:
-        return show("already", office=office, beside=beside, read=read, **departed_form(office, tuple(beside.departed)))
+        held = memory.hold(clerk(), job.mailed) if job.mailed.pairs else ""
+        return show("already", office=office, beside=beside, read=read, mailed=held,
+                    **departed_form(office, tuple(beside.departed)))
     made = []
     if read and job.kind == "people" and field("keys"):
         made = table.fill_keys(beside.known)
@@ -145,6 +153,7 @@ def bring_list() -> str:
         return look_again(office, job)
     elif change("import", **job.fields()):
         memory.let_go(clerk(), name)
+        mail_lists.bring(job.mailed.pairs)
         if job.departed:
             go_to(f"/office/departed/{memory.hold(clerk(), Departed(job.departed))}")
     elif is_stale(office := office_now(), job):

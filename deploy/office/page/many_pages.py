@@ -8,9 +8,10 @@ from journal import masked
 from seen import Saw
 
 import plain
-from app import app, ask, attempt, clerk, field, go_to, memory, office_now, show, tell, text_of
+from app import app, ask, attempt, clerk, field, go_to, memory, office_now, show, tell, text_of, ticked
 from keeper_client import KeeperFault, answers_of
 from office_view import Office
+from questions import must_be_sure
 from slips import show_once
 
 MOST_AT_ONCE = 300
@@ -42,6 +43,8 @@ class Proposed(NamedTuple):
 
 # New keys for many people are one change, with one copy before it, in any phase.
 KEYS = "keys"
+# What cannot be taken back within the round.
+AWAY = ("withdraw", "going")
 ACTS = {
     "withdraw": (("open",), "Withdraw them from the round"),
     "going": (("open",), "Note that they leave the college at the end of the round"),
@@ -53,7 +56,7 @@ ACTS = {
 
 def lines_for(office: Office, act: str, ident: str) -> list[str]:
     """The lines that do something to one person of many."""
-    if act in ("withdraw", "going"):
+    if act in AWAY:
         return [f"{act} {ident}"]
     leave = [f"leave {ident}"] if office.people[ident].home else []
     return leave if act == "leave" else [*leave, f"remove {ident}"]
@@ -98,18 +101,20 @@ def many_proposed(name: str) -> str:
 @app.post("/office/many")
 def look_at_many() -> str:
     """Shows whom the identifiers name, and tries the change on a copy."""
-    office, act, text = office_now(), text_of("act"), masked(field("text"))
+    office, act, text = office_now(), text_of("act"), masked(field("text") or " ".join(ticked("person")))
     acts, everybody = acts_for(office), bool(field("everybody")) and act == KEYS
-    idents = list(dict.fromkeys(re.split(r"[\s,;]+", text.upper().strip(" \t\r\n,;"))))
+    idents = list(dict.fromkeys(filter(None, re.split(r"[\s,;]+", text.upper()))))
     if everybody:
         idents, text = list(office.people), ""
     faults = [f"No person has the identifier {ident[:20]}." for ident in idents if ident not in office.people]
     if act not in acts:
         faults = ["This cannot be done now."]
+    elif not idents:
+        faults = ["You have named nobody."]
     elif len(idents) > MOST_AT_ONCE and act != KEYS:
         faults = [f"These are {len(idents)} identifiers: send at most {MOST_AT_ONCE} at once."]
     known = [office.people[ident] for ident in idents if ident in office.people]
-    if act in ("withdraw", "going"):
+    if act in AWAY:
         faults += [f"{person.ident} has withdrawn already." for person in known if person.withdrawn]
         faults += [f"{person.ident} leaves the college already." for person in known if person.going]
     if act == "going":
@@ -133,6 +138,8 @@ def do_many() -> None:
     if not isinstance(job, Many):
         tell("bad", "The page no longer holds these identifiers. Nothing was changed: send them again.")
         go_to("/office/many")
+    if job.act in AWAY:
+        must_be_sure("/office/many")
     memory.let_go(clerk(), name)
     if job.act == KEYS:
         make_keys(job)
@@ -141,7 +148,7 @@ def do_many() -> None:
             tell("bad", f"{number} of {len(job.groups)} groups of up to {GROUP} people were carried out, and then this "
                         f"came: {fault} Look how far it came before you go on.")
             go_to("/office/register")
-    tell("good", f"Done for {len(job.idents)} people.")
+    tell("good", f"Done for {plain.people(len(job.idents))}.")
     go_to("/office/register")
 
 

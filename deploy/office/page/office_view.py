@@ -87,6 +87,23 @@ class Office:  # pylint: disable=too-many-instance-attributes  # each is a part 
         return [person for person in self.people.values() if person.going]
 
     @property
+    def left(self) -> list[Person]:
+        """Who left the college in the round that was just settled, and is in the register still, without a room."""
+        gone = [self.people[ident] for ident, in self.view["left"] if ident in self.people]
+        return [person for person in gone if not person.home]
+
+    @property
+    def without_room(self) -> list[Person]:
+        """Who takes part and has no room, but for those who have left."""
+        gone = self.left
+        return [person for person in self.participants if not person.home and person not in gone]
+
+    @property
+    def free_rooms(self) -> list[str]:
+        """The rooms in use in which nobody lives."""
+        return [room.code for room in self.rooms.values() if not room.shut and not room.tenant]
+
+    @property
     def has_grades(self) -> bool:
         """Whether anybody has another grade than 0."""
         return any(person.grade for person in self.people.values())

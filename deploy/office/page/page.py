@@ -16,16 +16,25 @@ sys.path.insert(1, str(Path(__file__).resolve().parent.parent))
 import waitress
 
 import about_pages  # noqa: F401  # pylint: disable=unused-import
+import committee_pages  # noqa: F401  # pylint: disable=unused-import
+import date_pages  # noqa: F401  # pylint: disable=unused-import
 import draw_pages  # noqa: F401  # pylint: disable=unused-import
 import file_pages  # noqa: F401  # pylint: disable=unused-import
+import given_up_pages  # noqa: F401  # pylint: disable=unused-import
+import left_pages  # noqa: F401  # pylint: disable=unused-import
 import list_pages  # noqa: F401  # pylint: disable=unused-import
+import mail_address_pages  # noqa: F401  # pylint: disable=unused-import
+import mail_pages  # noqa: F401  # pylint: disable=unused-import
 import many_pages  # noqa: F401  # pylint: disable=unused-import
 import people_pages  # noqa: F401  # pylint: disable=unused-import
 import result_pages  # noqa: F401  # pylint: disable=unused-import
 import room_pages  # noqa: F401  # pylint: disable=unused-import
 import round_pages  # noqa: F401  # pylint: disable=unused-import
 import sample_pages  # noqa: F401  # pylint: disable=unused-import
+import second_pages  # noqa: F401  # pylint: disable=unused-import
 import slips  # noqa: F401  # pylint: disable=unused-import
+import told_pages  # noqa: F401  # pylint: disable=unused-import
+import undo_pages  # noqa: F401  # pylint: disable=unused-import
 from app import LONGEST_FORM, Guarded, app
 
 PLACE = os.environ.get("ROOMS_PAGE_SOCKET", "/var/lib/haproxy/rooms-page.sock")

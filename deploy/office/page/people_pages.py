@@ -9,8 +9,9 @@ import explaining
 import plain
 from app import app, ask, attempt, change, clerk, field, go_to, memory, office_now, saw, show, tell, text_of
 from keeper_client import KeeperFault
-from office_view import Office
-from questions import Question, put_question
+from mail_lists import address_of
+from office_view import Office, Person
+from questions import Question, must_be_sure, put_question
 from slips import show_once
 
 MOST_SHOWN = 200
@@ -47,7 +48,7 @@ def person_page(ident: str) -> str:
     office = office_now()
     person_of(office, ident)
     told = explaining.about(office, ident) if office.results else []
-    return show("person", office=office, person=office.people[ident], told=told)
+    return show("person", office=office, person=office.people[ident], told=told, address=address_of(office, ident))
 
 
 @app.post("/office/person/<ident>/whatif")
@@ -114,24 +115,31 @@ def question_of(office: Office, ident: str, act: str) -> Question | None:
                 "To take it back, let the person move in again, as long as nobody else lives there."]
         return Question(f"Does {who} leave {person.home}?", says, "Yes: leave the room", place)
     if act == "remove":
-        says = ["The room becomes free, and the program forgets name and key. Recorded moves stay.", plain.COPY_FIRST,
+        mail = " The mail address is erased." if office.view.get("mail") else ""
+        says = [f"The room becomes free, and the program forgets name and key.{mail} Recorded moves stay.", plain.COPY_FIRST,
                 "Kept lists and copies still hold the name and the key. Blank the lists on the page Lists in."]
         return Question(f"Remove {who} from the register?", says, "Yes: remove this person", place)
     if act == "withdraw":
         keeps = f"keeps {person.home}, and nobody else can get it" if person.home else "gets no room in it"
-        says = [f"The person takes no part in this round and {keeps}.", "You cannot take it back within this round.",
-                plain.COPY_FIRST]
-        return Question(f"Does {who} withdraw from the round?", says, "Yes: withdraw from the round", place)
+        says = [f"The person takes no part in this round and {keeps}.", plain.NOT_WITHIN, plain.COPY_FIRST]
+        return Question(f"Does {who} withdraw from the round?", says, "Yes: withdraw from the round", place,
+                        tick=right_person(person))
     if act == "going" and person.home:
         says = [f"The person takes no part in this round. {person.home} is given out in it, and the person moves out "
                 "when the round is settled.", "A list that this person handed in counts no more.",
-                "You cannot take it back within this round.", plain.COPY_FIRST]
-        return Question(f"Does {who} leave the college?", says, "Yes: leaves the college", place)
+                plain.NOT_WITHIN, plain.COPY_FIRST]
+        return Question(f"Does {who} leave the college?", says, "Yes: leaves the college", place, tick=right_person(person))
     if act == "key":
         says = ["The old key stops working. The next page shows the new key, once.",
                 "Identifier, name, room, grade and list stay as they are."]
         return Question(f"Make a new key for {who}?", says, "Yes: make a new key", place)
     return None
+
+
+def right_person(person: Person) -> str:
+    """What a clerk ticks before a step that cannot be taken back within the round."""
+    home = f"lives in {person.home}" if person.home else "has no room"
+    return f"I have checked that this is the right person: {person.name}, identifier {person.ident}, who {home}."
 
 
 @app.get("/office/person/<ident>/<act>")
@@ -153,6 +161,8 @@ def change_person(ident: str, act: str) -> None:
     place = person_of(office, ident)
     person = office.people[ident]
     leave = [f"leave {ident}"] if person.home else []
+    if act in ("withdraw", "going"):
+        must_be_sure(f"{place}/{act}")
     if act in ("leave", "withdraw", "going"):
         change("do", lines=[f"{act} {ident}"], saw=saw("all", ident))
     elif act == "remove" and change("do", lines=[*leave, f"remove {ident}"], saw=saw("all", ident)):

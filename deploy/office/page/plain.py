@@ -44,8 +44,8 @@ VERSION = 3
 
 PAGES = {
     "/office/": "Overview", "/office/lists": "Lists in", "/office/register": "People", "/office/rooms": "Rooms",
-    "/office/draw": "Draw", "/office/results": "Results", "/office/print": "Print and export",
-    "/office/copies": "Copies", "/office/journal": "Journal",
+    "/office/told": "For residents", "/office/draw": "Draw", "/office/results": "Results",
+    "/office/print": "Print and export", "/office/copies": "Copies", "/office/journal": "Journal",
 }
 
 PHASES = {
@@ -83,12 +83,29 @@ STEPS = {
     "cancel": Step((), "Give the round up",
                    "All lists, withdrawals, the order and the results of this round are deleted, and so is who leaves "
                    "the college. The number of the round stays used.",
-                   "You cannot take it back. To bring lists of choices in again, send them under a new label: under "
+                   "You cannot take it back. But once you have opened the next round, the page can bring lists, withdrawals "
+                   "and notes of who leaves into it (Overview). To send a list of choices yourself, take a new label: under "
                    "the old label nothing is imported.", True),
 }
 CANCELLABLE = ("open", "closed", "drawn", "ran")
+# Before a withdrawal, and before a note that somebody leaves.
+NOT_WITHIN = ("You cannot take it back within this round. The only ways are to go back to the copy from before, or to give the "
+              "whole round up.")
 COPY_FIRST = ("The keeper makes a copy of the office first. The page Copies brings you back to it; what happens after "
               "the copy is then lost.")
+
+# Why the residents' server does not run.
+STARTING = Meaning("It is being started, as after each change.",
+                   "Load this page again in some seconds. If it still does not run, call the administrator.")
+FAILED = Meaning("The file, the disk or the memory failed, or something ended it. The keeper tries again every few seconds.",
+                 "Call the administrator, who looks whether the disk is full or broken, and reads journalctl -u rooms-keeper.")
+ENDED = Meaning("It refused the office's file, which is right again. It is not started again by itself.",
+                "Call the administrator, who starts the keeper again: systemctl restart rooms-keeper.")
+# What a question says of a step in a round in which nobody takes part.
+NOBODY = {
+    "open": "Nobody is in the register who could take part. You can still bring in rooms and people while the round is open.",
+    "close": "Nobody takes part in this round, so no room will be given.",
+}
 
 OTHER_RESULTS = "The independent audit finds other results. Do not go on, and call the administrator."
 
@@ -104,6 +121,12 @@ KINDS = {
                     ("open",), 1),
 }
 LONGEST_LIST = 262_144
+# What residents read of rooms comes as a list too, which the program knows nothing of.
+DESCRIPTIONS = "descriptions"
+OWN_KINDS = {
+    DESCRIPTIONS: Kind("room,house,floor,size,rent,text", "Room code, and what residents read of the room. All columns but "
+                       "the first may be absent or empty.", tuple(PHASES), 1),
+}
 # The phases in which there is a drawn order.
 DRAWN = ("drawn", "ran", "published")
 
@@ -133,8 +156,12 @@ REFUSALS = {
     16: Meaning("This person takes no part in the round.", "Choose a participant."),
     17: Meaning("This round is not over, or there was no such round.", "Choose a round that is settled."),
     18: Meaning("This room is in use.", "There is nothing to bring back."),
-    21: Meaning("The file is not an office's file.", "Stop, and call the administrator."),
-    22: Meaning("The office's file has another version than the program.", "Call the administrator."),
+    21: Meaning("The file is not an office's file any more: another program than this one has changed it, or it is damaged. "
+                "What this page shows may be wrong.",
+                "Change nothing, and call the administrator. Going back to a copy from before the damage (page Copies) makes the "
+                "office good again; lists that came after the copy are lost then."),
+    22: Meaning("The office's file has another version than the program, as after an upgrade.",
+                "Call the administrator, who brings the file to the version of the program."),
     24: Meaning("This person leaves the college at the end of the round.", "Take the line out of the list."),
 }
 
@@ -170,9 +197,19 @@ CAUSES = {
 }
 
 
+def people(count: int) -> str:
+    """So many people."""
+    return "one person" if count == 1 else f"{count} people"
+
+
 def kinds(version: int) -> dict[str, Kind]:
     """The kinds of lists that an office of this version takes."""
     return {name: kind for name, kind in KINDS.items() if kind.since <= version}
+
+
+def header_of(kind: str) -> str:
+    """The first line of a kind of list."""
+    return {**KINDS, **OWN_KINDS}[kind].header
 
 
 def cause(words: list[str], kind: str) -> Meaning:

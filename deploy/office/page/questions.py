@@ -2,8 +2,8 @@
 
 from typing import NamedTuple
 
-from app import show
-from office_view import Office
+from app import field, go_to, show, tell
+from office_view import Office, Person
 
 
 class Fact(NamedTuple):
@@ -15,17 +15,36 @@ class Fact(NamedTuple):
 
 class Question(NamedTuple):
     """What happens, what the button of yes says, and where no leads. Yes goes to the question's own address. `saw` is
-    the mark of what the clerk saw of a person."""
+    the mark of what the clerk saw of a person, and `tick` what the clerk has to tick before the yes counts."""
 
     title: str
     says: list[str]
     yes: str
     back: str
-    link: tuple[str, str] | None = None
+    links: tuple[tuple[str, str], ...] = ()
     saw: str = ""
+    tick: str = ""
     facts: tuple[Fact, ...] = ()
 
 
 def put_question(office: Office, question: Question) -> str:
     """The page of a question."""
     return show("question", office=office, question=question)
+
+
+def away_facts(office: Office) -> tuple[Fact, ...]:
+    """Who takes no part in the round, by name."""
+    facts = [Fact("Have withdrawn", named(office.withdrawn)), Fact("Leave the college", named(office.going))]
+    return tuple(fact for fact in facts if fact.items)
+
+
+def named(people: list[Person]) -> list[str]:
+    """People with identifier, name and room."""
+    return [f"{person.ident} {person.name}, {person.home or 'no room'}" for person in people]
+
+
+def must_be_sure(back: str) -> None:
+    """Leads back if the clerk has not ticked the box of a question: a browser sends no such form by itself."""
+    if not field("sure"):
+        tell("bad", "Nothing was changed. First tick the box that says what you have checked.")
+        go_to(back)

@@ -115,6 +115,30 @@ def groups_of(office: Office, table: str) -> list[Group]:
     return groups + [Group(f"Circle {number}", note, circle) for number, circle in enumerate(circles, 1)]
 
 
+def counted(count: int, one: str, many: str) -> str:
+    """A number with its noun."""
+    return f"{count} {one if count == 1 else many}"
+
+
+def advice_on(groups: list[Group]) -> str:
+    """How many people move, and how a college gets through the day, if some have to wait for others."""
+    sizes = {word: [len(group.moves) for group in groups if group.title.startswith(word)]
+             for word in ("Leave", "Wave", "Circle")}
+    waves, circles = len(sizes["Wave"]), len(sizes["Circle"])
+    parts = [counted(waves, "wave", "waves")] if waves else []
+    parts += [counted(circles, "circle", "circles")] if circles else []
+    said = f"{counted(sum(sizes['Wave'] + sizes['Circle']), 'person moves', 'people move')}"
+    said += f", in {' and '.join(parts)}." if parts else "."
+    if sizes["Leave"]:
+        said += f" {counted(sum(sizes['Leave']), 'person leaves', 'people leave')} the college."
+    if waves < 2 and not circles:
+        return said
+    return (f"{said} A wave says only who has to wait for whom: each person can move as soon as their own new room is empty. "
+            "It is simplest if everybody who moves brings their things to a store in the morning, and moves in after noon. Then "
+            "all these rooms are empty at noon, and neither waves nor circles matter. Without a store, spread the waves over "
+            "several days.")
+
+
 @app.get("/office/moves/<number:int>")
 def moves(number: int) -> str:
     """The plan of moves: of a round that is over, or on a copy of the round under way."""
@@ -125,4 +149,5 @@ def moves(number: int) -> str:
     if answer.status != 0:
         tell("bad", str(plain.meaning(answer.text)))
         go_to("/office/print")
-    return show("moves", office=office, number=number, groups=groups_of(office, answer.text), planned=planned)
+    groups = groups_of(office, answer.text)
+    return show("moves", office=office, number=number, groups=groups, planned=planned, advice=advice_on(groups))

@@ -7,6 +7,7 @@ from typing import Any
 from bottle import HTTPResponse, abort  # type: ignore[import]  # Debian's bottle has no types
 
 import columns
+import plain
 import sheet_books
 from app import app, download, go_to, tell
 from csv_list import line_of
@@ -16,6 +17,8 @@ ROWS = {
     "people": [["24001", "Ann Ash", "", "N-101"], ["24002", "Bo Li", "", ""]],
     "grades": [["24001", "0"], ["24002", "1"]],
     "choices": [["24001", "N-102 S-201"], ["24002", "N-101"]],
+    plain.DESCRIPTIONS: [["N-101", "North", "1", "14 m²", "412.50 €", "Balcony to the garden"],
+                         ["N-102", "North", "1", "18 m²", "455 €", ""], ["S-201", "South", "2", "12 m²", "380 €", "Quiet"]],
 }
 WORKBOOK = "application/vnd.openxmlformats-officedocument.spreadsheetml.sheet"
 AS_TEXT = "@"

@@ -62,7 +62,7 @@ def sheet_of(keys: list[Key]) -> Sheet:
     address, made = residents_page(), datetime.datetime.now().astimezone()
     slips = [Slip(ident, name, " ".join(key[at:at + 4] for at in range(0, len(key), 4)),
                   picture_of(f"{address}#{key}") if address else "") for ident, name, key in keys]
-    return Sheet(address, f"{made:%Y-%m-%d} at {made:%H:%M:%S}", slips)
+    return Sheet(address, f"{made:%Y-%m-%d} at {made:%H:%M:%S %Z}", slips)
 
 
 def show_once(keys: list[Key], onward: str) -> NoReturn:

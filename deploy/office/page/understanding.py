@@ -15,7 +15,7 @@ import sheet_books
 import sheet_text
 from columns import Columns
 from csv_list import CsvList
-from plain import CAUSES, Meaning
+from plain import CAUSES, DESCRIPTIONS, Meaning
 from sheet_limits import Unreadable
 
 ENDS = " \t\r\n\u00a0\u200b\u200c\u200d\ufeff"
@@ -75,8 +75,12 @@ Step = tuple[str, Callable[[str], str]]
 CODE: list[Step] = [(SPACES, stripped), (CAPITALS, capitals)]
 STEPS: dict[str, list[Step]] = {
     "person": CODE, "room": CODE, "home": CODE, "name": [(SPACES, squeezed)], "key": [(SPACES, stripped)],
-    "grade": [(SPACES, stripped)], "choices": [(SPACES, stripped), (SEPARATED, separated), (CAPITALS, capitals)],
+    "grade": [(SPACES, stripped)], "email": [(SPACES, stripped)],
+    "choices": [(SPACES, stripped), (SEPARATED, separated), (CAPITALS, capitals)],
+    **{target: [(SPACES, squeezed)] for target in ("house", "floor", "size", "rent", "text")},
 }
+# The columns in which letters show whether the character set was guessed rightly.
+LETTERS = {"people": (1,), DESCRIPTIONS: (1, 5)}
 
 
 class Cleaner:
@@ -153,7 +157,8 @@ def understood(kind: str, data: bytes, text: sheet_text.Text) -> Understood:
     table = CsvList.of([(text.rows[found.at][0], targets), *records])
     if text.plain and [record.fields for record in CsvList(data).records] == [record.fields for record in table.records]:
         return Understood(CsvList(data), data, text.what, [], [], [], [], False)
-    first = [list_faults.fields_shown(fields, kind) for _, fields in records[:5]]
+    # The page shows descriptions whole, and not as it shows what may have keys.
+    first = [] if kind == DESCRIPTIONS else [list_faults.fields_shown(fields, kind) for _, fields in records[:5]]
     return Understood(table, table.body(), text.what, names_of(header, found), notes_on(kind, text, found, records),
                       cleaner.changes(), first, True)
 
@@ -173,8 +178,9 @@ def notes_on(kind: str, text: sheet_text.Text, found: Columns, records: list[tup
     if kind == "people":
         absent = {"key": "No column has keys.", "home": "No column has rooms: nobody who is new gets one by this list."}
         notes += [note for target, note in absent.items() if not found.places[target]]
-        letters = [fields[1] for _, fields in records if len(fields) == 4 and not fields[1].isascii()]
-        if text.guessed and letters:
-            notes.append(f"The page guessed the character set. Look whether these names are right: "
-                         f"{list_faults.shown([', '.join(letters[:6])], '')}.")
+    letters = [fields[place] for _, fields in records for place in LETTERS.get(kind, ())
+               if len(fields) == len(found.places) and not fields[place].isascii()]
+    if text.guessed and letters:
+        notes.append(f"The page guessed the character set. Look whether {'these names' if kind == 'people' else 'this'} "
+                     f"{'are' if kind == 'people' else 'is'} right: {list_faults.shown([', '.join(letters[:6])], '')}.")
     return notes

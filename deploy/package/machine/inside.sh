@@ -10,7 +10,7 @@ cd /trial || exit 1
 # shellcheck source=/dev/null # old and new: the versions
 . ./versions
 file=/var/lib/rooms/rooms.db
-units=(rooms-keeper.socket rooms-keeper.service rooms-page.socket rooms-page.service)
+units=(rooms-keeper.socket rooms-keeper.service rooms-page.socket rooms-page.service rooms-told.socket rooms-told.service)
 site=https://rooms.example.org
 rooms=room,state,tenant\ H1,occupied,T1\ H2,occupied,T2\ V,free,
 page=/usr/share/doc/rooms/docs/upgrading.md
@@ -44,9 +44,9 @@ install_package() {
     local began=$SECONDS
     try "the package" dpkg -i "rooms_${old:?}_amd64.deb"
     echo "       in $((SECONDS - began)) s"
-    same "units that systemd starts" "enabled enabled enabled enabled enabled" \
+    same "units that systemd starts" "enabled enabled enabled enabled enabled enabled enabled" \
         "$(systemctl is-enabled "${units[@]}" rooms-backup.timer | xargs)"
-    same "they wait for an office" "inactive inactive inactive inactive" "$(systemctl is-active "${units[@]}" | xargs)"
+    same "they wait for an office" "inactive inactive inactive inactive inactive inactive" "$(systemctl is-active "${units[@]}" | xargs)"
     same "nothing has failed" "" "$(systemctl --failed --plain --no-legend)"
 }
 
@@ -59,7 +59,7 @@ start_office() {
     systemctl daemon-reload
     same "rooms new" "ok" "$(runuser -u rooms -- rooms new --db $file)"
     try "start" systemctl start "${units[@]}"
-    same "all are active" "active active active active" "$(systemctl is-active "${units[@]}" | xargs)"
+    same "all are active" "active active active active active active" "$(systemctl is-active "${units[@]}" | xargs)"
     try "the server listens" within 60 sh -c 'ss -ltn | grep -q 127.0.0.1:290'
     same "no other account can have its port" 1024 "$(cat /proc/sys/net/ipv4/ip_unprivileged_port_start)"
     like "nor can one try" "*Permission denied*" "$(runuser -u nobody -- /usr/bin/python3 -c \
@@ -69,7 +69,7 @@ start_office() {
     # The first of these lines shows that the journal has what the unit wrote.
     same "and is not told that it may not have the port" "rooms-keeper: ready" \
         "$(journalctl --no-pager -o cat -u rooms-keeper.service | grep -e '^rooms-keeper: ready' -e 'ports below')"
-    for unit in rooms-keeper rooms-page; do
+    for unit in rooms-keeper rooms-page rooms-told; do
         local process
         process=$(systemctl show -p MainPID --value "$unit.service")
         same "$unit has its account, no more rights and a filter" "$unit NoNewPrivs: 1 Seccomp: 2" \
@@ -77,8 +77,9 @@ start_office() {
                 "/proc/$process/status" | xargs)"
         echo "       $(systemd-analyze security --no-pager "$unit.service" | tail -n 1)"
     done
-    same "the sockets" "rooms rooms-office 660 root haproxy 660" \
-        "$(stat -c '%U %G %a' /run/rooms-keeper.sock /var/lib/haproxy/rooms-page.sock | xargs)"
+    same "the sockets" "rooms rooms-office 660 root haproxy 660 root haproxy 660" \
+        "$(stat -c '%U %G %a' /run/rooms-keeper.sock /var/lib/haproxy/rooms-{page,told}.sock | xargs)"
+    same "the folder of what residents read of rooms" "rooms 755" "$(stat -c '%U %a' /var/lib/rooms-told)"
     same "the file, for its account alone" "rooms 600 rooms 700" "$(stat -c '%U %a' $file /var/lib/rooms | xargs)"
 }
 
@@ -137,6 +138,14 @@ keep_copies() {
     copy=$(find /var/lib/rooms/backups -mindepth 1 -maxdepth 1 -name '2*Z*' | sort | tail -n 1)
     echo "$copy" >copy
     same "a copy, for the account alone" "rooms 700 rooms 600" "$(stat -c '%U %a' "$copy" "$copy/rooms.db" | xargs)"
+    try "then all that a new machine needs" within 60 sh -c 'test -e /var/backups/rooms/*/SHA256SUMS'
+    local backup
+    backup=$(find /var/backups/rooms -mindepth 1 -maxdepth 1 -name '2*Z*')
+    same "for root alone" "root 700 root 600" "$(stat -c '%U %a' "$backup" "$backup/rooms.db" | xargs)"
+    same "with the office, the journal, the texts, HAProxy's files and what was changed of the system" \
+        "48-rooms.conf haproxy.cfg index.html journal rooms.csv rooms.db rooms.pem slow.conf texts.js" \
+        "$(cd "$backup" && find rooms.db state files -type f -printf '%f\n' | LC_ALL=C sort | xargs)"
+    same "and each as it was saved" "" "$(cd "$backup" && sha256sum --quiet -c SHA256SUMS 2>&1)"
     like "when it comes again" "*rooms-backup.timer*" "$(systemctl list-timers --no-pager rooms-backup.timer)"
 }
 
@@ -161,7 +170,7 @@ upgrade() {
     try "the later version" dpkg -i "rooms_${new:?}_amd64.deb"
     same "rooms --version" "rooms $new" "$(rooms --version | head -n 1)"
     try "residents are answered" within 60 answers
-    same "all are active" "active active active active" "$(systemctl is-active "${units[@]}" | xargs)"
+    same "all are active" "active active active active active active" "$(systemctl is-active "${units[@]}" | xargs)"
     same "the office's page" 200 "$(ask -u clerk:secret $site/office/)"
     same "a line" "ok" "$(clerk do room LATE)"
     try "rooms-restore" rooms-restore "$(cat copy)"
@@ -265,7 +274,7 @@ install_by_page() {
 }
 
 wait_for_migration() {
-    same "all are active" "active active active active" "$(systemctl is-active "${units[@]}" | xargs)"
+    same "all are active" "active active active active active active" "$(systemctl is-active "${units[@]}" | xargs)"
     local began=$SECONDS
     same "a resident cannot sign in" 503 "$(ask -H "Room-Key: $key" $site/me)"
     echo "       after $((SECONDS - began)) s"
@@ -337,7 +346,7 @@ look_for_keys() {
 after_start() {
     part "After a new start of the machine"
     try "the residents are answered" within 120 answers
-    same "all are active" "active active active active" "$(systemctl is-active "${units[@]}" | xargs)"
+    same "all are active" "active active active active active active" "$(systemctl is-active "${units[@]}" | xargs)"
     same "the timer" active "$(systemctl is-active rooms-backup.timer)"
     same "nothing has failed" "" "$(systemctl --failed --plain --no-legend)"
 }
@@ -345,7 +354,7 @@ after_start() {
 remove() {
     part "Remove and purge"
     try "remove" dpkg -r rooms
-    same "nothing of it runs" "" "$(pgrep -u rooms,rooms-page -a)"
+    same "nothing of it runs" "" "$(pgrep -u rooms,rooms-page,rooms-told -a)"
     same "no socket is left" "" "$(find /run /var/lib/haproxy -name 'rooms*')"
     try "purge" dpkg -P rooms
     try "the office is kept" test -e $file

@@ -10,6 +10,8 @@ cd /trial || exit 1
 . ./checks.sh
 key=${1:?the key of a resident}
 export ROOMS_SOCKET=/run/trial/keeper/socket ROOMS_PAGE_SOCKET=/run/trial/page/socket ROOMS_SCRATCH=/run/trial/copies
+# In the folder that HAProxy sees.
+export ROOMS_TOLD_SOCKET=/run/trial/page/told/socket
 at_end() {
     # shellcheck disable=SC2046 # numbers
     kill $(jobs -p) 2>/dev/null
@@ -68,6 +70,7 @@ install -d -m 755 /run/trial
 install -d -o rooms -m 700 /run/trial/copies
 start rooms --clear-groups rooms-office "$ROOMS_SOCKET" /usr/lib/rooms/keeper.py
 start rooms-page --groups=rooms-office haproxy "$ROOMS_PAGE_SOCKET" /usr/lib/rooms/page/page.py
+start rooms-told --clear-groups haproxy "$ROOMS_TOLD_SOCKET" /usr/lib/rooms/told_server.py
 try "HAProxy takes its configuration" haproxy -c -q -f haproxy.cfg
 haproxy -db -f haproxy.cfg &
 try "a resident is answered" within 30 answers
@@ -75,6 +78,8 @@ like "their record" '*"person":"T1"*' "$(cat body)"
 same "a key of nobody" 403 "$(ask /me '' 'Room-Key: 0000000000000000')"
 same "the residents' page" 200 "$(ask / '')"
 like "its text" "*<html*" "$(head -c 300 body)"
+same "what clerks say of rooms" 200 "$(ask /told/told.json '')"
+same "nothing yet" "{}" "$(cat body)"
 same "the office's page without a password" 401 "$(ask /office/ '')"
 same "with a wrong one" 401 "$(ask /office/ clerk:wrong)"
 same "with the right one" 200 "$(ask /office/ clerk:secret)"

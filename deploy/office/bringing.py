@@ -1,0 +1,168 @@
+"""Brings the parts of a machine's backup that are beside the office's file, one file after the other.
+
+Nothing that is there is lost: a file that differs gets a second name beside it, and what was there is named, with a word if
+it is newer than the backup's.
+"""
+
+import contextlib
+import datetime
+import hashlib
+import os
+import re
+import shutil
+import subprocess
+from collections.abc import Callable
+from contextlib import AbstractContextManager
+from pathlib import Path
+from typing import NamedTuple
+
+from journal import Journal
+from machine_backup import FILES, STATE, About, Kept
+from machine_files import CERTIFICATE, MACHINE, PROXY, version
+from placing import to_disk
+from settings import Fault
+
+Owner = Callable[[], AbstractContextManager[None]]
+OPENSSL = ("openssl", "x509", "-noout", "-enddate", "-ext", "subjectAltName", "-in")
+SECONDS = 60
+
+
+class Goal(NamedTuple):
+    """A file of the backup, its checksum, where it goes, and the mode of a folder that has yet to be made there."""
+
+    source: Path
+    sum: str
+    target: Path
+    kept: Kept
+    folder_mode: int
+
+
+def aside(target: Path) -> Path:
+    """A name beside a file for what is there."""
+    now = datetime.datetime.now(datetime.timezone.utc).strftime("%Y%m%dT%H%M%SZ")
+    names = [f"{target.name}.before-{now}", *(f"{target.name}.before-{now}-{number:02}" for number in range(2, 100))]
+    return next(one for name in names if not os.path.lexists(one := target.with_name(name)))
+
+
+def make_folder(folder: Path, mode: int) -> None:
+    """Makes a folder, and those above it, with this mode."""
+    if not folder.is_dir():
+        make_folder(folder.parent, mode)
+        folder.mkdir()
+        folder.chmod(mode)
+
+
+def write(goal: Goal, owner: Owner) -> Path:
+    """Copies a file next to its place, on the disk; it has to be the one that was looked at."""
+    part = goal.target.with_name(f".{goal.target.name}.part")
+    with open(goal.source, "rb") as held, owner():
+        make_folder(goal.target.parent, goal.folder_mode)
+        part.unlink(missing_ok=True)
+        with open(os.open(part, os.O_RDWR | os.O_CREAT | os.O_EXCL | os.O_NOFOLLOW, 0o600), "w+b") as copy:
+            shutil.copyfileobj(held, copy)
+            copy.seek(0)
+            if hashlib.file_digest(copy, "sha256").hexdigest() != goal.sum:
+                part.unlink()
+                raise Fault(f"{goal.source} was changed meanwhile, and was not brought")
+            os.fchmod(copy.fileno(), goal.kept.mode)
+            os.utime(copy.fileno(), (goal.kept.time, goal.kept.time))
+        to_disk(part)
+    return part
+
+
+def bring(goal: Goal, owner: Owner) -> str:
+    """Puts a file in its place, and says what became of what was there."""
+    with owner():
+        there = os.path.lexists(goal.target)
+        same = there and goal.target.is_file() and not goal.target.is_symlink()
+        if same and hashlib.sha256(goal.target.read_bytes()).hexdigest() == goal.sum:
+            return f"as it was: {goal.target}"
+    part = write(goal, owner)
+    with owner():
+        said = f"in place: {goal.target}"
+        if there:
+            newer = ", which is newer than the backup's," if goal.target.lstat().st_mtime > goal.kept.time else ""
+            old = aside(goal.target)
+            os.link(goal.target, old, follow_symlinks=False)
+            said += f"; what was there{newer} is kept: {old}"
+        part.rename(goal.target)
+        to_disk(goal.target.parent)
+    return said
+
+
+def bring_journal(goal: Goal, owner: Owner, copy: str) -> str:
+    """Puts the journal in its place, unless the one that is there has all of it; and notes that the office went back."""
+    size, there = goal.source.stat().st_size, b""
+    with owner(), contextlib.suppress(FileNotFoundError):
+        with open(os.open(goal.target, os.O_RDONLY | os.O_NOFOLLOW), "rb") as held:
+            there = held.read(size)
+    goes_on = hashlib.sha256(there).hexdigest() == goal.sum
+    said = f"as it was: {goal.target}, which begins as the backup's" if goes_on else bring(goal, owner)
+    with owner():
+        journal = Journal(goal.target)
+        journal.end(journal.begin("rooms-restore", f"back {copy}"), "ok", 0, 0)
+    return f"{said}\nthe journal says that the office went back to the copy {copy}"
+
+
+class Rest:
+    """What is to be brought beside the office's file."""
+
+    def __init__(self, folder: Path, about: About, sums: dict[str, str], parts: set[str]) -> None:
+        self.folder, self.about, self.sums, self.parts = folder, about, sums, parts
+
+    def goals(self, top: str, target: Path, folder_mode: int) -> list[Goal]:
+        """What is to be brought out of one folder of the backup."""
+        return [Goal(self.folder / name, self.sums[name], target / Path(name).relative_to(top), kept, folder_mode)
+                for name, kept in self.about.files.items() if name.startswith(f"{top}/") and kept.part in self.parts]
+
+    def bring_state(self, data: Path, owner: Owner) -> None:
+        """What lies beside the office's file, by its owner. The keeper is stopped."""
+        for goal in self.goals(STATE, data, 0o700):
+            print(bring_journal(goal, owner, self.about.copy) if goal.kept.part == "journal" else bring(goal, owner), flush=True)
+
+    def bring_files(self) -> None:
+        """The files of the machine, by root."""
+        for goal in self.goals(FILES, MACHINE, 0o755):
+            print(bring(goal, contextlib.nullcontext), flush=True)
+
+    def remains(self) -> list[str]:
+        """What an administrator has to do by hand."""
+        has = {kept.part for kept in self.about.files.values()}
+        left = []
+        if not has <= self.parts:
+            left.append(f"the backup also has {', '.join(sorted(has - self.parts))}: rooms-restore --with all brings these too")
+        if "proxy" in self.parts:
+            left += [f"the backup lacks {one}: set it up by hand" for one in self.about.absent]
+            left += [*proxy_faults(), *certificate_words(), "run systemctl restart haproxy",
+                     "clerks sign in with the passwords of the backup: take out those who have left since"]
+        if "units" in self.parts & has:
+            left.append("run systemctl daemon-reload, and start the keeper and the page again; systemctl restart rsyslog")
+        if self.parts & {"portal", "proxy"} and self.about.version != version():
+            left.append(f"the backup is of {self.about.version}, and here is {version()}: compare haproxy.cfg and the texts with "
+                        "those of the package, as docs/upgrading.md says")
+        left += [f"{one} was in the group of the clerks' command: usermod -aG rooms-office {one}" for one in self.about.clerks]
+        return left
+
+
+def said_by(*words: str) -> tuple[int, str]:
+    """The status and the words of a command; if it is not there, none."""
+    with contextlib.suppress(OSError, subprocess.TimeoutExpired):
+        done = subprocess.run(words, text=True, check=False, timeout=SECONDS, stdout=subprocess.PIPE, stderr=subprocess.STDOUT)
+        return done.returncode, done.stdout.strip()
+    return -1, ""
+
+
+def proxy_faults() -> list[str]:
+    """What HAProxy first says against its configuration."""
+    status, said = said_by("haproxy", "-c", "-f", str(MACHINE / PROXY))
+    alert = next((line for line in said.splitlines() if "[ALERT]" in line), "")
+    return [] if status in (0, -1) else [f"HAProxy does not take /{PROXY}: {alert}"]
+
+
+def certificate_words() -> list[str]:
+    """Whose the certificate is, and until when: the names have to lead here, and somebody has to renew it."""
+    status, said = said_by(*OPENSSL, str(MACHINE / CERTIFICATE))
+    until, names = re.search("notAfter=(.*)", said), re.findall("DNS:([^,\\s]+)", said)
+    held = f"until {until[1]}" if status == 0 and until else "for a time that could not be read"
+    left = [f"the certificate holds {held}: have it renewed on this machine"] if (MACHINE / CERTIFICATE).exists() else []
+    return [*left, f"{' and '.join(names) or 'the name of the site'} has to lead to this machine"]

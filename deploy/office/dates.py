@@ -1,0 +1,250 @@
+"""Until when lists are taken: the date that a clerk has set, what residents read of it, and the close at that time.
+
+The date belongs to one round, and is forgotten when that is no longer open. It is in a file of its own beside the office's,
+so it survives a restart. A machine that was off or slept at that time closes the round as soon as it runs again.
+"""
+
+import contextlib
+import datetime
+import json
+import os
+import re
+import sqlite3
+import threading
+import time
+import zoneinfo
+from pathlib import Path
+from typing import NamedTuple
+
+from hand import Change, Hand
+from job import Job
+from office import Office
+from placing import beside, to_disk
+from program import is_refused
+from seen import stamp, why_stale
+from settings import Fault, unwritten
+from told import mark_of
+
+WRITTEN = re.compile(r"[0-9]{4}-[0-9]{2}-[0-9]{2}T[0-9]{2}:[0-9]{2}(:[0-9]{2})?")
+LOCALTIME, ZONES = Path("/etc/localtime"), "zoneinfo/"
+LONGEST = datetime.timedelta(days=2 * 366)
+OFTEN, LONGEST_PAUSE = 1.0, 300.0  # seconds between two looks at the clock, and between two tries to close
+CHANGED = "Another date was set since you opened the page. Nothing was changed: look again."
+NOT_OPEN = "No round is open, so no date can be set. Nothing was changed."
+
+
+class Until(NamedTuple):
+    """A date: the moment, how the office's clocks show it, of which zone they are, the round, whether the keeper closes the
+    round then, and who has set it."""
+
+    at: str
+    local: str
+    zone: str
+    round: int
+    closes: bool
+    who: str
+
+    def moment(self) -> datetime.datetime:
+        """The moment."""
+        return datetime.datetime.fromisoformat(self.at)
+
+    def is_past(self) -> bool:
+        """Whether the moment is over."""
+        return datetime.datetime.now(datetime.timezone.utc) >= self.moment()
+
+
+def zone_name() -> str:
+    """The zone of the machine's clocks, by its name."""
+    name = os.environ.get("TZ", "").lstrip(":")
+    if not name:
+        with contextlib.suppress(OSError):
+            name = os.readlink(LOCALTIME).partition(ZONES)[2]
+    try:
+        return zoneinfo.ZoneInfo(name).key
+    except (zoneinfo.ZoneInfoNotFoundError, ValueError, OSError):
+        return "UTC"
+
+
+def zone_of(name: str) -> datetime.tzinfo:
+    """The zone of this name."""
+    return datetime.timezone.utc if name == "UTC" else zoneinfo.ZoneInfo(name)
+
+
+def moment_of(written: str, zone: str) -> datetime.datetime:
+    """The moment at which the clocks of a zone show this. At a change of the clocks an hour is missing, or comes twice."""
+    try:
+        if not WRITTEN.fullmatch(written):
+            raise ValueError
+        local = datetime.datetime.fromisoformat(written)
+    except ValueError as fault:
+        raise Fault("this is no date with a time, such as 2027-05-31 and 12:00. Nothing was changed.") from fault
+    try:
+        held = local.replace(tzinfo=zone_of(zone))
+        first, second = (held.replace(fold=fold).astimezone(datetime.timezone.utc) for fold in (0, 1))
+        shown = first.astimezone(held.tzinfo).replace(tzinfo=None)
+    except (OverflowError, ValueError) as fault:
+        raise Fault("this date is too far away. Nothing was changed.") from fault
+    if shown != local:
+        raise Fault(f"there is no {local:%H:%M} on {local:%Y-%m-%d}: the clocks go forward then ({zone}). Nothing was changed: "
+                    "choose another time.")
+    if first != second:
+        raise Fault(f"{local:%H:%M} comes twice on {local:%Y-%m-%d}: the clocks go back then ({zone}). Nothing was changed: "
+                    "choose another time.")
+    return first
+
+
+class Dates:
+    """The date of the round, and the thread that keeps it."""
+
+    def __init__(self, office: Office, hand: Hand) -> None:
+        self.office, self.hand, self.lock = office, hand, threading.Lock()
+        self.until: Until | None = None
+        self.fault = ""  # why there is no date, or why the round could not be closed
+        self.pause, self.due = OFTEN, 0.0
+        self.published: tuple[Until | None, int] | None = None  # what residents read, and when that was written
+        try:
+            self.until = self.read()
+        except Fault as fault:
+            self.fault = str(fault)
+
+    # --- the file
+
+    def read(self) -> Until | None:
+        """The date, if there is one."""
+        path = self.office.settings.until
+        try:
+            found = Until(**json.loads(path.read_text(encoding="utf-8")))
+            if found.moment().tzinfo is None:
+                raise ValueError("a moment has a zone")
+            return found
+        except FileNotFoundError:
+            return None
+        except (OSError, ValueError, TypeError) as fault:
+            raise Fault(f"the date until which lists are taken is lost: the file {path} is damaged. Set the date again."
+                        ) from fault
+
+    def write(self, until: Until | None) -> None:
+        """Keeps a date, or deletes it."""
+        path = self.office.settings.until
+        part = beside(path, ".part")
+        try:
+            if until is None:
+                path.unlink(missing_ok=True)
+            else:
+                held = os.open(part, os.O_WRONLY | os.O_CREAT | os.O_TRUNC | os.O_CLOEXEC, 0o600)
+                with open(held, "w", encoding="utf-8") as opened:
+                    json.dump(until._asdict(), opened)
+                to_disk(part)
+                part.rename(path)
+            to_disk(path.parent)
+        except OSError as fault:
+            with contextlib.suppress(OSError):
+                part.unlink()
+            raise unwritten("the date", fault) from fault
+        self.until, self.fault, self.pause, self.due = until, "", OFTEN, 0.0
+
+    def publish(self) -> None:
+        """Has residents read the date, without its author. If the administrator has put older texts back, they get it too."""
+        until, told = self.until, self.office.told
+        if self.published != (until, told.changed_at()):
+            told.set_until(until and {"at": until.at, "local": until.local, "zone": until.zone})
+            self.published = (until, told.changed_at())
+
+    # --- what can be asked
+
+    def shown(self) -> Job:
+        """The date as clerks see it, and what a form about it needs."""
+        until = self.until
+        return {"until": until and {**until._asdict(), "past": until.is_past()}, "fault": self.fault, "zone": zone_name(),
+                "mark": mark_of(until)}
+
+    def set(self, job: Job) -> Job:
+        """Sets the date of the open round, or takes it away if `at` is empty."""
+        written, closes, zone = job["at"], job["closes"], zone_name()
+        if not isinstance(written, str) or not isinstance(closes, bool):
+            raise Fault("not understood: at is no text, or closes is not true or false")
+        with self.lock:
+            rows = self.hand.view.rows()
+            if job.get("seen") is not None and (why := why_stale(rows, job["seen"], None)):
+                raise Fault(why)
+            if job.get("saw") is not None and job["saw"] != mark_of(self.until):
+                raise Fault(CHANGED)
+            if rows["phase"] != "open":
+                raise Fault(NOT_OPEN)
+            until = self.made(written, zone, rows["number"], closes, job["who"]) if written else None
+            number = self.office.journal.begin(job["who"], spoken_of(until))
+            try:
+                self.write(until)
+            except Fault as fault:
+                self.office.journal.end(number, f"fault: {fault}", 3, 0)
+                raise
+            self.office.journal.end(number, "ok", 0, 0)
+        try:
+            self.publish()
+        except Fault as fault:
+            return {"untold": str(fault)}
+        return {}
+
+    @staticmethod
+    def made(written: str, zone: str, number: int, closes: bool, who: str) -> Until:
+        """A date to come, if that can be one."""
+        moment, now = moment_of(written, zone), datetime.datetime.now(datetime.timezone.utc)
+        if moment <= now:
+            raise Fault(f"{written.replace('T', ' ')} is past ({zone}). Nothing was changed: choose a later time.")
+        if moment - now > LONGEST:
+            raise Fault("this date is more than two years away. Nothing was changed: look at the year.")
+        return Until(moment.isoformat(), written, zone, number, closes, who)
+
+    # --- the thread
+
+    def start(self) -> None:
+        """Begins to look at the clock."""
+        threading.Thread(target=self.keep, daemon=True).start()
+
+    def keep(self) -> None:
+        """Looks at the clock until the keeper ends."""
+        while not self.hand.over:
+            with contextlib.suppress(Fault, OSError, sqlite3.Error):  # it looks again
+                self.look()
+            time.sleep(OFTEN)
+
+    def look(self) -> None:
+        """Closes the round if its time is over, and forgets the date of a round that is no longer open."""
+        with self.lock:
+            until = self.until
+            if until is not None:
+                rows = self.hand.view.rows()
+                if (rows["number"], rows["phase"]) != (until.round, "open"):
+                    self.forget()
+                elif until.closes and until.is_past() and time.monotonic() >= self.due:
+                    self.close(until)
+        self.publish()
+
+    def forget(self) -> None:
+        """Forgets the date of a round that is no longer open."""
+        self.office.journal.note(who="keeper", line="the date until which lists are taken is forgotten", answer="ok")
+        self.write(None)
+
+    def close(self, until: Until) -> None:
+        """Closes the round, after a copy of the office, as if the clerk had done it now. If that fails, it tries again later."""
+        program, who = self.office.program, f"the date that {until.who} set"
+        change = Change(who, "close", lambda file: [program.tell("close", file)], kind="close",
+                        why=f"before close, by {who}", seen=stamp({"number": until.round, "phase": "open"}))
+        try:
+            answers = self.hand.change(change).answers
+            fault = f"the program answered: {answers[-1].text.strip()}" if is_refused(answers) else ""
+        except (Fault, OSError, sqlite3.Error) as why:
+            fault = str(why)
+        if not fault:
+            self.forget()
+            return
+        self.fault, self.due = fault, time.monotonic() + self.pause
+        self.pause = min(2 * self.pause, LONGEST_PAUSE)
+
+
+def spoken_of(until: Until | None) -> str:
+    """A date as the journal has it."""
+    if until is None:
+        return "no date until which lists are taken"
+    then = "then the round is closed" if until.closes else "then the clerks are reminded"
+    return f"lists are taken until {until.local.replace('T', ' ')} ({until.zone}), {then}"

@@ -1,0 +1,164 @@
+"""The figures of published rounds, kept for the college's committee: a small file beside the journal, without names and
+identifiers (figures_counted.py says what is in it).
+
+A round's lists, order and results are deleted when it is settled. So its figures are taken when it is published, and once more
+before it is settled. A round that was given up has none, nor has one that an office that went back to a copy does not know.
+"""
+
+import contextlib
+import datetime
+import json
+import os
+import sqlite3
+import threading
+from collections.abc import Callable
+from pathlib import Path
+from typing import Any, NamedTuple
+
+from figures_counted import ALL, TABLES, Counts, Tables, coarse
+from lines import verb_of
+from placing import beside, to_disk
+from rows import rows_of
+from seen import Rows
+from settings import Fault
+
+# The lines after which there are other figures, or none.
+STEPS = frozenset({"publish", "settle", "cancel"})
+
+
+class Damaged(Exception):
+    """The file has something else than figures."""
+
+
+class Round(NamedTuple):
+    """The figures of a round: the day on which it was published, whether anybody moves, and the tables."""
+
+    published: str
+    moves: bool
+    tables: Tables
+
+
+def round_of(rows: Rows) -> Round:
+    """The figures of a round that is published."""
+    homes = {row[0]: row[2] for row in rows["people"]}
+    moves = any(homes.get(person) != room for person, room in rows["results"]) or any(homes.get(one) for one, in rows["going"])
+    return Round(datetime.date.today().isoformat(), moves, coarse(Counts(rows).tables()))
+
+
+def is_known(number: int, one: Round, rows: Rows) -> bool:
+    """Whether the office knows this round as published or settled. Of a settled round it keeps the moves, if there were any;
+    other rounds that are over may have been given up."""
+    if number == rows["number"] and rows["phase"] != "idle":
+        return bool(rows["phase"] == "published")
+    return number in rows["settled"] or (not one.moves and number <= rows["number"])
+
+
+def are_tables(tables: Any) -> bool:
+    """Whether something has the form of tables."""
+    return (isinstance(tables, dict) and list(tables.get("all", {})) == [ALL]
+            and all(name in TABLES and isinstance(table, dict) for name, table in tables.items())
+            and all(isinstance(counted, dict) and tuple(counted) == TABLES[name] for name, table in tables.items()
+                    for counted in table.values())
+            and all(isinstance(number, int) for table in tables.values() for counted in table.values()
+                    for number in counted.values()))
+
+
+def rounds_of(text: bytes) -> dict[int, Round]:
+    """The rounds that the file has, by their numbers."""
+    try:
+        rounds = {int(number): Round(**values) for number, values in json.loads(text)["rounds"].items()}
+        for one in rounds.values():
+            datetime.date.fromisoformat(one.published)
+        whole = all(isinstance(one.moves, bool) and are_tables(one.tables) for one in rounds.values())
+    except (ValueError, TypeError, KeyError, AttributeError, RecursionError) as fault:
+        raise Damaged from fault
+    if not whole:
+        raise Damaged
+    return dict(sorted(rounds.items()))
+
+
+class Kept:
+    """The file of the figures."""
+
+    def __init__(self, path: Path) -> None:
+        self.path, self.part, self.lock = path, beside(path, ".part"), threading.Lock()
+
+    def read(self) -> dict[int, Round]:
+        """All rounds that the file has."""
+        try:
+            return rounds_of(self.path.read_bytes())
+        except FileNotFoundError:
+            return {}
+
+    def write(self, rounds: dict[int, Round]) -> None:
+        """Writes the file anew: whole, or not at all."""
+        text = json.dumps({"rounds": {number: one._asdict() for number, one in sorted(rounds.items())}})
+        try:
+            self.part.unlink(missing_ok=True)
+            with open(os.open(self.part, os.O_WRONLY | os.O_CREAT | os.O_EXCL, 0o600), "w", encoding="utf-8") as held:
+                held.write(text + "\n")
+            to_disk(self.part)
+            self.part.rename(self.path)
+            to_disk(self.path.parent)
+        except OSError:
+            with contextlib.suppress(OSError):
+                self.part.unlink()
+            raise
+
+    def shown(self, rows: Rows) -> dict[str, Any]:
+        """What is shown of the rounds that the office knows: number, day and tables of each. And the file, if it is damaged."""
+        try:
+            rounds = self.read()
+        except Damaged:
+            return {"rounds": [], "damaged": str(self.path)}
+        return {"rounds": [[number, one.published, one.tables] for number, one in rounds.items() if is_known(number, one, rows)],
+                "damaged": ""}
+
+    def follow(self, lines: list[str], settled: list[Rows], rows: Callable[[], Rows]) -> str:
+        """Keeps the figures after lines were carried out: `settled` are the rows before each `settle`, `rows` gives those of now.
+        Says what went wrong, if anything: the lines have been carried out."""
+        if STEPS.isdisjoint(map(verb_of, lines)):
+            return ""
+        said: list[str] = []
+        try:
+            with self.lock:
+                self.keep(settled, rows(), said)
+        except (Fault, OSError, sqlite3.Error) as fault:
+            said.append(f"The figures of the round could not be kept ({getattr(fault, 'strerror', None) or fault}).")
+        return " ".join(said)
+
+    def keep(self, settled: list[Rows], now: Rows, said: list[str]) -> None:
+        """Adds the figures of published rounds, and takes those of unknown ones out."""
+        old: dict[int, Round] = {}
+        try:
+            old = self.read()
+        except Damaged:
+            said.append(self.set_aside())
+        new = {number: one for number, one in old.items() if is_known(number, one, now)}
+        for published in [*settled, *([now] if now["phase"] == "published" else [])]:
+            number, taken = published["number"], round_of(published)
+            same = number in old and old[number].tables == taken.tables
+            new[number] = taken._replace(published=old[number].published) if same else taken
+        if new != old:
+            self.write(new)
+
+    def set_aside(self) -> str:
+        """Gives a damaged file another name, so that nothing of it is lost."""
+        other = beside(self.path, f".damaged-{datetime.datetime.now():%Y%m%dT%H%M%S}")
+        self.path.rename(other)
+        return (f"The file of the figures was damaged, and has the name {other} now. The page has no figures of earlier rounds. "
+                "Tell the administrator.")
+
+
+class Before:  # pylint: disable=too-few-public-methods  # it notes, and nothing else
+    """Notes the rows of an office before a line settles its round: afterwards the lists are deleted."""
+
+    def __init__(self, file: Path) -> None:
+        self.file = file  # the office's own file: nobody reads it while a line is carried out on it
+        self.rows: list[Rows] = []
+
+    def look(self, line: str, file: Path) -> None:
+        """Looks at the office, or a copy of it, on which a line is about to be carried out."""
+        if verb_of(line) == "settle" and file != self.file:
+            with contextlib.suppress(sqlite3.Error):  # the program says what is wrong with the file
+                self.rows.append(rows_of(file))

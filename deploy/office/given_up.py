@@ -1,0 +1,63 @@
+"""The rounds that were given up, by the copies that the keeper made before: who had withdrawn, who was to leave the college,
+and the lists. The office's page brings these back into a later round.
+"""
+
+import contextlib
+import sqlite3
+from pathlib import Path
+from typing import Any
+from urllib.parse import quote
+
+from backups import Backups
+from office import Office
+from placing import beside
+from rows import View, rows_of
+from seen import Rows
+from settings import Fault
+
+GIVE_UP = "cancel"  # the kind of the copy that is made before a round is given up
+
+
+def round_in(file: Path) -> tuple[int, str] | None:
+    """The number and the phase of the round in a kept copy, which stays as it is: it is read without a lock. Nothing about
+    one that was damaged."""
+    if beside(file, "-wal").exists():
+        return None
+    with contextlib.suppress(sqlite3.Error):
+        with contextlib.closing(sqlite3.connect(f"file:{quote(str(file))}?mode=ro&immutable=1", uri=True)) as database:
+            found = database.execute("SELECT number, phase FROM round").fetchone()
+            return (int(found[0]), str(found[1])) if found else None
+    return None
+
+
+def rounds(backups: Backups, file: str, now: Rows) -> list[tuple[str, int, str]]:
+    """The copy, the number and the phase of each round that was given up since the last one was settled, the newest first.
+
+    After a way back to a copy, a round that was given up may be under way again: then it is none.
+    """
+    last = now["number"] if now["phase"] == "idle" else now["number"] - 1
+    found: dict[int, tuple[str, int, str]] = {}
+    for name in reversed(backups.names()):
+        had = round_in(backups.folder / name / file) if backups.entry(name)["kind"] == GIVE_UP else None
+        if had and max(now["settled"], default=0) < had[0] <= last:
+            found.setdefault(had[0], (name, *had))
+    return sorted(found.values(), key=lambda one: one[1], reverse=True)
+
+
+def had_in(rows: Rows) -> dict[str, Any]:
+    """What a round had: who had withdrawn, who was to leave the college, and all lists, also of these people."""
+    return {"number": rows["number"], "phase": rows["phase"], "choices": rows["choices"],
+            "withdrawn": [person for person, _, _, withdrawn in rows["people"] if withdrawn],
+            "going": [person for person, in rows["going"]]}
+
+
+def given_up(office: Office, view: View, name: str | None) -> dict[str, Any]:
+    """The rounds that were given up; or, with the name of the copy of one, what that round had."""
+    found = rounds(office.backups, office.settings.file.name, view.rows())
+    if name is None:
+        return {"rounds": found}
+    if name not in [copy for copy, _, _ in found]:
+        raise Fault("no round was given up after this copy was made, or the copy is gone")
+    with office.copies.copied() as copy:
+        office.backups.take(name, copy)
+        return had_in(rows_of(copy))

@@ -1,0 +1,49 @@
+"""A request to the keeper, as its sender wrote it: its parts, each looked at before anything is done."""
+
+import base64
+import binascii
+from typing import Any
+
+from seen import PARTS, Saw
+from settings import Fault
+
+Job = dict[str, Any]
+
+
+def text(job: Job, name: str) -> str:
+    """A field that has to be a text."""
+    value = job[name]
+    if not isinstance(value, str):
+        raise Fault(f"not understood: {name} is no text")
+    return value
+
+
+def seen_in(job: Job) -> str | None:
+    """In which state the sender saw the office, if the request says so."""
+    return text(job, "seen") if job.get("seen") is not None else None
+
+
+def saw_in(job: Job) -> Saw | None:
+    """What the sender saw of people, if the request says so."""
+    if job.get("saw") is None:
+        return None
+    part, people, mark = job["saw"]
+    if part not in PARTS or not isinstance(people, list) or not all(isinstance(one, str) for one in people):
+        raise Fault("not understood: saw is no part of what is on record of people")
+    return Saw(part, people, mark)
+
+
+def lines_of(job: Job) -> list[str]:
+    """The lines of a request."""
+    lines = job["lines"]
+    if not isinstance(lines, list) or not lines or not all(isinstance(line, str) for line in lines):
+        raise Fault("not understood: lines are no list of texts")
+    return lines
+
+
+def body_of(job: Job) -> bytes:
+    """The bytes of a list."""
+    try:
+        return base64.b64decode(text(job, "body"), validate=True)
+    except binascii.Error as fault:
+        raise Fault("not understood: the body is not in base 64") from fault

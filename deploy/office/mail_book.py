@@ -1,0 +1,193 @@
+"""The file of the mail: addresses, texts, and which message went to whom. It is beside the office's file, and in no copy.
+
+A message is `begun` in the file, and on the disk, before the mail server gets it, and has its outcome afterwards. So
+after a crash at most one message is uncertain, and the file says which. What was sent stays sent when the office goes
+back to a copy; so this file does not.
+"""
+
+import contextlib
+import datetime
+import sqlite3
+import threading
+from collections.abc import Iterable, Iterator
+from pathlib import Path
+from typing import Any, NamedTuple
+
+from mail_words import Text
+from settings import Fault
+
+WAITING, BEGUN, SENT, REFUSED, UNCERTAIN = "waiting", "begun", "sent", "refused", "uncertain"
+RUNNING, PAUSED, ENDED = "running", "paused", "ended"
+TABLES = """
+CREATE TABLE IF NOT EXISTS address(person TEXT PRIMARY KEY, email TEXT NOT NULL);
+CREATE TABLE IF NOT EXISTS text(kind TEXT PRIMARY KEY, subject TEXT NOT NULL, body TEXT NOT NULL);
+CREATE TABLE IF NOT EXISTS turn(kind TEXT, round INTEGER, number INTEGER NOT NULL, PRIMARY KEY(kind, round));
+CREATE TABLE IF NOT EXISTS message(kind TEXT, round INTEGER, turn INTEGER, person TEXT, state TEXT NOT NULL, at TEXT NOT NULL,
+  why TEXT NOT NULL, PRIMARY KEY(kind, round, turn, person));
+CREATE TABLE IF NOT EXISTS run(one INTEGER PRIMARY KEY, kind TEXT NOT NULL, round INTEGER NOT NULL, turn INTEGER NOT NULL,
+  subject TEXT NOT NULL, body TEXT NOT NULL, link TEXT NOT NULL, who TEXT NOT NULL, state TEXT NOT NULL, why TEXT NOT NULL,
+  at TEXT NOT NULL);
+"""
+# The messages of the run, which is the only one.
+OF_RUN = "(kind, round, turn) = (SELECT kind, round, turn FROM run)"
+
+
+class Run(NamedTuple):
+    """Messages that are sent one after the other: what they are, as the clerk saw them, and how far they are."""
+
+    kind: str
+    round: int
+    turn: int
+    subject: str
+    body: str
+    link: str
+    who: str
+    state: str
+    why: str
+    at: str
+
+    @property
+    def text(self) -> Text:
+        """The text of its messages."""
+        return Text(self.subject, self.body)
+
+
+def now() -> str:
+    """The time, to the second."""
+    return datetime.datetime.now().astimezone().isoformat(timespec="seconds")
+
+
+class Book:
+    """The file. Each call is done, and on the disk, when it returns."""
+
+    def __init__(self, path: Path) -> None:
+        self.path, self.lock = path, threading.RLock()
+
+    @contextlib.contextmanager
+    def opened(self) -> Iterator[sqlite3.Connection]:
+        """The file, for one change, of which all takes effect or nothing. What is deleted is overwritten."""
+        with self.lock:
+            try:
+                with contextlib.closing(sqlite3.connect(self.path)) as database:
+                    database.executescript("PRAGMA secure_delete = ON; PRAGMA synchronous = EXTRA; PRAGMA temp_store = MEMORY;"
+                                           + TABLES)
+                    with database:
+                        yield database
+            except sqlite3.OperationalError as fault:
+                raise Fault(f"the file of the mail could not be read or written ({fault}). Nothing was changed in it.") from fault
+            except sqlite3.DatabaseError as fault:
+                raise Fault(f"the file of the mail, {self.path}, is damaged. Tell the administrator: it has to be moved away. "
+                            "Then bring the addresses in again; what was sent is not known any more.") from fault
+
+    def rows(self, query: str, *values: Any) -> list[Any]:
+        """What a query gives. Of a file that is not there, nothing."""
+        if not self.path.exists():
+            return []
+        with self.opened() as database:
+            return database.execute(query, values).fetchall()
+
+    # --- addresses and texts
+
+    def addresses(self) -> dict[str, str]:
+        """The address of each person who has one."""
+        return dict(self.rows("SELECT person, email FROM address ORDER BY person"))
+
+    def set_addresses(self, addresses: dict[str, str]) -> None:
+        """Gives people these addresses. An empty one takes a person's address away."""
+        with self.opened() as database:
+            database.executemany("INSERT OR REPLACE INTO address VALUES (?, ?)", addresses.items())
+            database.execute("DELETE FROM address WHERE email = ''")
+
+    def erase(self, people: Iterable[str]) -> None:
+        """Erases all that the file has of people."""
+        if self.path.exists():
+            with self.opened() as database:
+                for table in ("address", "message"):
+                    database.executemany(f"DELETE FROM {table} WHERE person = ?", [(person,) for person in people])
+
+    def has(self, person: str) -> dict[str, Any]:
+        """All that the file has of a person."""
+        found = self.rows("SELECT email FROM address WHERE person = ?", person)
+        sent = self.rows("SELECT kind, round, state, at FROM message WHERE person = ? ORDER BY at", person)
+        return {"address": found[0][0] if found else "", "sent": sent}
+
+    def texts(self) -> dict[str, Text]:
+        """The texts that clerks have written, by kind."""
+        return {kind: Text(subject, body) for kind, subject, body in self.rows("SELECT kind, subject, body FROM text")}
+
+    def set_text(self, kind: str, text: Text) -> None:
+        """Keeps a text."""
+        with self.opened() as database:
+            database.execute("INSERT OR REPLACE INTO text VALUES (?, ?, ?)", (kind, *text))
+
+    # --- messages
+
+    def turn(self, kind: str, number: int) -> int:
+        """Which message of this kind it is in a round, from 1: each person gets one a turn."""
+        return int((self.rows("SELECT number FROM turn WHERE kind = ? AND round = ?", kind, number) or [[1]])[0][0])
+
+    def begin_turn(self, kind: str, number: int, turn: int) -> None:
+        """Begins another turn: everybody can get a message of this kind once more."""
+        with self.opened() as database:
+            database.execute("INSERT OR REPLACE INTO turn VALUES (?, ?, ?)", (kind, number, turn))
+
+    def states(self, kind: str, number: int, turn: int) -> dict[str, list[str]]:
+        """What became of the messages of a turn, by person: the state, the time, and why."""
+        found = self.rows("SELECT person, state, at, why FROM message WHERE kind = ? AND round = ? AND turn = ? ORDER BY person",
+                          kind, number, turn)
+        return {person: rest for person, *rest in found}
+
+    def forget_uncertain(self, kind: str, number: int, turn: int) -> None:
+        """Takes uncertain messages for such that were not sent."""
+        with self.opened() as database:
+            database.execute("DELETE FROM message WHERE kind = ? AND round = ? AND turn = ? AND state = ?",
+                             (kind, number, turn, UNCERTAIN))
+
+    # --- the run
+
+    def run(self) -> Run | None:
+        """The last run, if there was one."""
+        found = self.rows("SELECT * FROM run")
+        return Run(*found[0][1:]) if found else None
+
+    def start(self, run: Run, people: list[str]) -> None:
+        """Begins a run. Messages of rounds that are long over are forgotten."""
+        key = (run.kind, run.round, run.turn)
+        with self.opened() as database:
+            database.execute("INSERT OR REPLACE INTO run VALUES (1, ?, ?, ?, ?, ?, ?, ?, ?, ?, ?)", run)
+            database.executemany("INSERT OR REPLACE INTO message VALUES (?, ?, ?, ?, ?, ?, '')",
+                                 [(*key, person, WAITING, run.at) for person in people])
+            for table in ("message", "turn"):
+                database.execute(f"DELETE FROM {table} WHERE round < ?", (run.round - 1,))
+
+    def set_run(self, state: str, why: str) -> None:
+        """How far the run is. With its end, what still waits is no message any more."""
+        with self.opened() as database:
+            database.execute("UPDATE run SET state = ?, why = ?, at = ?", (state, why, now()))
+            if state == ENDED:
+                database.execute(f"DELETE FROM message WHERE {OF_RUN} AND state = ?", (WAITING,))
+
+    def waiting(self) -> list[str]:
+        """Who waits for a message of the run."""
+        return [person for person, in self.rows(f"SELECT person FROM message WHERE {OF_RUN} AND state = ? ORDER BY person",
+                                                WAITING)]
+
+    def mark(self, person: str, state: str, why: str = "") -> None:
+        """What becomes of a message of the run."""
+        with self.opened() as database:
+            database.execute(f"UPDATE message SET state = ?, at = ?, why = ? WHERE {OF_RUN} AND person = ?",
+                             (state, now(), why, person))
+
+    def skip(self, person: str) -> None:
+        """The message of the run to this person is none any more."""
+        with self.opened() as database:
+            database.execute(f"DELETE FROM message WHERE {OF_RUN} AND person = ?", (person,))
+
+    def end_begun(self) -> int:
+        """Of messages that were begun, and whose outcome nobody has noted, nobody knows whether they were sent. Gives how
+        many are uncertain for this reason now."""
+        if not self.path.exists():
+            return 0
+        with self.opened() as database:
+            why = "the keeper was ended, or could not write, while this message was on its way"
+            return database.execute("UPDATE message SET state = ?, why = ? WHERE state = ?", (UNCERTAIN, why, BEGUN)).rowcount

@@ -1,0 +1,159 @@
+"""What can come back of a round that was given up into the round that is open: notes of who leaves the college, withdrawals,
+and lists of choices. The keeper has them in the copy that it made before the round was given up.
+"""
+
+from typing import NamedTuple
+
+import plain
+from app import ask
+from csv_list import line_of
+from keeper_client import KeeperFault
+from office_view import Office
+
+MOST_NAMED = 10
+
+
+class GivenUp(NamedTuple):
+    """A round that was given up: the copy that was made before, its number, and its phase then."""
+
+    copy: str
+    number: int
+    phase: str
+
+
+class Had(NamedTuple):
+    """What a round had when it was given up."""
+
+    number: int
+    withdrawn: list[str]
+    going: list[str]
+    choices: dict[str, list[str]]
+
+
+class Back(NamedTuple):
+    """What can come back, what is here already, and what cannot come back, with the reason of each.
+
+    `lists` has also the lists of those who may withdraw or leave again: they come back if these people do not.
+    """
+
+    going: list[str]
+    withdrawn: list[str]
+    lists: dict[str, list[str]]
+    here: list[str]
+    never: list[str]
+
+    @property
+    def away(self) -> list[str]:
+        """Everybody who may leave or withdraw again."""
+        return self.going + self.withdrawn
+
+    def lists_but(self, away: list[str]) -> dict[str, list[str]]:
+        """The lists that come back if these people take no part."""
+        return {ident: wishes for ident, wishes in self.lists.items() if ident not in away}
+
+
+def rounds(office: Office) -> list[GivenUp]:
+    """The rounds that were given up since the last one was settled, the newest first, as long as something can come back."""
+    if office.phase not in ("idle", "open"):
+        return []
+    try:
+        return [GivenUp(*found) for found in ask("given-up")["rounds"]]
+    except KeeperFault:  # no copy can be read, and the page Copies says why; what the clerk asked for goes on
+        return []
+
+
+def had_in(copy: str) -> Had:
+    """What a round had when it was given up."""
+    found = ask("given-up", name=copy)
+    return Had(found["number"], found["withdrawn"], found["going"], found["choices"])
+
+
+def what_is_left(office: Office, had: Had) -> Back:
+    """What of a round can come back into the round of now."""
+    back = Back([], [], {}, [], [])
+    for ident in had.going:
+        sort_in(ident, back.going, back, why_not(office, ident, "going"))
+    for ident in had.withdrawn:
+        sort_in(ident, back.withdrawn, back, why_not(office, ident, "withdrawn"))
+    for ident, wishes in had.choices.items():
+        person = office.people.get(ident)
+        if person is None:
+            back.never.append(f"{ident}: the list; the person is not in the register any more.")
+        elif person.takes_part and not office.choices.get(ident):
+            take_list(office, ident, wishes, back)
+        elif person.takes_part:
+            back.here.append(f"{ident}: a list")
+    return back
+
+
+def sort_in(ident: str, can: list[str], back: Back, why: str | None) -> None:
+    """Puts somebody who took no part where they belong."""
+    if why is None:
+        back.here.append(ident)
+    elif why:
+        back.never.append(f"{ident}: {why}")
+    else:
+        can.append(ident)
+
+
+def why_not(office: Office, ident: str, part: str) -> str | None:
+    """Why a withdrawal, or a note that somebody leaves, cannot come back. An empty text if it can, nothing if it is here."""
+    person = office.people.get(ident)
+    if person is None:
+        return "the person is not in the register any more."
+    if getattr(person, part):
+        return None
+    if person.going:
+        return "the withdrawal; the person leaves the college in this round."
+    if person.withdrawn:
+        return "the note; the person has withdrawn from this round."
+    if part == "going" and not person.home:
+        return "the note; the person has no room any more. Withdraw them instead."
+    return ""
+
+
+def take_list(office: Office, ident: str, wishes: list[str], back: Back) -> None:
+    """A list without the rooms that nobody may list now. In a round these count for nothing."""
+    usable = [code for code in wishes if code in office.rooms and not office.rooms[code].shut]
+    out = [code for code in wishes if code not in usable]
+    if usable:
+        back.lists[ident] = usable
+    if out:
+        back.never.append(f"{ident}: of the list {' '.join(out)}, out of use.")
+
+
+def has_come_again(office: Office, ident: str) -> bool:
+    """Whether somebody who took no part has handed in a list since: they seem to want to take part now."""
+    return bool(office.choices.get(ident))
+
+
+def still_missing(office: Office, given_up: GivenUp) -> str:
+    """What of a round is not back in the round of now, but could be; or nothing. A clerk has to know it before the round is
+    closed."""
+    try:
+        back = what_is_left(office, had_in(given_up.copy))
+    except KeeperFault as fault:
+        return f"nobody knows what ({str(fault).rstrip('.')})"
+    away = {"who leaves the college": back.going, "who has withdrawn": back.withdrawn}
+    left = {what: [one for one in idents if not has_come_again(office, one)] for what, idents in away.items()}
+    left["lists"] = list(back.lists_but(back.away))
+    return "; ".join(f"{what} ({listed(idents)})" for what, idents in left.items() if idents)
+
+
+def listed(idents: list[str]) -> str:
+    """A few people by identifier, and of many the number."""
+    return ", ".join(idents) if len(idents) <= MOST_NAMED else plain.people(len(idents))
+
+
+def bodies(lists: dict[str, list[str]]) -> list[tuple[list[str], bytes]]:
+    """Lists of choices as the program imports them, each with its people, and none longer than the program takes."""
+    parts: list[tuple[list[str], bytes]] = []
+    people: list[str] = []
+    body = head = line_of(plain.KINDS["choices"].header.split(",")).encode()
+    for ident, wishes in lists.items():
+        line = line_of([ident, " ".join(wishes)]).encode()
+        if people and len(body) + len(line) > plain.LONGEST_LIST:
+            parts.append((people, body))
+            people, body = [], head
+        people, body = [*people, ident], body + line
+    return [*parts, (people, body)] if people else parts

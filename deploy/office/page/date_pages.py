@@ -1,0 +1,32 @@
+"""Until when lists are taken: the form on the overview."""
+
+from app import app, ask, field, go_to, tell, text_of
+from keeper_client import KeeperFault
+
+
+def set_date(at: str, closes: bool, good: str) -> None:
+    """Has the keeper set the date, or take it away, and says what came of it."""
+    try:
+        reply = ask("set-until", at=at, closes=closes, seen=field("seen"), saw=field("saw"))
+    except KeeperFault as fault:
+        tell("bad", f"{str(fault)[:1].upper()}{str(fault)[1:]}")
+        return
+    tell("good", good)
+    if why := reply.get("untold"):
+        tell("bad", f"But residents do not read it: {why}")
+
+
+@app.post("/office/until")
+def set_until() -> None:
+    """Sets the date until which lists are taken."""
+    closes = text_of("closes") == "yes"
+    then = "The keeper closes the round then." if closes else "The overview reminds you then; the keeper closes nothing."
+    set_date(f"{text_of('date')}T{text_of('time')}", closes, f"The date is set. {then}")
+    go_to("/office/")
+
+
+@app.post("/office/until/drop")
+def drop_until() -> None:
+    """Takes the date away."""
+    set_date("", False, "There is no date any more. The round stays open until you close it.")
+    go_to("/office/")

@@ -1,0 +1,152 @@
+"""Brings back into the round that is open what a round had that was given up: notes of who leaves, withdrawals, and lists."""
+
+from dataclasses import dataclass, field as own
+from typing import ClassVar, NamedTuple
+
+from bottle import request  # type: ignore[import]  # Debian's bottle has no types
+
+import plain
+from app import app, ask, clerk, field, go_to, memory, office_now, show, tell, ticked
+from coming_back import GivenUp, bodies, had_in, has_come_again, rounds, what_is_left
+from keeper_client import KeeperFault, answers_of
+from list_pages import Job
+from many_pages import fault_of, groups_of
+from office_view import Office
+from questions import must_be_sure
+
+
+class Row(NamedTuple):
+    """Somebody who took no part in the round that was given up, as the form shows them."""
+
+    ident: str
+    name: str
+    home: str
+    is_ticked: bool
+    note: str
+
+
+class TakenOut(NamedTuple):
+    """Whom the clerk has taken out of the form. They stay out when the form is shown again."""
+
+    idents: list[str]
+
+
+def round_of(office: Office, copy: str) -> GivenUp:
+    """The round that was given up after this copy was made. If there is none, leads to the overview."""
+    found = next((one for one in rounds(office) if one.copy == copy), None)
+    if found is None:
+        tell("bad", "Nothing of this round can come back now.")
+        go_to("/office/")
+    return found
+
+
+def out_of(idents: list[str]) -> list[str]:
+    """Who is not ticked: the one person who is being undone, or everybody whom the clerk has taken out before."""
+    query = dict(request.query)
+    if "out" not in query:
+        return [query["but"]] if "but" in query else []
+    held = memory.held(clerk(), query["out"])
+    if isinstance(held, TakenOut):
+        return held.idents
+    tell("bad", "The page no longer knows whom you had taken out. Tick again who is to come back.")
+    return idents
+
+
+def rows_of(office: Office, idents: list[str], out: list[str]) -> list[Row]:
+    """The people of a part of the form. People who have handed in a list since are not ticked either."""
+    found = []
+    for ident in idents:
+        again = has_come_again(office, ident)
+        note = "taken out: this does not come back" if ident in out else "has handed in a list in this round" if again else ""
+        person = office.people[ident]
+        found.append(Row(ident, person.name, person.home or "no room", not note, note))
+    return found
+
+
+@app.get("/office/given-up/<copy>")
+def given_up(copy: str) -> str:
+    """What of a round can come back, for the clerk to choose from."""
+    office = office_now()
+    found, back = round_of(office, copy), what_is_left(office, had_in(copy))
+    out = out_of(back.away)
+    parts = {"going": rows_of(office, back.going, out), "withdrawn": rows_of(office, back.withdrawn, out)}
+    away = [row.ident for rows in parts.values() for row in rows if row.is_ticked]
+    lists = back.lists_but(away)
+    return show("given_up", office=office, given_up=found, back=back, parts=parts, lists=lists, rest=away or lists,
+                others=[one for one in rounds(office) if one.copy != copy])
+
+
+@app.post("/office/given-up/<copy>")
+def bring_back(copy: str) -> None:
+    """Brings back what the clerk has chosen, and says what came in and what did not."""
+    office = office_now()
+    round_of(office, copy)
+    back, going, withdrawn = what_is_left(office, had_in(copy)), ticked("going"), ticked("withdrawn")
+    out = TakenOut([ident for ident in back.away if ident not in going + withdrawn])
+    place = f"/office/given-up/{copy}?out={memory.hold(clerk(), out)}"
+    must_be_sure(place)
+    if office.phase != "open" or field("seen") != office.stamp:
+        tell("bad", f"Nothing was changed. {plain.PHASES[office.phase].title}. Look again.")
+        go_to(place)
+    if field("saw") != office.saw("all", *back.away).mark:
+        tell("bad", "Nothing was changed. What is on record of one of these people was changed after you looked. Look again.")
+        go_to(place)
+    came = Came()
+    came.take_away(office, "going", [ident for ident in back.going if ident in going])
+    came.take_away(office, "withdraw", [ident for ident in back.withdrawn if ident in withdrawn])
+    if field("lists"):
+        came.take_lists(back.lists_but(going + withdrawn))
+    came.report()
+    go_to(place)
+
+
+@dataclass
+class Came:
+    """What has come in so far, and the fault that has ended this, if any."""
+
+    WORDS: ClassVar = {"going": "who leaves the college", "withdraw": "withdrawals"}
+
+    done: list[str] = own(default_factory=list)
+    fault: str = ""
+
+    def take_away(self, office: Office, act: str, idents: list[str]) -> None:
+        """Withdraws people, or notes that they leave, group by group."""
+        count = 0
+        for group in groups_of(office, act, idents):
+            self.fault = self.fault or fault_of(group)
+            if self.fault:
+                break
+            count += len(group.saw.people)
+        if count:
+            self.done.append(f"{self.WORDS[act]}: {count} of {len(idents)}")
+
+    def take_lists(self, lists: dict[str, list[str]]) -> None:
+        """Imports the lists of those who have handed in none meanwhile, under a label each if they are too long for one."""
+        office, count = office_now(), 0
+        left = {ident: wishes for ident, wishes in lists.items() if not office.choices.get(ident)}
+        for people, body in bodies(left):
+            job = Job("choices", office_now().new_label("choices"), body, office.saw("list", *people))
+            self.fault = self.fault or fault_of_list(job)
+            if self.fault:
+                break
+            count += len(people)
+        if count:
+            self.done.append(f"lists: {count} of {len(left)}")
+
+    def report(self) -> None:
+        """Tells the clerk."""
+        if self.done:
+            tell("good", f"Back in this round: {', '.join(self.done)}.")
+        if self.fault:
+            tell("bad", f"Then this came: {self.fault} What is not back yet stands below: look, and go on.")
+        elif not self.done:
+            tell("bad", "You have chosen nothing. Nothing was changed.")
+
+
+def fault_of_list(job: Job) -> str:
+    """Imports a list, unless somebody of it has handed in one meanwhile. What went wrong, or nothing."""
+    try:
+        reply = ask("import", seen=field("seen"), **job.fields())
+    except KeeperFault as fault:
+        return str(fault)
+    return "" if reply["done"] else str(plain.meaning(answers_of(reply)[-1].text))

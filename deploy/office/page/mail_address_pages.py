@@ -1,0 +1,89 @@
+"""Mail addresses: a list of them, those of one person, and the file of all."""
+
+from bottle import HTTPResponse  # type: ignore[import]  # Debian's bottle has no types
+
+import columns
+import plain
+from app import app, ask, clerk, download, field, go_to, memory, office_now, show, tell, text_of, upload_of
+from csv_list import line_of
+from keeper_client import KeeperFault
+from list_faults import Findings
+from mail_lists import Addresses, bring, in_file
+from people_pages import person_of
+from sheet_limits import LONGEST_FILE
+from understanding import NotUnderstood
+
+HOME = "/office/mail"
+
+
+@app.get(f"{HOME}/addresses.csv")
+def export() -> HTTPResponse:
+    """All addresses, as they can come in again."""
+    rows = [columns.targets_of(columns.ADDRESSES), *([ident, text] for ident, text in ask("mail-list")["addresses"].items())]
+    return download("".join(map(line_of, rows)), "addresses.csv")
+
+
+@app.post(f"{HOME}/addresses")
+def look_at_addresses() -> str:
+    """Reads a file of addresses. Nothing is changed before the clerk says yes."""
+    office, body = office_now(), upload_of("list", LONGEST_FILE)
+    if not body or len(body) > LONGEST_FILE:
+        tell("bad", plain.TOO_LONG if body else "Choose a list first.")
+        go_to(HOME)
+    try:
+        found = in_file(office, body)
+    except NotUnderstood as fault:
+        tell("bad", f"Nothing came in. {Findings([], fault.meaning, False).whole}")
+        go_to(HOME)
+    go_to(f"{HOME}/addresses/{memory.hold(clerk(), found)}")
+
+
+@app.get(f"{HOME}/addresses/<name>")
+def addresses(name: str) -> str:
+    """What a file of addresses would change."""
+    found = memory.held(clerk(), name)
+    if not isinstance(found, Addresses):
+        tell("bad", "The page no longer holds this list. Nothing came in now.")
+        go_to(HOME)
+    old = ask("mail-list")["addresses"]
+    new = [ident for ident, _ in found.pairs if ident not in old]
+    other = [(ident, old[ident], text) for ident, text in found.pairs if ident in old and old[ident] != text]
+    return show("mail_addresses", office=office_now(), found=found, new=new, other=other, held=name)
+
+
+@app.post(f"{HOME}/addresses/bring")
+def bring_addresses() -> None:
+    """Brings addresses in."""
+    name = text_of("held")
+    found = memory.held(clerk(), name)
+    if not isinstance(found, Addresses):
+        tell("bad", "The page no longer holds this list. Nothing came in now: send it again.")
+    elif bring(found.pairs):
+        memory.let_go(clerk(), name)
+    go_to(HOME)
+
+
+@app.post(f"{HOME}/strangers")
+def erase_strangers() -> None:
+    """Erases the addresses of people who are not in the register."""
+    strangers = ask("mail")["strangers"]
+    set_addresses({ident: "" for ident in strangers})
+    go_to(HOME)
+
+
+@app.post(f"{HOME}/person/<ident>")
+def set_address(ident: str) -> None:
+    """Sets one person's address."""
+    place = person_of(office_now(), ident)
+    set_addresses({ident: text_of("email")}, was=field("was"))
+    go_to(place)
+
+
+def set_addresses(pairs: dict[str, str], was: str | None = None) -> None:
+    """Sets addresses, and tells the clerk. An empty one is none."""
+    try:
+        changed = ask("mail-addresses", addresses=pairs, was=was)["changed"]
+    except KeeperFault as fault:
+        tell("bad", f"The mail address was not changed: {fault}")
+        return
+    tell("good", "The mail address is changed." if changed == 1 else f"{changed} mail addresses are changed.")

@@ -1,0 +1,207 @@
+"""What residents read of rooms: the notice and the contact, descriptions as a list, plans and pictures.
+
+All of it is public, and can be changed at any time. None of it is in the office's file.
+"""
+
+import base64
+import re
+from typing import Any, NamedTuple
+
+from told import FIELDS, LONGEST_CAPTION, LONGEST_CONTACT, LONGEST_NOTICE, MOST_OF_ROOM
+
+import pictures
+import plain
+import told_rooms
+import understanding
+from app import app, ask, clerk, field, go_to, memory, office_now, residents_page, show, tell, text_of, upload_of, uploads_of
+from keeper_client import KeeperFault
+from list_faults import Fault
+from office_view import Office
+from questions import Question, put_question
+from sheet_limits import LONGEST_FILE, Unreadable
+from told_rooms import Rooms
+from understanding import NotUnderstood
+
+PLACE = "/office/told"
+# The languages of the residents' page, and what a clerk reads of each.
+LANGUAGES = {"en": "English", "de": "German"}
+PICTURE = re.compile(r"[0-9a-f]{32}\.jpg")
+SHOWN = 20  # rooms of a list that are shown before it is on the page
+
+
+class Job(NamedTuple):
+    """Descriptions that were understood and wait for the clerk's yes, with the mark of those that they replace."""
+
+    rooms: Rooms
+    mark: str
+
+
+def told_now() -> tuple[dict[str, Any], dict[str, str]]:
+    """What residents read now, and its marks."""
+    found = ask("told")
+    return found["told"], found["marks"]
+
+
+def tell_keeper(question: str, good: str, **fields: Any) -> bool:
+    """Has the keeper change what residents read, and says what came of it."""
+    try:
+        ask(question, **fields)
+    except KeeperFault as fault:
+        tell("bad", f"{str(fault)[:1].upper()}{str(fault)[1:]}")
+        return False
+    tell("good", good)
+    return True
+
+
+@app.get(PLACE)
+def told_page() -> str:
+    """What residents read now, and the forms."""
+    office, (told, marks) = office_now(), told_now()
+    without = [code for code, room in office.rooms.items() if code not in told["rooms"] and not room.shut]
+    unknown = [code for code in {**told["rooms"], **told["pictures"]} if code not in office.rooms]
+    return show("told", office=office, told=told, marks=marks, languages=LANGUAGES, without=without, unknown=unknown,
+                most_notice=LONGEST_NOTICE, most_contact=LONGEST_CONTACT, most_caption=LONGEST_CAPTION,
+                most_pictures=MOST_OF_ROOM, address=residents_page())
+
+
+# --- the notice and the contact
+
+def lines_of(name: str) -> str:
+    """A field of several lines, without spaces at the ends of lines and empty lines at its own ends."""
+    return "\n".join(line.strip() for line in field(name).strip().splitlines())
+
+
+@app.post(f"{PLACE}/words")
+def tell_words() -> str:
+    """Puts the notice and the contact on the residents' page. What cannot be put there stays in the form."""
+    notice, contact = {language: lines_of(f"notice-{language}") for language in LANGUAGES}, text_of("contact")
+    if tell_keeper("tell-words", "The notice and the contact are on the residents' page.", notice=notice, contact=contact,
+                   saw=field("saw")):
+        go_to(PLACE)
+    return show("told_words", office=office_now(), notice=notice, contact=contact, languages=LANGUAGES,
+                marks=told_now()[1], most_notice=LONGEST_NOTICE, most_contact=LONGEST_CONTACT)
+
+
+# --- descriptions
+
+@app.post(f"{PLACE}/rooms")
+def look_at_rooms() -> str:
+    """Reads a list of descriptions. Nothing is on the residents' page before the clerk says so."""
+    office, body = office_now(), upload_of("list", LONGEST_FILE)
+    if not body or len(body) > LONGEST_FILE:
+        tell("bad", plain.TOO_LONG if body else "Choose a list first.")
+        go_to(PLACE)
+    try:
+        read = understanding.read(plain.DESCRIPTIONS, body)
+    except NotUnderstood as fault:
+        return show("told_faults", office=office, whole=fault.meaning, faults=list[Fault]())
+    if len(read.body) > plain.LONGEST_LIST:
+        tell("bad", plain.TOO_LONG)
+        go_to(PLACE)
+    said = told_rooms.described(read.table)
+    if said.faults or not said.rooms:
+        whole = None if said.faults else plain.Meaning("This list says nothing of any room.",
+                                                       f"Fill in one of the columns {', '.join(FIELDS)}.")
+        return show("told_faults", office=office, whole=whole, faults=said.faults)
+    told, marks = told_now()
+    return show("told_rooms", office=office, read=read, rooms=said.rooms, shown=list(said.rooms.items())[:SHOWN],
+                beside=told_rooms.beside(office, told["rooms"], said.rooms), now=told["rooms"], fields=FIELDS,
+                held=memory.hold(clerk(), Job(said.rooms, marks["rooms"])))
+
+
+@app.post(f"{PLACE}/rooms/bring")
+def bring_rooms() -> None:
+    """Puts descriptions on the residents' page."""
+    name = text_of("held")
+    job: Any = memory.held(clerk(), name)
+    if not isinstance(job, Job):
+        tell("bad", "The page no longer holds this list. Nothing was changed now: send it again.")
+    elif tell_keeper("tell-rooms", f"The descriptions of {len(job.rooms)} rooms are on the residents' page.",
+                     rooms=job.rooms, saw=job.mark):
+        memory.let_go(clerk(), name)
+    go_to(PLACE)
+
+
+@app.get(f"{PLACE}/rooms/drop")
+def ask_drop_rooms() -> str:
+    """Asks before all descriptions go."""
+    told, marks = told_now()
+    says = [f"The residents' page no longer says anything of {len(told['rooms'])} rooms. Pictures stay.",
+            "You cannot take it back here: to have the descriptions again, send your list again."]
+    return put_question(office_now(), Question("Take all descriptions away?", says, "Yes: take them away", PLACE,
+                                               saw=marks["rooms"]))
+
+
+@app.post(f"{PLACE}/rooms/drop")
+def drop_rooms() -> None:
+    """Takes all descriptions away."""
+    tell_keeper("tell-rooms", "The descriptions are gone.", rooms={}, saw=field("saw"))
+    go_to(PLACE)
+
+
+# --- pictures
+
+def room_of(office: Office, name: str) -> str:
+    """The room that the name of a file begins with, such as N-101-2.jpg; nothing if the register has no such room."""
+    stem = name.rpartition(".")[0].upper()
+    found = [code for code in office.rooms if stem == code or re.match(rf"{re.escape(code)}[-_. ]", stem)]
+    return max(found, key=len, default="")
+
+
+def add_picture(office: Office, code: str, name: str, data: bytes) -> str:
+    """Adds one picture. Gives why it could not be added, or nothing."""
+    room = code or room_of(office, name)
+    if room not in office.rooms:
+        return f"no room {code} is in the register." if code else "its name begins with no room code of the register."
+    try:
+        body = base64.b64encode(pictures.small(data)).decode()
+        ask("add-picture", room=room, body=body, shows=text_of("shows")[:LONGEST_CAPTION])
+    except (Unreadable, KeeperFault) as fault:
+        return str(fault)
+    return ""
+
+
+@app.post(f"{PLACE}/pictures")
+def add_pictures() -> None:
+    """Adds pictures. Each that cannot be added is named, with the reason; the others come in."""
+    office, code, count = office_now(), text_of("room").upper(), 0
+    files = [(name, data) for name, data in uploads_of("pictures") if data]
+    if not files:
+        tell("bad", "Choose a picture first.")
+    for name, data in files:
+        why = add_picture(office, code, name, data)
+        count += not why
+        if why:
+            tell("bad", f"{name} was not added: {why}")
+    if count:
+        tell("good", f"{count} {'picture is' if count == 1 else 'pictures are'} on the residents' page.")
+    go_to(PLACE)
+
+
+@app.get(f"{PLACE}/room/<code>")
+def room_page(code: str) -> str:
+    """What residents read of one room, with its pictures."""
+    told, _ = told_now()
+    if code not in told["rooms"] and code not in told["pictures"]:
+        tell("bad", "Residents read nothing of this room.")
+        go_to(PLACE)
+    return show("told_room", office=office_now(), code=code, said=told["rooms"].get(code, {}), fields=FIELDS,
+                pictures=told["pictures"].get(code, []))
+
+
+@app.get(f"{PLACE}/room/<code>/<file>/drop")
+def ask_drop_picture(code: str, file: str) -> str:
+    """Asks before a picture goes."""
+    if not PICTURE.fullmatch(file):
+        go_to(PLACE)
+    says = [f"Residents no longer see this picture of {code}. Browsers that have shown it may keep it for a day.",
+            "You cannot take it back here: to have it again, send its file again."]
+    return put_question(office_now(), Question(f"Take a picture of {code} away?", says, "Yes: take it away",
+                                               f"{PLACE}/room/{code}"))
+
+
+@app.post(f"{PLACE}/room/<code>/<file>/drop")
+def drop_picture(code: str, file: str) -> None:
+    """Takes a picture away."""
+    tell_keeper("drop-picture", f"The picture of {code} is gone.", room=code, file=file)
+    go_to(PLACE)

@@ -1,0 +1,114 @@
+"""Undoes a withdrawal, or a note that somebody leaves the college: what has to be done, what is lost, and what comes back.
+
+The program undoes neither within a round. The page leads from one step to the next. How far the clerk has come, it sees from
+the office, so it can be left and opened again.
+"""
+
+import re
+from typing import Any, NamedTuple
+
+import plain
+from app import app, ask, change, field, go_to, office_now, show, tell
+from coming_back import GivenUp, had_in, has_come_again, rounds, what_is_left
+from keeper_client import KeeperFault
+from office_view import Office
+from people_pages import person_of
+from questions import away_facts, must_be_sure
+
+WITHDRAWN, GOING = "has withdrawn", "leaves the college"
+# How the person can be helped without undoing it.
+LATER = {
+    WITHDRAWN: "Somebody who has withdrawn keeps the room that they have. After the round is settled, somebody without a room can "
+               "move into a free one (page People), or take part in a second round.",
+    GOING: "Somebody who leaves the college has no room once the round is settled, and the old room may be another person's by "
+           "then. Do not remove the person from the register. After the round is settled you can let them move into a free room "
+           "(page People), or they can take part in a second round.",
+}
+# The steps of the long way, which the page takes itself.
+STEPS = {"cancel": plain.CANCELLABLE, "open": ("idle",)}
+
+
+class Before(NamedTuple):
+    """The copy that was made before somebody withdrew or was noted to leave, and what else would become of people by going
+    back to it."""
+
+    name: str
+    others: list[str]
+
+
+def part_of(office: Office, ident: str) -> str:
+    """Why somebody takes no part in the round of now, or nothing."""
+    person = office.people[ident]
+    return WITHDRAWN if person.withdrawn else GOING if person.going else ""
+
+
+def given_up_with(office: Office, ident: str) -> tuple[GivenUp, str] | None:
+    """The last round that was given up, if the person took no part in it, and why."""
+    for found in rounds(office)[:1]:
+        had = had_in(found.copy)
+        if ident in had.withdrawn + had.going:
+            return found, WITHDRAWN if ident in had.withdrawn else GOING
+    return None
+
+
+def others_in(found: dict[str, Any], ident: str) -> list[str]:
+    """What else would become of people by going back to a copy, in a few words each."""
+    counts = {"with another list": found["lists"], "with another part in the round": [one for one in found["part"] if one != ident],
+              "with another key": found["keys"], "with another name": found["names"],
+              "who come back into the register": found["come"], "who go out of the register": found["go"]}
+    return [f"{plain.people(len(people))} {what}" for what, people in counts.items() if people]
+
+
+def copy_before(office: Office, ident: str) -> Before | None:
+    """The newest copy from before this one step, if it is of this round as it is now. A resident who withdraws makes none."""
+    named = re.compile(rf"before (?:.*; )?(?:going|withdraw) {re.escape(ident)}(?![A-Z0-9])")
+    for name, _, why in reversed(ask("backups")["backups"]):
+        if not named.match(why):
+            continue
+        try:
+            found = ask("compare", name=name)
+        except KeeperFault:  # the copy is damaged, or has gone
+            continue
+        if found["round"] == [office.number, office.phase] and ident in found["part"]:
+            return Before(name, others_in(found, ident))
+    return None
+
+
+@app.get("/office/undo/<ident>")
+def undo(ident: str) -> str:
+    """The ways to undo it, with the step that comes next."""
+    office = office_now()
+    place, part = person_of(office, ident), part_of(office, ident)
+    if part and office.phase in STEPS["cancel"]:
+        before = copy_before(office, ident) if office.phase == "open" else None
+        return show("undo", office=office, person=office.people[ident], part=part, step="cancel", before=before, copy="",
+                    facts=away_facts(office), later=LATER[part])
+    if not part and (found := given_up_with(office, ident)):
+        return next_step(office, ident, *found)
+    tell("bad", f"{plain.PHASES[office.phase].title}. It can no longer be undone. {LATER[part]}" if part else
+         "There is nothing to undo: this person takes part, and took part in the last round that was given up.")
+    return go_to(place)
+
+
+def next_step(office: Office, ident: str, given_up: GivenUp, part: str) -> str:
+    """The page of the step that comes after the round was given up."""
+    left = what_is_left(office, had_in(given_up.copy))
+    rest = [one for one in left.away if one != ident and not has_come_again(office, one)]
+    step = "open" if office.phase == "idle" else "back" if rest or left.lists_but(rest) else "done"
+    return show("undo", office=office, person=office.people[ident], part=part, step=step, before=None, copy=given_up.copy,
+                facts=(), later="")
+
+
+@app.post("/office/undo/<ident>")
+def take_step(ident: str) -> None:
+    """Takes a step of the long way, and leads to the next one."""
+    office, step = office_now(), field("step")
+    person_of(office, ident)
+    place = f"/office/undo/{ident}"
+    if step not in STEPS or office.phase not in STEPS[step]:
+        tell("bad", f"This step does not come now. {plain.PHASES[office.phase].title}.")
+        go_to(place)
+    if step == "cancel":
+        must_be_sure(place)
+    change("do", lines=[step])
+    go_to(place)

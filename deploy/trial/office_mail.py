@@ -1,0 +1,312 @@
+"""Mail to residents: /usr/bin/python3 deploy/trial/office_mail.py PROGRAM.
+
+Addresses by lists and one by one, texts with placeholders, results and moves, and people who go: they are gone from the mail.
+"""
+
+import csv
+import io
+import re
+import sys
+from pathlib import Path
+
+# The repository stays as it is.
+sys.dont_write_bytecode = True
+
+# pylint: disable=wrong-import-position  # nothing may be written before
+from mail_server import MailServer
+from office_requests import Page, hand_in
+from office_sheets import bring_in
+from refused import swap
+from stand import HOST, Stand, check, key_of, until
+
+SENDER = "Wohnbüro <office@college.example>"
+PEOPLE = [f"T{number:02}" for number in range(1, 13)]
+NAME = "Zoë {link} Žák"
+FORM = "/office/mail"
+NOTHING = {"address": "", "sent": [], "fault": ""}
+
+
+def mail_of(person):
+    """The address of a person of this trial."""
+    return f"{person.lower()}.resident@college.example"
+
+
+def settle_mail(stand, mail_server, **others):
+    """Writes the administrator's settings."""
+    values = {"server": f"localhost:{mail_server.port}", "from": SENDER, "bounces-to": "bounces@college.example",
+              "reply-to": "help@college.example", "per-minute": "6000", "seconds": "5", **others}
+    text = "\n".join(["[mail]", *(f"{name} = {value}" for name, value in values.items() if value), ""])
+    (stand.folder / "mail.conf").write_text(text, encoding="utf-8")
+
+
+def kind_of(stand, kind):
+    """How it stands with a kind of message."""
+    return stand.ask(ask="mail")["kinds"][kind]
+
+
+def press(page, kind):
+    """The clerk looks at the question, and says yes."""
+    place = f"{FORM}/{kind}/send"
+    return page.form(place, page=place)
+
+
+def rest(stand, *states):
+    """Waits until the run is over, or stops, and gives it."""
+    until(lambda: stand.ask(ask="mail")["run"]["state"] in (states or ("ended", "paused")), 60, "the run of the mail")
+    return stand.ask(ask="mail")["run"]
+
+
+def once_more(page, kind, act="again"):
+    """The clerk lets people get a message once more."""
+    place = f"{FORM}/{kind}/{act}"
+    page.form(place, page=place)
+
+
+def logs_of(stand):
+    """What is in a log or in the journal, and has an address, a name or a key."""
+    logs = [stand.proxy_log(), stand.log("page"), stand.log("keeper"), (stand.data / "journal").read_text(encoding="utf-8")]
+    return [line for line in "".join(logs).splitlines() if re.search(r"@college|\.resident|Žák|Person T|key0{5}", line)]
+
+
+def try_off(stand, page):
+    """Without settings there is no mail."""
+    shown = "".join(page.get(path)[2] for path in ("/office/", "/office/register", "/office/lists", "/office/person/T01"))
+    check("without settings no page says a word of mail", not re.search(r"\bmail\b|e-?mail", shown, re.I), shown)
+    status, _, shown = page.get(FORM)
+    check("and there is no page of it", status == 503 and "this office sends no mail" in shown.lower(), shown)
+    shown = bring_in(page, "people", "people-off", ["person", "name", "key", "email"],
+                     [["T90", "Tea Off", key_of("T90"), mail_of("T90")]])
+    check("a list of people with a column of addresses leaves it out", "left out" in shown, shown)
+    check("and no address is kept", stand.ask(ask="mail-list")["addresses"] == {} and not (stand.data / "mail.db").exists())
+
+
+def try_settings(stand, server):
+    """Settings that are none are named."""
+    for wrong, said in (({"smtp": "x"}, "no setting smtp"),
+                        ({"server": "mail.college.example:25"}, "server is no mail server of this"),
+                        ({"from": "the office"}, "from is no address"), ({"per-minute": "0"}, "per-minute is no number"),
+                        ({"bounces-to": "a@b.c, d@e.f"}, "bounces-to is no address"),
+                        ({"server": "localhost:0"}, "server is no number")):
+        settle_mail(stand, server, **wrong)
+        answer = stand.ask(ask="mail")
+        check(f"the setting {wrong} is refused by name", said in answer.get("fault", ""), answer)
+    (stand.folder / "mail.conf").write_text("server\n", encoding="utf-8")
+    check("and so is a file that is none", "not written as it should be" in stand.ask(ask="mail")["fault"])
+    settle_mail(stand, server)
+    check("with good settings there is mail", stand.ask(ask="mail")["from"] == SENDER)
+
+
+def try_people_list(stand, page):
+    """Addresses come in with a list of people, and the program does not get them."""
+    rows = [[person, f"Person {person}", key_of(person), "", mail_of(person)] for person in PEOPLE[:8]]
+    rows[1][1], rows[6][4], rows[7][4] = NAME, "t07 at college.example", "T01.Resident@college.example"
+    shown = bring_in(page, "people", "people-1", ["person", "name", "key", "home", "E-Mail"], rows)
+    said = ("mail address, kept beside the register", "7 mail addresses come in with the list", "1 line without a good address",
+            "t07 at college.example", "more than once: T01 T08")
+    missing = [one for one in said if one not in " ".join(shown.split())]
+    check("the page says which addresses come in, and which do not", not missing, (missing, shown))
+    kept = stand.ask(ask="mail-list")["addresses"]
+    check("they are kept by identifier", kept == {**{one: mail_of(one) for one in PEOPLE[:6]}, "T08": rows[7][4]}, kept)
+    people = [row[0] for row in stand.ask(ask="view")["people"]]
+    check("and the program's file has none", not holds(stand, "rooms.db*", "@college") and people == [*PEOPLE, "T90"], people)
+    check("this trial finds addresses where they are", holds(stand, "mail.db", mail_of("T01")))
+    mode = (stand.data / "mail.db").stat().st_mode & 0o777
+    check("that file is for its account alone", mode == 0o600, oct(mode))
+    shown = bring_in(page, "people", "people-2", ["person", "name", "email"], [["T07", "Person T07", mail_of("T07")]])
+    place = "".join(re.findall(r'href="(/office/mail/addresses/\w+)"', shown))
+    check("a list with nobody new offers its addresses", place and "Nobody on this list is new" in shown, shown)
+    shown = page.get(place)[2]
+    check("and shows what they change", "1 person gets an address, and 0 get another one" in " ".join(shown.split()), shown)
+    page.form(f"{FORM}/addresses/bring", {"held": place.rpartition("/")[2]}, page=FORM)
+    check("then they are in", stand.ask(ask="mail-list")["addresses"].get("T07") == mail_of("T07"))
+
+
+def holds(stand, pattern, text):
+    """Whether one of these files of the keeper has a text."""
+    return any(text.encode() in one.read_bytes() for one in stand.data.glob(pattern))
+
+
+def send_file(page, body):
+    """Sends a file of addresses, and gives the page that follows."""
+    fields = page.form(f"{FORM}/addresses", page=FORM, files={"list": body})[1]
+    return fields["location"], page.get(fields["location"])[2]
+
+
+def try_address_list(stand, page):
+    """Addresses come in alone."""
+    rows = "".join(f"{person};Person;{mail_of(person)}\r\n" for person in PEOPLE[7:11])
+    wrong = "".join(["T99;Nobody;t99@college.example\r\n", "T12;Two;a@college.example, b@college.example\r\n",
+                     "T08;x;t08@college.example\r\n"])
+    place, shown = send_file(page, f"Matrikelnummer;Name;E-Mail-Adresse\r\n{rows}{wrong}".encode("cp1252"))
+    said = ("3 people get an address, and 1 gets another one", "Nobody has this identifier", "not one mail address",
+            "with another address already")
+    missing = [one for one in said if one not in " ".join(shown.split())]
+    check("a file of addresses is looked at first", not missing, (missing, shown))
+    check("and changes nothing before the yes", "T09" not in stand.ask(ask="mail-list")["addresses"])
+    page.form(f"{FORM}/addresses/bring", {"held": place.rpartition("/")[2]}, page=place)
+    kept = stand.ask(ask="mail-list")["addresses"]
+    check("then it is in", kept == {one: mail_of(one) for one in PEOPLE[:11]}, kept)
+    exported = page.get(f"{FORM}/addresses.csv")[2]
+    check("all can be downloaded", dict(csv.reader(io.StringIO(exported))) == {"person": "email", **kept}, exported)
+    shown = send_file(page, exported.encode())[1]
+    same = "11 stay as they are" in shown and "Bring the addresses in" not in shown
+    check("and change nothing if they come in again", same, shown)
+    place = page.form(f"{FORM}/addresses", page=FORM, files={"list": b"person,name\nT01,Ann\n"})[1]["location"]
+    shown = page.get(place)[2]
+    check("a file without addresses is refused", "Nothing came in" in shown and "email" in shown, shown)
+
+
+def try_one_address(stand, page):
+    """One person's address."""
+    def put(was, new):
+        form = {**page.hidden("/office/person/T12", f"{FORM}/person/T12"), "email": new, "was": was}
+        page.post(f"{FORM}/person/T12", form)
+        return page.get("/office/person/T12")[2]
+    for wrong in ("t12", "a@b", "a b@c.de", "=a@c.de", "a@c.de\r\nBcc: e@c.de", "x" * 65 + "@c.de", "a@c.de,b@c.de", "<a@c.de>"):
+        shown = put("", wrong)
+        kept = stand.ask(ask="mail-list")["addresses"]
+        check(f"{wrong[:30]!r} is no address", "is no mail address" in shown and "T12" not in kept, shown)
+    shown = put("", mail_of("T12"))
+    check("a person's page sets an address, and shows it", f'value="{mail_of("T12")}"' in shown, shown)
+    shown = put("", "other@college.example")
+    check("an old form changes nothing", "was changed after you looked" in shown and mail_of("T12") in shown, shown)
+
+
+def try_texts(stand, page):
+    """A clerk writes a text, and sees one message."""
+    place, old = f"{FORM}/invitation", kind_of(stand, "invitation")["text"]
+    shown = page.form(place, {"subject": "For {nmae}", "body": "Dear {name}, {result} {link", "person": "T02"}, page=place)[2]
+    said = ("There is no placeholder {nmae}", "There is no placeholder {result}", "A brace { or } stands alone", "For {nmae}")
+    check("a placeholder that is none is refused by name", all(one in shown for one in said), shown)
+    check("and the text stays what it was", kind_of(stand, "invitation")["text"] == old)
+    body = "Dear {name} ({person}), room {room}, round {round}:\r\n{link}\r\n\r\n.\r\nŽ\r\n"
+    text = {"subject": "Räume für {name}", "body": body}
+    fields = page.form(place, {**text, "person": "t02"}, page=place)[1]
+    check("a good text leads to the message", fields.get("location") == f"{place}/to/T02", fields)
+    shown = page.get(fields["location"])[2]
+    parts = (f"Dear {NAME} (T02), room none, round 1:\nhttps://{HOST}/", f"Räume für {NAME}", mail_of("T02"))
+    check("which is shown as that person gets it", all(one in shown for one in parts), shown)
+    for subject in ("a\r\nBcc: eve@college.example", "a\nb", "a\0b", ""):
+        answer = stand.ask(ask="mail-text", kind="invitation", subject=subject, body="x")
+        check(f"the keeper takes no subject {subject!r}", "fault" in answer, answer)
+
+
+def try_results(stand, page, server):
+    """Results and moves, each with its own sentence."""
+    for line in ("room A-1", "room A-2", "room A-3", "home T02 A-1", "home T01 A-2"):
+        stand.office(line)
+    stand.office("open")
+    for person, wishes in (("T01", ["A-3"]), ("T02", ["A-2"])):
+        check(f"{person} hands in", hand_in(stand, key_of(person), wishes) == 200)
+    stand.office("close")
+    stand.ask(ask="draw", who="anna", seed="0" * 64)
+    stand.office("run")
+    check("results are not sent before they are published", kind_of(stand, "results")["to"] == [])
+    stand.office("publish")
+    server.forget()
+    press(page, "results")
+    rest(stand)
+    got = {recipients[0]: message.get_content() for _, _, recipients, message in server.got}
+    for person, said in (("T01", "Your new room is A-3."), ("T02", "Your new room is A-2."),
+                         ("T04", "You get no room in this round.")):
+        check(f"{person} reads: {said}", said in got[mail_of(person)], got)
+    server.forget()
+    press(page, "moves")
+    rest(stand)
+    got = {recipients[0]: message.get_content() for _, _, recipients, message in server.got}
+    for person, said in (("T01", "You move from A-2 to A-3, as one of the first."),
+                         ("T02", "You move from A-1 to A-2, in wave 2: once the people of wave 1 have moved.")):
+        check(f"{person}, who moves, reads when", said in got[mail_of(person)] and len(got) == 2, got)
+    once_more(page, "results")
+    right = dict(stand.ask(ask="view")["results"])
+    swap(stand, {**right, "T01": None})
+    fields = page.get(f"{FORM}/results/send")[1]
+    check("results that the audit does not find are not sent", fields.get("location") == "/office/results", fields)
+    swap(stand, right)
+    stand.until_listening(stand.server_port)
+    stand.office("settle")
+
+
+def try_gone(stand, page):
+    """Who is removed or forgotten is gone from the mail."""
+    shown = page.get("/office/about/T04")[2]
+    there = mail_of("T04") in shown and "results of round 2, sent" in shown
+    check("all about one person has the address, and what was sent", there, shown)
+    said = stand.command("about", "T04")[1]
+    check("and so has the clerk's command", f"mail address {mail_of('T04')}" in said and "results of round 2, sent" in said, said)
+    stand.office("remove T04")
+    check("a person who is removed has no address", not holds(stand, "mail.db*", mail_of("T04"))
+          and stand.ask(ask="about", person="T04")["mail"] == NOTHING)
+    check("this trial finds the next one", holds(stand, "mail.db", mail_of("T05")) and holds(stand, "mail.db", "T05"))
+    shown = page.get("/office/forget/T05")[2]
+    check("the question says that the address goes", "the mail address is erased" in shown, shown)
+    page.form("/office/forget/T05", page="/office/forget/T05")
+    check("a person who is forgotten is gone from the mail", not holds(stand, "mail.db*", mail_of("T05"))
+          and stand.ask(ask="about", person="T05")["mail"] == NOTHING)
+    shown = page.form("/office/many", {"act": "remove", "text": "T06 T07"}, page="/office/many")[2]
+    page.post("/office/many/do", dict(re.findall(r'type="hidden" name="(token|seen|held)" value="([^"]*)"', shown)))
+    check("so are many", not holds(stand, "mail.db*", mail_of("T06")) and not holds(stand, "mail.db*", mail_of("T07")))
+    copy = stand.ask(ask="backup")["name"]
+    check("no copy of the office has an address", not holds(stand, f"backups/{copy}/*", "@college.example"))
+
+
+def try_strangers(stand, page):
+    """After a way back, addresses may be of people who are not in the register."""
+    copy = stand.ask(ask="backup")["name"]
+    page.form("/office/person", {"ident": "T80", "name": "Late Comer"}, page="/office/register")
+    stand.ask(ask="mail-addresses", addresses={"T80": mail_of("T80")})
+    stand.ask(ask="back", name=copy)
+    shown = page.get(FORM)[2]
+    check("the page names them", "not in the register: T80" in " ".join(shown.split()), shown)
+    page.form(f"{FORM}/strangers", page=FORM)
+    check("and erases them", not holds(stand, "mail.db*", mail_of("T80")) and stand.ask(ask="mail")["strangers"] == [])
+
+
+def try_damaged(stand, page):
+    """The file of the mail is damaged: the office goes on."""
+    stand.ask(ask="set-accounts", rule="list", list="person,account\nT11,tim\n")
+    check("one person has an account", stand.ask(ask="accounts")["count"] == 1)
+    stand.stop_keeper()
+    (stand.data / "mail.db").write_bytes(b"this is no database" * 500)
+    stand.start()
+    check("a damaged file of the mail is named", "is damaged" in page.get(FORM)[2])
+    check("the office goes on", page.get("/office/")[0] == 200 and "ok" in stand.office("room A-9"))
+    check("and so do the pages of people", page.get("/office/person/T11")[0] == 200
+          and "is damaged" in page.get("/office/about/T11")[2])
+    status, printed, said = stand.command("do", "remove", "T11")
+    told = status == 3 and "T11: out of the register, but no mail address was erased" in said
+    check("who removes a person reads that the address is not erased", told, (printed, said))
+    check("and the person is out of the register", "T11" not in {row[0] for row in stand.ask(ask="view")["people"]})
+    check("and has no account any more, which somebody else could get", stand.ask(ask="accounts")["count"] == 0)
+
+
+def try_office_mail(program):
+    """All of it."""
+    with MailServer() as server, Stand(program) as stand:
+        stand.start()
+        stand.start_page()
+        stand.start_proxy()
+        page = Page(stand)
+        bring_in(page, "people", "people-0", ["person", "name", "key", "home"],
+                 [[one, f"Person {one}", key_of(one), ""] for one in PEOPLE[8:]])
+        page.form("/office/person", {"ident": "T01", "name": "Person T01"}, page="/office/register")
+        try_off(stand, page)
+        stand.office("remove T01")
+        try_settings(stand, server)
+        try_people_list(stand, page)
+        try_address_list(stand, page)
+        try_one_address(stand, page)
+        page.form("/office/step/open", page="/office/step/open")
+        try_texts(stand, page)
+        stand.office("cancel")
+        try_results(stand, page, server)
+        try_gone(stand, page)
+        try_strangers(stand, page)
+        try_damaged(stand, page)
+        check("no address, name or key is in a log or in the journal", not logs_of(stand), logs_of(stand))
+
+
+if __name__ == "__main__":
+    if len(sys.argv) != 2 or not Path(sys.argv[1]).exists():
+        sys.exit("usage: /usr/bin/python3 deploy/trial/office_mail.py PROGRAM")
+    try_office_mail(sys.argv[1])

@@ -1,0 +1,355 @@
+"""The way back for those who withdraw or leave by mistake, those who left, and a second round: /usr/bin/python3
+deploy/trial/office_wayback.py PROGRAM.
+
+P01 is noted to leave by mistake. The round is given up, and all but this note comes back. Then the round goes on: who left
+is removed, and who got no room gets one in a second round.
+"""
+
+import contextlib
+import html
+import http.client
+import re
+import socket
+import sqlite3
+import sys
+from pathlib import Path
+
+# The repository stays as it is.
+sys.dont_write_bytecode = True
+
+# pylint: disable=wrong-import-position  # nothing may be written before
+from office_requests import Page, hand_in
+from stand import HOST, Stand, check, key_of, unchecked
+
+ROOMS = [f"A-{number}" for number in range(101, 113)]
+PEOPLE = [f"P{number:02}" for number in range(1, 13)]
+HOMES = dict(zip(PEOPLE[:8], ROOMS))  # P01 to P08 live in A-101 to A-108; nobody lives in A-109 to A-112
+SEED = "5eed" * 16
+LABELS = 200  # as many lists as an office takes
+
+
+def flat(text):
+    """A page as a reader has it: without marks, and with one space in place of many."""
+    return " ".join(html.unescape(re.sub(r"<[^>]*>", " ", text)).split())
+
+
+def seen_at(page, path):
+    """The text of a page."""
+    return flat(page.get(path)[2])
+
+
+def withdraw(stand, person):
+    """A resident withdraws, through the proxy."""
+    with contextlib.closing(http.client.HTTPSConnection("127.0.0.1", stand.port, context=unchecked(), timeout=90)) as door:
+        door.sock = unchecked().wrap_socket(socket.create_connection(("127.0.0.1", stand.port)), server_hostname=HOST)
+        door.request("POST", "/me/withdraw", headers={"Host": HOST, "Room-Key": key_of(person)})
+        return door.getresponse().status
+
+
+def away(stand):
+    """Who leaves, and who has withdrawn."""
+    view = stand.ask(ask="view")
+    return {row[0] for row in view["going"]}, {row[0] for row in view["people"] if row[3]}
+
+
+def boxes(text):
+    """The boxes of a form: name, value, and whether each is ticked."""
+    found = re.findall(r'<input type="checkbox" name="(\w+)" value="(\w+)"([^>]*)>', text)
+    return {(name, value): "checked" in more for name, value, more in found}
+
+
+def filled_in(page, path, sure=True, but=""):
+    """A form with the boxes that are ticked by themselves, but for one person, and the one that says that the clerk has
+    looked."""
+    ticked = [(name, value) for (name, value), on in boxes(page.get(path)[2]).items() if on and value != but]
+    return [*page.hidden(path, path.partition("?")[0]).items(), *ticked, *([("sure", "yes")] if sure else [])]
+
+
+def send_as_it_is(page, path, sure=True, but=""):
+    """Sends such a form, and gives the address of the next page."""
+    return page.post(path.partition("?")[0], filled_in(page, path, sure, but))[1]["location"]
+
+
+# --- asked twice
+
+def try_asked_twice(stand, page):
+    """A note and a withdrawal need a tick, on the person's page and for many."""
+    for act, person, where in (("going", "P01", "who lives in A-101"), ("withdraw", "P10", "who has no room")):
+        path, before = f"/office/person/{person}/{act}", away(stand)
+        said = f"I have checked that this is the right person: Person {person}, identifier {person}, {where}"
+        check(f"{act} shows who it is, with a box", said in seen_at(page, path), seen_at(page, path))
+        check("which a browser demands", re.search(r'name="sure"[^>]* required', page.get(path)[2]))
+        status, fields, _ = page.form(path, page=path)
+        check(f"without the tick {act} changes nothing", status == 303 and fields["location"] == path and away(stand) == before)
+        check("and the clerk reads so", "Nothing was changed. First tick the box" in seen_at(page, path))
+        page.form(path, {"sure": "yes"}, page=path)
+        check(f"with the tick {act} is done", any(person in one for one in away(stand)), away(stand))
+    shown = page.form("/office/many", {"act": "going", "text": "P02"}, page="/office/many")[2]
+    held = {"held": re.findall(r'name="held" value="(\w+)"', shown)[0]}
+    page.form("/office/many/do", held, page="/office/many")
+    check("many people need a tick, too", "the right people" in flat(shown) and away(stand)[0] == {"P01"}, shown)
+    page.form("/office/many/do", {**held, "sure": "yes"}, page="/office/many")
+    check("and the page still has them then", away(stand)[0] == {"P01", "P02"}, away(stand))
+
+
+# --- the exports, and the question before a round is given up
+
+def try_exports(stand, page):
+    """Who has withdrawn, and who leaves, as CSV and on the question."""
+    check("a resident withdraws", withdraw(stand, "P03") == 200)
+    expected = {"withdrawn": "person,name,home\nP03,Person P03,A-103\nP10,Person P10,\n",
+                "leavers": "person,name,home\nP01,Person P01,A-101\nP02,Person P02,A-102\n"}
+    shown, asked = page.get("/office/print")[2], page.get("/office/step/cancel")[2]
+    for name, text in expected.items():
+        path = f"/office/export/{name}.csv"
+        check(f"{name}.csv has them", page.get(path)[2] == text, page.get(path)[2])
+        check("and is offered by both pages", f'href="{path}"' in shown and f'href="{path}"' in asked)
+    for one in ("P01 Person P01, A-101", "P02 Person P02, A-102", "P03 Person P03, A-103", "P10 Person P10, no room"):
+        check(f"the question names {one}", one in flat(asked), flat(asked))
+    check("but nobody else", "P04" not in asked)
+    check("and still offers the lists", "/office/export/choices.csv" in asked)
+
+
+# --- the short way: a copy
+
+def try_short_way(stand, page):
+    """Nothing has happened since the note: going back to the copy before it is the shortest way."""
+    stand.office("going P05")
+    shown = page.get("/office/undo/P05")[2]
+    copies = re.findall(r"/office/copies/([^/]+)/back", shown)
+    check("the page offers the copy from just before", len(copies) == 1 and "This is the shortest way" in flat(shown), flat(shown))
+    stand.office("choose P11 A-109 A-110")
+    shown = seen_at(page, "/office/undo/P05")
+    check("then somebody hands in a list, and the page says that it would be lost",
+          "one person with another list" in shown and "shortest" not in shown, shown)
+    back = f"/office/copies/{copies[0]}/back"
+    shown = seen_at(page, back)
+    check("the question about the copy names who takes part again", "or note that they leave the college" in shown
+          and shown.count("P05") == 1, shown)
+    page.form(back, page=back)
+    check("and it is as before", away(stand) == ({"P01", "P02"}, {"P03", "P10"}) and "P11" not in stand.recorded())
+    check("a resident's own withdrawal has no copy", "/back" not in page.get("/office/undo/P03")[2])
+
+
+# --- the long way: the round is given up
+
+def try_long_way(stand, page):
+    """The round is given up, and all but the one note comes back."""
+    path, number = "/office/undo/P01", stand.ask(ask="view")["number"]
+    check("the person's page leads to it", f'href="{path}"' in page.get("/office/person/P01")[2])
+    check("but not of somebody who takes part", "/office/undo/" not in page.get("/office/person/P04")[2])
+    shown = seen_at(page, path)
+    for text in ("Give round 1 up", "Lost for good: the number of this round", "Have withdrawn: 2", "Leave the college: 2"):
+        check(f"the page says: {text}", text in shown, shown)
+    page.form(path, {"step": "cancel"}, page=path)
+    check("without a tick nothing is given up", stand.ask(ask="view")["phase"] == "open")
+    page.form(path, {"step": "cancel", "sure": "yes"}, page=path)
+    check("the round is given up", stand.ask(ask="view")["phase"] == "idle" and away(stand) == (set(), set()))
+    check("then the next step is to open", "Step 2 of 3" in seen_at(page, path))
+    check("and the overview says that it can come back", "Round 1 was given up" in seen_at(page, "/office/"))
+    page.form(path, {"step": "cancel", "sure": "yes"}, page=path)
+    check("the first step does not come again", "This step does not come now" in seen_at(page, path))
+    page.form(path, {"step": "open"}, page=path)
+    check("the next round is open, without anything", stand.ask(ask="view")["number"] == number + 1
+          and away(stand) == (set(), set()) and not stand.recorded())
+    check("the next step is to bring back", "Step 3 of 3" in seen_at(page, path))
+    left = "Who leaves the college (P01, P02); who has withdrawn (P03, P10); lists (P04, P09, P11)"
+    check("the overview names who is not back", left in seen_at(page, "/office/"), seen_at(page, "/office/"))
+    check("and so does the question before closing", f"w{left[1:]}" in seen_at(page, "/office/step/close"))
+    bring_back(stand, page, path)
+
+
+def bring_back(stand, page, path):
+    """The form of what can come back, as a browser sends it."""
+    link = re.findall(r'href="(/office/given-up/[^"]+)"', page.get(path)[2])[0]
+    old = filled_in(page, link)
+    check("P10, who had withdrawn, hands in a list now", hand_in(stand, key_of("P10"), ["A-112"]) == 200)
+    check("and P11 another list", hand_in(stand, key_of("P11"), ["A-111"]) == 200)
+    page.post(link.partition("?")[0], old)
+    check("a form from before brings nothing back", ("withdrawn", "P10") in old and away(stand) == (set(), set()), old)
+    check("and the page says why", "was changed after you looked" in seen_at(page, "/office/"))
+    expected = {("going", "P01"): False, ("going", "P02"): True, ("withdrawn", "P03"): True, ("withdrawn", "P10"): False,
+                ("lists", "yes"): True, ("sure", "yes"): False}
+    shown = page.get(link)[2]
+    check("all are ticked but P01 and who has handed in a list since", boxes(shown) == expected, boxes(shown))
+    send_as_it_is(page, link, sure=False)
+    check("without the last tick nothing comes in", away(stand) == (set(), set()))
+    stale = [("seen", "round 1 open"), ("going", "P02"), ("sure", "yes"), ("token", page.hidden("/office/rooms")["token"])]
+    page.post(link.partition("?")[0], stale)
+    check("nor by a form of the round before", away(stand) == (set(), set()))
+    send_as_it_is(page, link)
+    shown = seen_at(page, path)
+    check("the others are back", away(stand) == ({"P02"}, {"P03"}), away(stand))
+    lists = {"P01": ["A-110"], "P04": ["A-111", "A-101"], "P09": ["A-109"], "P10": ["A-112"], "P11": ["A-111"]}
+    check("with their lists, also that of P01, and newer lists stay", stand.recorded() == lists, stand.recorded())
+    said = "Back in this round: who leaves the college: 1 of 1, withdrawals: 1 of 1, lists: 3 of 3"
+    check("the page says what came in", said in shown and "It is undone" in shown, shown)
+    check("the overview has nothing more to say", "Not back yet" not in seen_at(page, "/office/"))
+    check("there is nothing to undo any more", "There is nothing to undo" in undo_of(page, "P04"))
+
+
+def undo_of(page, person):
+    """What the clerk reads who asks to undo something of a person."""
+    return seen_at(page, page.get(f"/office/undo/{person}")[1]["location"])
+
+
+# --- what cannot come back, and what comes in between
+
+def with_labels(stand, change):
+    """Takes all labels of lists, or gives them back, by SQLite itself: the office then takes no list."""
+    stand.stop_keeper()
+    with contextlib.closing(sqlite3.connect(stand.file)) as database:
+        (taken,) = database.execute("SELECT count(*) FROM list WHERE label NOT LIKE 'full-%'").fetchone()
+        database.executemany(change, [(f"full-{number}",) for number in range(LABELS - taken)])
+        database.commit()
+    stand.start()
+
+
+def try_changed(stand, page):
+    """Between the rounds a person was removed, one has left a room, and a room was shut."""
+    for line in ("withdraw P12", "cancel", "remove P11", "leave P02", "shut A-110", "open"):
+        stand.office(line)
+    link = re.findall(r'href="(/office/given-up/[^"]+)"', page.get("/office/")[2])[0]
+    shown = seen_at(page, link)
+    for text in ("P02: the note; the person has no room any more", "P11: the list; the person is not in the register",
+                 "P01: of the list A-110, out of use", "What round 1 had, which was given up, too"):
+        check(f"the page says: {text}", text in shown, shown)
+    offered = {("withdrawn", "P03"): True, ("withdrawn", "P12"): True, ("lists", "yes"): True, ("sure", "yes"): False}
+    check("and offers the rest", boxes(page.get(link)[2]) == offered, boxes(page.get(link)[2]))
+    with_labels(stand, "INSERT INTO list VALUES (?, 'rooms', CAST('room' AS BLOB), 0)")
+    onward = send_as_it_is(page, link, but="P12")
+    shown = seen_at(page, onward)
+    check("if the lists cannot come in, the page says how far it came, and why",
+          "Back in this round: withdrawals: 1 of 1" in shown and "Then this came: A limit is reached" in shown, shown)
+    check("the withdrawal is in, and no list", away(stand) == (set(), {"P03"}) and not stand.recorded(), stand.recorded())
+    with_labels(stand, "DELETE FROM list WHERE label = ?")
+    check("whom the clerk has taken out is still out", boxes(page.get(onward)[2])[("withdrawn", "P12")] is False)
+    again = page.get(f"{onward[:-32]}{'0' * 32}")[2]
+    check("nobody is ticked if the page has forgotten that", not boxes(again)[("withdrawn", "P12")]
+          and "Tick again who is to come back" in again, again)
+    onward = send_as_it_is(page, onward)
+    lists = {"P04": ["A-111", "A-101"], "P09": ["A-109"], "P10": ["A-112"]}
+    check("the rest comes in afterwards", stand.recorded() == lists and away(stand) == (set(), {"P03"}), stand.recorded())
+    shown = seen_at(page, onward)
+    check("and then all else is back", "All else is back" in shown and "P12 Person P12" in shown, shown)
+    copy = stand.data / "backups" / link.rpartition("/")[2] / "rooms.db"
+    whole = copy.read_bytes()
+    copy.write_bytes(whole[:8192] + b"\xff" * 4096 + whole[12288:])
+    shown = seen_at(page, "/office/")
+    check("a damaged copy hides no overview, which says so", "is damaged" in shown and "Round 3: the round is open" in shown, shown)
+    check("nor the question before closing", "Yes: close the round" in seen_at(page, "/office/step/close"))
+    status, _, shown = page.get(link)
+    check("and nothing of it is offered", status == 503 and "is damaged" in shown and "Bring this back" not in shown, shown)
+    copy.write_bytes(whole)
+    bad = page.get("/office/given-up/20270101T000000Z")
+    check("another copy brings nothing back", bad[0] == 303 and bad[1]["location"] == "/office/")
+
+
+# --- who left, and the second round
+
+def finish_round(stand):
+    """From closing to settling."""
+    stand.office("close")
+    stand.ask(ask="draw", who="anna", seed=SEED)
+    for line in ("run", "publish"):
+        stand.office(line)
+
+
+def homes(stand):
+    """Where everybody lives who has a room."""
+    return {row[0]: row[2] for row in stand.ask(ask="view")["people"] if row[2]}
+
+
+def try_left(stand, page):
+    """P06 and P07 leave the college; P12 and P02 only get no room."""
+    for line in ("going P06", "going P07"):
+        stand.office(line)
+    finish_round(stand)
+    check("a published round cannot be given up", "It can no longer be undone" in undo_of(page, "P06"))
+    stand.office("settle")
+    # P04 gets A-111, P09 A-109 and P10 A-112, since nobody else lists these.
+    expected = {**HOMES, "P04": "A-111", "P09": "A-109", "P10": "A-112"}
+    expected = {one: room for one, room in expected.items() if one not in ("P02", "P06", "P07")}
+    check("the round is settled", homes(stand) == expected, homes(stand))
+    check("the overview names them", "Left the college in round 3: 2" in seen_at(page, "/office/"), seen_at(page, "/office/"))
+    check("so does the question before the next round", "2 people who left the college in round 3"
+          in seen_at(page, "/office/step/open"))
+    shown = page.get("/office/left")[2]
+    check("who left is ticked, and nobody else is there", boxes(shown) == {("person", "P06"): True, ("person", "P07"): True}, shown)
+    token = page.hidden("/office/left", "/office/many")
+    shown = flat(page.post("/office/many", token)[2])
+    check("if nobody is ticked the page says so", "You have named nobody." in shown and "Yes:" not in shown, shown)
+    shown = page.post("/office/many", [*token.items(), ("person", "P06")])[2]
+    check("the page asks first", "Remove them from the register: one person" in flat(shown) and "P06" in people_of(stand), shown)
+    held = re.findall(r'name="held" value="(\w+)"', shown)[0]
+    page.form("/office/many/do", {"held": held}, page="/office/many")
+    check("and removes those who are ticked", set(PEOPLE) - people_of(stand) == {"P06", "P11"}, people_of(stand))
+    stand.office("home P07 A-106")
+    check("who has a room again is not offered", page.get("/office/left")[1].get("location") == "/office/")
+
+
+def people_of(stand):
+    """The identifiers of the register."""
+    return {row[0] for row in stand.ask(ask="view")["people"]}
+
+
+def try_second_round(stand, page):
+    """P02 and P12 have no room; A-102, A-104 and A-107 are free, and A-110 is out of use."""
+    check("the overview leads to a second round", 'href="/office/second"' in page.get("/office/")[2])
+    shown = seen_at(page, "/office/second")
+    for text in ("2 people have no room, and 3 rooms are free", "Somebody with a room who hands in no list keeps it",
+                 "Open the next round"):
+        check(f"the page says: {text}", text in shown, shown)
+    listed = page.get("/office/export/without-room.csv")[2]
+    check("the list of the people without a room", listed == "person,name,home\nP02,Person P02,\nP12,Person P12,\n", listed)
+    before = homes(stand)
+    stand.office("open")
+    check("one of them hands in", hand_in(stand, key_of("P12"), ["A-101", "A-104"]) == 200)
+    shown = seen_at(page, "/office/second")
+    check("the page counts them", "1 of 2 people without a room has handed in a list" in shown, shown)
+    check("the overview leads on", 'href="/office/second"' in page.get("/office/")[2])
+    shown = page.form("/office/many", page="/office/second")[2]
+    tenants = {"P01", "P03", "P04", "P05", "P07", "P08", "P09", "P10"}
+    check("it offers to withdraw those who have a room and no list, and asks",
+          "Withdraw them from the round: 8 people" in flat(shown)
+          and set(re.findall("<td>(P[0-9]+)</td>", shown)) == tenants and away(stand) == (set(), set()), shown)
+    finish_round(stand)
+    stand.office("settle")
+    check("a tenant without a list keeps the room, and P12 gets a free one", homes(stand) == {**before, "P12": "A-104"},
+          homes(stand))
+    check("P02, who got no room, has not left", page.get("/office/left")[1].get("location") == "/office/")
+
+
+def fill(stand):
+    """The people move in, by SQLite itself."""
+    stand.fill(ROOMS, PEOPLE)
+    with contextlib.closing(sqlite3.connect(stand.file)) as database:
+        database.executemany("UPDATE person SET home = ? WHERE id = ?", [(room, person) for person, room in HOMES.items()])
+        database.commit()
+
+
+def try_office_wayback(program):
+    """All of it."""
+    with Stand(program) as stand:
+        fill(stand)
+        stand.start()
+        stand.start_page()
+        stand.start_proxy()
+        page = Page(stand)
+        for line in ("open", "choose P01 A-110", "choose P04 A-111 A-101", "choose P09 A-109"):
+            stand.office(line)
+        try_asked_twice(stand, page)
+        try_exports(stand, page)
+        try_short_way(stand, page)
+        stand.office("choose P11 A-109 A-110")
+        try_long_way(stand, page)
+        try_changed(stand, page)
+        try_left(stand, page)
+        try_second_round(stand, page)
+        check("the page has noted no fault of its own", "rooms-page:" not in stand.log("page"), stand.log("page"))
+
+
+if __name__ == "__main__":
+    if len(sys.argv) != 2 or not Path(sys.argv[1]).exists():
+        sys.exit("usage: /usr/bin/python3 deploy/trial/office_wayback.py PROGRAM")
+    try_office_wayback(sys.argv[1])
