@@ -178,7 +178,7 @@ class Accounts:
         return ""
 
 
-class ClerkAsks:
+class ClerkRequests:
     """What clerks ask of accounts."""
 
     def __init__(self, accounts: Accounts, view: View, journal: Journal) -> None:
@@ -207,7 +207,7 @@ def keys_of(file: Path) -> dict[str, Any]:
         return dict(database.execute("SELECT id, passkey FROM person"))
 
 
-class KeyAsks:  # pylint: disable=too-few-public-methods  # there is one question
+class KeyRequests:  # pylint: disable=too-few-public-methods  # there is one question
     """What is asked by the socket of signed_in.py: the key of an account's person, and nothing else."""
 
     def __init__(self, accounts: Accounts, copies: Copies) -> None:

@@ -16,7 +16,6 @@ import zoneinfo
 from pathlib import Path
 from typing import NamedTuple
 
-from hand import Change, Hand
 from job import Job
 from office import Office
 from placing import beside, to_disk
@@ -24,6 +23,7 @@ from program import is_refused
 from seen import stamp, why_stale
 from settings import Fault, unwritten
 from told import mark_of
+from worker import Change, Worker
 
 WRITTEN = re.compile(r"[0-9]{4}-[0-9]{2}-[0-9]{2}T[0-9]{2}:[0-9]{2}(:[0-9]{2})?")
 LOCALTIME, ZONES = Path("/etc/localtime"), "zoneinfo/"
@@ -96,8 +96,8 @@ def moment_of(written: str, zone: str) -> datetime.datetime:
 class Dates:
     """The date of the round, and the thread that keeps it."""
 
-    def __init__(self, office: Office, hand: Hand) -> None:
-        self.office, self.hand, self.lock = office, hand, threading.Lock()
+    def __init__(self, office: Office, worker: Worker) -> None:
+        self.office, self.worker, self.lock = office, worker, threading.Lock()
         self.until: Until | None = None
         self.fault = ""  # why there is no date, or why the round could not be closed
         self.pause, self.due = OFTEN, 0.0
@@ -164,7 +164,7 @@ class Dates:
         if not isinstance(written, str) or not isinstance(closes, bool):
             raise Fault("not understood: at is no text, or closes is not true or false")
         with self.lock:
-            rows = self.hand.view.rows()
+            rows = self.worker.view.rows()
             if job.get("seen") is not None and (why := why_stale(rows, job["seen"], None)):
                 raise Fault(why)
             if job.get("saw") is not None and job["saw"] != mark_of(self.until):
@@ -203,7 +203,7 @@ class Dates:
 
     def keep(self) -> None:
         """Looks at the clock until the keeper ends."""
-        while not self.hand.over:
+        while not self.worker.over:
             with contextlib.suppress(Fault, OSError, sqlite3.Error):  # it looks again
                 self.look()
             time.sleep(OFTEN)
@@ -213,7 +213,7 @@ class Dates:
         with self.lock:
             until = self.until
             if until is not None:
-                rows = self.hand.view.rows()
+                rows = self.worker.view.rows()
                 if (rows["number"], rows["phase"]) != (until.round, "open"):
                     self.forget()
                 elif until.closes and until.is_past() and time.monotonic() >= self.due:
@@ -231,7 +231,7 @@ class Dates:
         change = Change(who, "close", lambda file: [program.tell("close", file)], kind="close",
                         why=f"before close, by {who}", seen=stamp({"number": until.round, "phase": "open"}))
         try:
-            answers = self.hand.change(change).answers
+            answers = self.worker.change(change).answers
             fault = f"the program answered: {answers[-1].text.strip()}" if is_refused(answers) else ""
         except (Fault, OSError, sqlite3.Error) as why:
             fault = str(why)

@@ -1,10 +1,10 @@
 """rooms-keeper: owns the office's file, keeps `rooms serve` running, and carries out the office's lines between two
 servings.
 
-It listens on a Unix socket; asks.py lists what can be asked. What only reads is done on a copy of the file, so
+It listens on a Unix socket; keeper_requests.py lists what can be asked. What only reads is done on a copy of the file, so
 residents notice nothing. What changes the office is tried on a copy first, and a refusal is answered from there.
 What would be accepted waits for its turn; then the server is stopped, the line is carried out, and the server is
-started again (hand.py). Before a line that cannot be taken back the office is copied (backups.py). Each change is
+started again (worker.py). Before a line that cannot be taken back the office is copied (backups.py). Each change is
 in the journal before it begins and after it has ended (journal.py).
 
 A request is one line of JSON on a connection of its own, and so is its answer. Everybody who may open the socket may
@@ -28,15 +28,15 @@ import time
 from pathlib import Path
 from typing import Any, Protocol
 
-from accounts import KeyAsks
-from asks import Asks
-from hand import Hand
+from accounts import KeyRequests
 from journal import masked
+from keeper_requests import Requests
 from office import Office
 from settings import Fault, Settings, from_environment
+from worker import Worker
 
 LONGEST_REQUEST = 1 << 20  # bytes: a list of 262,145 bytes in base 64, or thousands of lines
-TALKS = 16                 # requests that are answered at a time; others wait for their turn
+ANSWERING = 16             # requests that are answered at a time; others wait for their turn
 OPEN, ALL_OPEN = 12, 64    # connections of one account, and of all, at a time; further ones are told to try again
 REQUEST_SECONDS = 3.0      # within which a request has to be here, from its connection on
 ANSWER_SECONDS = 20.0      # within which an answer has to be taken
@@ -44,7 +44,7 @@ LAST_WORDS = 2.0           # seconds for the answers that are on their way when 
 OFFICE, ACCOUNTS = "office", "accounts"  # the sockets; the second is so named by FileDescriptorName= of its unit
 
 
-class Answers(Protocol):  # pylint: disable=too-few-public-methods  # it is what a door needs
+class Answers(Protocol):  # pylint: disable=too-few-public-methods  # it is what a server needs
     """What can be asked by a socket."""
 
     def answer(self, job: dict[str, Any]) -> dict[str, Any]:
@@ -72,16 +72,16 @@ def send(connection: socket.socket, answer: dict[str, Any]) -> None:
         connection.sendall(json.dumps(answer).encode() + b"\n")
 
 
-class Talk(socketserver.StreamRequestHandler):
+class RequestHandler(socketserver.StreamRequestHandler):
     """One request, on its connection."""
 
-    server: "Door"
+    server: "KeeperServer"
 
     def handle(self) -> None:
         """Reads the request and answers it."""
         try:
             request = self.request_line()
-            with self.server.talks:
+            with self.server.answering:
                 answer = self.answer(request)
         except Fault as why:
             answer = {"fault": str(why)}
@@ -114,20 +114,20 @@ class Talk(socketserver.StreamRequestHandler):
         who = account_of(self.connection)
         if who in self.server.speakers and isinstance(job.get("who"), str):
             who = masked("".join(sign for sign in job["who"] if sign.isprintable())[:60])
-        return self.server.asks.answer({**job, "who": who})
+        return self.server.requests.answer({**job, "who": who})
 
 
-class Door(socketserver.ThreadingUnixStreamServer):
+class KeeperServer(socketserver.ThreadingUnixStreamServer):
     """The socket, and a thread for each request."""
 
     daemon_threads = True
     request_queue_size = 50
 
-    def __init__(self, settings: Settings, asks: Answers, path: Path, number: int | None) -> None:
-        self.speakers, self.asks, self.talks = settings.speakers, asks, threading.BoundedSemaphore(TALKS)
+    def __init__(self, settings: Settings, requests: Answers, path: Path, number: int | None) -> None:
+        self.speakers, self.requests, self.answering = settings.speakers, requests, threading.BoundedSemaphore(ANSWERING)
         self.open: collections.Counter[int] = collections.Counter()  # connections by account
         self.counting = threading.Lock()
-        super().__init__(str(path), Talk, bind_and_activate=False)
+        super().__init__(str(path), RequestHandler, bind_and_activate=False)
         if number is not None:
             self.socket.close()
             self.socket = socket.socket(fileno=number)
@@ -154,7 +154,7 @@ class Door(socketserver.ThreadingUnixStreamServer):
             self.open[user_of(request)] -= 1
         super().shutdown_request(request)
 
-    def wait_for_talks(self) -> None:
+    def wait_for_answers(self) -> None:
         """Takes no more requests, and waits for the answers that are on their way, for a moment."""
         self.shutdown()
         end = time.monotonic() + LAST_WORDS
@@ -170,14 +170,14 @@ def handed_over() -> dict[str, int]:
     return {name if name == ACCOUNTS else OFFICE: number for number, name in enumerate(names, 3)}
 
 
-def doors_of(office: Office, asks: Asks) -> list[Door]:
-    """The doors of the office, and of signed_in.py where residents sign in by the college's accounts."""
+def servers_of(office: Office, requests: Requests) -> list[KeeperServer]:
+    """The servers of the office, and of signed_in.py where residents sign in by the college's accounts."""
     settings, numbers = office.settings, handed_over()
-    doors = [Door(settings, asks, settings.socket, numbers.get(OFFICE))]
+    servers = [KeeperServer(settings, requests, settings.socket, numbers.get(OFFICE))]
     if settings.account_socket or ACCOUNTS in numbers:
-        keys = KeyAsks(asks.accounts, office.copies)
-        doors.append(Door(settings, keys, settings.account_socket or Path(), numbers.get(ACCOUNTS)))
-    return doors
+        keys = KeyRequests(requests.accounts, office.copies)
+        servers.append(KeeperServer(settings, keys, settings.account_socket or Path(), numbers.get(ACCOUNTS)))
+    return servers
 
 
 def main() -> int:
@@ -185,19 +185,19 @@ def main() -> int:
     os.umask(0o077)
     office = Office(from_environment())
     office.clear()
-    hand = Hand(office)
-    asks = Asks(office, hand)
-    doors = doors_of(office, asks)
-    for door in doors:
-        threading.Thread(target=door.serve_forever, daemon=True).start()
-    asks.dates.start()
+    worker = Worker(office)
+    requests = Requests(office, worker)
+    servers = servers_of(office, requests)
+    for server in servers:
+        threading.Thread(target=server.serve_forever, daemon=True).start()
+    requests.dates.start()
     for number in (signal.SIGTERM, signal.SIGINT):
-        signal.signal(number, lambda *_: hand.end())
+        signal.signal(number, lambda *_: worker.end())
     print("rooms-keeper: ready", flush=True)
-    hand.keep()
-    asks.post.sender.stop()
-    for door in doors:
-        door.wait_for_talks()
+    worker.keep()
+    requests.post.sender.stop()
+    for server in servers:
+        server.wait_for_answers()
     return 0
 
 

@@ -20,7 +20,6 @@ import threading
 from collections.abc import Callable
 
 import mail_book
-from hand import Hand
 from job import Job
 from mail_book import BEGUN, ENDED, PAUSED, REFUSED, RUNNING, SENT, UNCERTAIN, WAITING, Book, Run
 from mail_people import goes_to, values_of
@@ -30,6 +29,7 @@ from mail_words import KINDS, Text, faults_of, filled, is_address
 from office import Office
 from seen import Rows, why_stale
 from settings import Fault
+from worker import Worker
 
 STEER_SECONDS = 10.0  # for the message that is on its way when a clerk stops the run
 HAVE = (SENT, UNCERTAIN, BEGUN, WAITING)  # a further press sends nothing to these
@@ -61,16 +61,16 @@ def link_in(job: Job) -> str:
 class Post:
     """Addresses, texts, and the run."""
 
-    def __init__(self, office: Office, hand: Hand) -> None:
-        self.path, self.journal, self.hand, self.lock = office.settings.mail, office.journal, hand, threading.Lock()
+    def __init__(self, office: Office, worker: Worker) -> None:
+        self.path, self.journal, self.worker, self.lock = office.settings.mail, office.journal, worker, threading.Lock()
         self.book = Book(office.settings.mail_book)
-        self.sender = Sender(office, hand, self.book)
+        self.sender = Sender(office, worker, self.book)
         with contextlib.suppress(Fault):  # the pages of mail say what is wrong with the file
             self.book.end_begun()
             if (run := self.book.run()) and run.state == RUNNING:
                 self.book.set_run(PAUSED, RESTARTED)
 
-    def asks(self) -> dict[str, Callable[[Job], Job]]:
+    def requests(self) -> dict[str, Callable[[Job], Job]]:
         """What can be asked."""
         return {"mail": self.show, "mail-show": self.preview, "mail-text": self.set_text, "mail-send": self.send,
                 "mail-run": self.steer, "mail-again": self.again, "mail-addresses": self.set_addresses,
@@ -103,7 +103,7 @@ class Post:
         new = job["addresses"]
         if not isinstance(new, dict) or not all(isinstance(one, str) and (one == "" or is_address(one)) for one in new.values()):
             raise Fault("one of these is no mail address. Nothing was changed.")
-        known = {row[0] for row in self.hand.view.rows()["people"]}
+        known = {row[0] for row in self.worker.view.rows()["people"]}
         old = self.book.addresses()
         if strangers := [person for person in new if person not in known and new[person]]:
             raise Fault(f"nobody has the identifier {strangers[0][:20]!r}. Nothing was changed.")
@@ -120,7 +120,7 @@ class Post:
 
     def show(self, _: Job) -> Job:
         """How it stands with mail."""
-        settings, rows, addresses = must_read(self.path), self.hand.view.rows(), self.book.addresses()
+        settings, rows, addresses = must_read(self.path), self.worker.view.rows(), self.book.addresses()
         people, run, moves = [row[0] for row in rows["people"]], self.book.run(), self.sender.moves(rows)
         texts = self.book.texts()
         kinds = {kind: {**self.state_of(kind, rows, addresses, moves), "text": texts.get(kind, Text(one.subject, one.body))}
@@ -152,7 +152,7 @@ class Post:
     def preview(self, job: Job) -> Job:
         """A message as one person would get it."""
         must_read(self.path)
-        kind, text, rows = kind_in(job), text_in(job), self.hand.view.rows()
+        kind, text, rows = kind_in(job), text_in(job), self.worker.view.rows()
         if faults := faults_of(kind, text):
             return {"faults": faults}
         if job["person"] not in {row[0] for row in rows["people"]}:
@@ -176,7 +176,7 @@ class Post:
     def again(self, job: Job) -> Job:
         """Lets people get a message once more: everybody, or those of whom nobody knows whether they have it."""
         must_read(self.path)
-        kind, number, turn = kind_in(job), self.hand.view.rows()["number"], job["turn"]
+        kind, number, turn = kind_in(job), self.worker.view.rows()["number"], job["turn"]
         with self.lock:
             self.fail_if_busy()
             if turn != self.book.turn(kind, number):
@@ -200,7 +200,7 @@ class Post:
     def send(self, job: Job) -> Job:
         """Begins to send a message to all who have not got it."""
         must_read(self.path)
-        kind, text, link, rows = kind_in(job), text_in(job), link_in(job), self.hand.view.rows()
+        kind, text, link, rows = kind_in(job), text_in(job), link_in(job), self.worker.view.rows()
         if faults := faults_of(kind, text):
             raise Fault(" ".join(faults))
         if why := why_stale(rows, job["seen"], None):

@@ -5,7 +5,6 @@ import sqlite3
 import threading
 import time
 
-from hand import Hand
 from mail_book import BEGUN, ENDED, PAUSED, REFUSED, SENT, UNCERTAIN, WAITING, Book, Run
 from mail_people import goes_to, planned_moves, values_of
 from mail_send import Away, NotTaken, Unknown, message_of, send
@@ -14,6 +13,7 @@ from mail_words import KINDS, filled
 from office import Office
 from seen import Rows, stamp
 from settings import Fault
+from worker import Worker
 
 IN_A_ROW = 3        # so many refusals one after the other are the mail server's, and no fault of addresses
 LAST_WORDS = 2.0    # seconds for the message that is on its way when the keeper ends
@@ -23,8 +23,8 @@ OUTCOMES = (WAITING, SENT, REFUSED, UNCERTAIN)
 class Sender:
     """Sends the messages of the run that the file of the mail has."""
 
-    def __init__(self, office: Office, hand: Hand, book: Book) -> None:
-        self.office, self.hand, self.book = office, hand, book
+    def __init__(self, office: Office, worker: Worker, book: Book) -> None:
+        self.office, self.worker, self.book = office, worker, book
         self.halt, self.in_a_row = threading.Event(), 0
         self.thread: threading.Thread | None = None
         self.planned: tuple[Rows, dict[str, list[str]]] = ({}, {})
@@ -81,7 +81,7 @@ class Sender:
 
     def go_on(self, settings: MailSettings) -> bool:
         """Sends the next message. Whether another may come."""
-        run, rows = self.book.run(), self.hand.view.rows()
+        run, rows = self.book.run(), self.worker.view.rows()
         waiting = self.book.waiting()
         if run is None or not waiting:
             self.end_run(run, "")

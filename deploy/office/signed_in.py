@@ -67,11 +67,11 @@ def account_in(field: str) -> str:
 
 def key_of(account: str) -> str:
     """The key of an account's person; nothing if nobody has the account."""
-    with socket.socket(socket.AF_UNIX) as door:
-        door.settimeout(KEEPER_SECONDS)
-        door.connect(KEEPER)
-        door.sendall(json.dumps({"ask": "key", "account": account}).encode() + b"\n")
-        with door.makefile(encoding="utf-8") as reader:
+    with socket.socket(socket.AF_UNIX) as connection:
+        connection.settimeout(KEEPER_SECONDS)
+        connection.connect(KEEPER)
+        connection.sendall(json.dumps({"ask": "key", "account": account}).encode() + b"\n")
+        with connection.makefile(encoding="utf-8") as reader:
             answer = json.loads(reader.readline())
     return str(answer["key"])
 

@@ -228,7 +228,7 @@ class Told:
 
     # --- what can be asked
 
-    def asks(self) -> dict[str, Callable[[Job], Job]]:
+    def requests(self) -> dict[str, Callable[[Job], Job]]:
         """The requests, by their names."""
         return {"told": self.show, "tell-words": self.tell_words, "tell-rooms": self.tell_rooms,
                 "add-picture": self.add_picture, "drop-picture": self.drop_picture}

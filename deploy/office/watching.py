@@ -8,9 +8,9 @@ import time
 from pathlib import Path
 from typing import Any
 
-from hand import Hand
 from office import Office
 from placing import beside
+from worker import Worker
 
 NOBODY = "0" * 16           # a key that nobody has: the server refuses it, and so has read the office
 ANSWER_SECONDS = 10.0       # so long the server may be away for a change
@@ -68,9 +68,9 @@ def fault_of_past(ended: dict[str, Any] | None) -> str:
     return f"the server ended by itself with status {ended['status']} at {ended['at']} (so far {ended['times']})"
 
 
-def watch(office: Office, hand: Hand) -> dict[str, Any]:
+def watch(office: Office, worker: Worker) -> dict[str, Any]:
     """What is wrong, and the age in seconds of the newest copy that was asked for."""
     age = office.backups.age()
     found = [fault_of_server(office.settings.port), fault_of_disk(beside(office.settings.file, ".watch")),
-             fault_of_copies(age), fault_of_past(hand.ended())]
+             fault_of_copies(age), fault_of_past(worker.ended())]
     return {"faults": [fault for fault in found if fault], "age": max(0.0, age or 0.0)}

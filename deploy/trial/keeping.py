@@ -356,12 +356,12 @@ def nonsense(stand):
     """Requests that are none are answered so, and the keeper stays."""
     server, keeper = stand.server(), stand.keeper.pid
     for request in NONSENSE:
-        with socket.socket(socket.AF_UNIX) as door:
-            door.settimeout(30)
-            door.connect(stand.environment["ROOMS_SOCKET"])
+        with socket.socket(socket.AF_UNIX) as connection:
+            connection.settimeout(30)
+            connection.connect(stand.environment["ROOMS_SOCKET"])
             with contextlib.suppress(BrokenPipeError):
-                door.sendall(request)
-            answer = door.makefile("rb").readline()
+                connection.sendall(request)
+            answer = connection.makefile("rb").readline()
         if "fault" not in json.loads(answer or b"{}"):
             check(f"{request[:60]!r} is a fault", False, answer)
     alive = stand.keeper.poll() is None and stand.keeper.pid == keeper and stand.server() == server

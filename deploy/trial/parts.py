@@ -22,12 +22,12 @@ sys.path.append(str(OFFICE))
 # pylint: disable=wrong-import-position,wrong-import-order  # they are in the folder of the line above
 from backups import ASKED_FOR, Backups
 from copies import Copies, make_whole
-from hand import Change, Hand
 from journal import NOT_NOTED, Journal, masked_line, masked_note, without_names
 from lines import only_reads, reason_to_copy, shows_a_key
 from office import Office
 from program import Answer
 from settings import Fault, Settings
+from worker import Change, Worker
 
 KEY = "0123456789abcdef0123456789abcdef"
 
@@ -274,14 +274,14 @@ def keeping_damaged(settings):
 
 def failing(settings):
     """A change in which the keeper itself fails is not answered by what it gave on the copy."""
-    hand = Hand(Office(settings))
+    worker = Worker(Office(settings))
     change = Change("anna", "room A", lambda _: [], answers=[Answer("ok\n", 0)])
-    with mock.patch.object(hand, "make", side_effect=ValueError), contextlib.suppress(ValueError):
-        hand.carry_out(change)
+    with mock.patch.object(worker, "make", side_effect=ValueError), contextlib.suppress(ValueError):
+        worker.carry_out(change)
     check("a failure of the keeper is a fault", change.done.is_set() and "keeper failed" in change.fault, change)
     change = Change("anna", "room A", lambda _: [])
-    with mock.patch.object(hand, "make"):
-        hand.carry_out(change)
+    with mock.patch.object(worker, "make"):
+        worker.carry_out(change)
     check("and what was made has none", change.done.is_set() and not change.fault, change)
 
 

@@ -42,18 +42,17 @@ import sqlite3
 from collections.abc import Callable
 from pathlib import Path
 
-import lines as told
 from about import IDENTIFIER, about, kept_in
-from accounts import Accounts, ClerkAsks
+from accounts import Accounts, ClerkRequests
 from backups import ASKED_FOR, MOST_DAYS, blank
 from dates import Dates
 from differences import differences
 from figures_kept import Before
 from given_up import given_up
-from hand import CarryOut, Change, Hand
 from history import history
 from job import Job, body_of, lines_of, saw_in, seen_in, text
 from journal import masked, masked_line, masked_note
+from lines import STEPS, have_keys, name_shows_a_key, only_reads, reason_to_copy, verb_of
 from mail import Post
 from office import Office
 from program import NOT_UNDERSTOOD, Answer, correct, is_of_earlier_version, is_refused
@@ -61,6 +60,7 @@ from rows import rows_of
 from seen import Rows
 from settings import Fault
 from watching import watch
+from worker import CarryOut, Change, Worker
 
 SPOKEN = 400   # signs of several lines that the journal keeps as they are
 LONGEST = 800  # and of what it keeps at most
@@ -75,7 +75,7 @@ def spoken_of(lines: list[str]) -> str:
         return whole
     first = whole[:SPOKEN].rpartition("; ")[0]
     others = lines[first.count("; ") + 1 if first else 0:]
-    steps = [masked_line(line) for line in others if told.verb_of(line) in told.STEPS]
+    steps = [masked_line(line) for line in others if verb_of(line) in STEPS]
     return "; ".join([*filter(None, [first]), "..", *steps]) if len(lines) > 1 else whole
 
 
@@ -83,7 +83,7 @@ def short_of(lines: list[str]) -> str:
     """Lines as the copy before them has them: one line as in the journal, or how many there are of each verb."""
     if len(lines) == 1:
         return masked_line(lines[0])[:SHORT]
-    return ", ".join(f"{verb} ({count})" for verb, count in collections.Counter(map(told.verb_of, lines)).items())
+    return ", ".join(f"{verb} ({count})" for verb, count in collections.Counter(map(verb_of, lines)).items())
 
 
 def participants(rows: Rows) -> int:
@@ -103,25 +103,25 @@ def only(answer: Answer) -> Job:
 
 
 # pylint: disable-next=too-many-public-methods,too-many-instance-attributes  # one for each request; the parts of the office
-class Asks:
+class Requests:
     """Answers what is asked of the keeper."""
 
-    def __init__(self, office: Office, hand: Hand) -> None:
-        self.office, self.program, self.copies, self.hand = office, office.program, office.copies, hand
-        self.backups, self.journal, self.dates = office.backups, office.journal, Dates(office, hand)
-        self.post, self.accounts = Post(office, hand), Accounts(office.settings.file)
+    def __init__(self, office: Office, worker: Worker) -> None:
+        self.office, self.program, self.copies, self.worker = office, office.program, office.copies, worker
+        self.backups, self.journal, self.dates = office.backups, office.journal, Dates(office, worker)
+        self.post, self.accounts = Post(office, worker), Accounts(office.settings.file)
         self.known: dict[str, Callable[[Job], Job]] = {
-            "view": self.view, "watch": lambda _: watch(self.office, self.hand), "try": self.try_out,
+            "view": self.view, "watch": lambda _: watch(self.office, self.worker), "try": self.try_out,
             "do": self.do_lines, "draw": self.draw, "import": self.bring_in, "export": self.export,
             "record": self.record, "backup": self.backup, "backups": self.list_backups,
             "compare": self.compare, "back": self.put_back, "blank": self.blank, "note": self.note,
             "journal": self.show_journal, "blank-journal": self.blank_journal, "correct": self.correct,
             "keys": self.new_keys, "days": self.set_days, "forget": self.forget,
             "about": self.about,
-            "given-up": lambda job: given_up(self.office, self.hand.view, text(job, "name") if "name" in job else None),
-            **office.told.asks(), "set-until": self.dates.set, **self.post.asks(),
-            "figures": lambda _: self.office.figures.shown(self.hand.view.rows()),
-            **ClerkAsks(self.accounts, hand.view, office.journal).known,
+            "given-up": lambda job: given_up(self.office, self.worker.view, text(job, "name") if "name" in job else None),
+            **office.told.requests(), "set-until": self.dates.set, **self.post.requests(),
+            "figures": lambda _: self.office.figures.shown(self.worker.view.rows()),
+            **ClerkRequests(self.accounts, worker.view, office.journal).known,
         }
 
     def answer(self, job: Job) -> Job:
@@ -137,8 +137,8 @@ class Asks:
 
     def view(self, _: Job) -> Job:
         """The office as it is now."""
-        return {**self.hand.view.rows(), "server": self.hand.server is not None, "status": self.hand.status,
-                "ended": self.hand.ended(), "until": self.dates.shown(), "mail": self.post.is_on()}
+        return {**self.worker.view.rows(), "server": self.worker.server is not None, "status": self.worker.status,
+                "ended": self.worker.ended(), "until": self.dates.shown(), "mail": self.post.is_on()}
 
     def about(self, job: Job) -> Job:
         """All that is kept of a person."""
@@ -178,12 +178,12 @@ class Asks:
         lines = lines_of(job)
         if any("\n" in line for line in lines):
             return only(NOT_UNDERSTOOD)
-        if told.only_reads(lines):
+        if only_reads(lines):
             answers = self.try_out(job)["answers"]
             return {"answers": answers, "done": not is_refused(answers)}
-        whole = len(lines) > 1 or told.have_keys(lines)
-        kind = "lines" if len(lines) > 1 else told.verb_of(lines[0])
-        if not told.reason_to_copy(lines, self.hand.view.rows()["choices"]):
+        whole = len(lines) > 1 or have_keys(lines)
+        kind = "lines" if len(lines) > 1 else verb_of(lines[0])
+        if not reason_to_copy(lines, self.worker.view.rows()["choices"]):
             kind = ""
 
         before = Before(self.copies.file)
@@ -200,9 +200,9 @@ class Asks:
 
     def follow(self, lines: list[str], before: Before, reply: Job) -> None:
         """Brings what is kept beside the office up to lines that were carried out: addresses, accounts and figures."""
-        if unkept := self.office.figures.follow(lines, before.rows, self.hand.view.rows):
+        if unkept := self.office.figures.follow(lines, before.rows, self.worker.view.rows):
             reply["unkept"] = unkept
-        if removed := [line.split()[1] for line in lines if told.verb_of(line) == "remove"]:
+        if removed := [line.split()[1] for line in lines if verb_of(line) == "remove"]:
             self.let_go(removed)
 
     def let_go(self, removed: list[str]) -> None:
@@ -220,7 +220,7 @@ class Asks:
 
     def draw(self, job: Job) -> Job:
         """The draw by a seed."""
-        seed, count = text(job, "seed"), participants(self.hand.view.rows())
+        seed, count = text(job, "seed"), participants(self.worker.view.rows())
         line = " ".join(["draw", *self.program.words(seed, count)])
         spoken = f"draw $(rooms words --seed {seed} --count {count})"
         return self.change(job, ("draw", spoken), lambda file: [self.program.tell(line, file)], kind="draw")
@@ -228,7 +228,7 @@ class Asks:
     def bring_in(self, job: Job) -> Job:
         """A list. With `only_try` it is tried alone, and so is one under a label that is taken: it changes nothing."""
         kind, label, body = text(job, "kind"), text(job, "label"), body_of(job)
-        if job.get("only_try") or has_label(self.hand.view.rows(), label):
+        if job.get("only_try") or has_label(self.worker.view.rows(), label):
             with self.copies.copied() as copy:
                 known = has_label(rows_of(copy), label)
                 answer = self.program.bring_in(kind, label, body, copy)
@@ -239,13 +239,13 @@ class Asks:
                            lambda file: [self.program.bring_in(kind, label, body, file)], kind="import")
 
     def change(self, job: Job, names: tuple[str, str], carry_out: CarryOut, *, whole: bool = False, kind: str = "") -> Job:
-        """Hands a change to the hand, and gives its answers. The names are those of the copy before it and in the journal."""
+        """Gives a change to the worker, and gives its answers. The names are those of the copy before it and in the journal."""
         short, spoken = names
         spoken = spoken if len(spoken) <= LONGEST else spoken[:LONGEST] + " .."
         why = f"before {short}, by {job['who']}"
         asked = Change(job["who"], spoken, carry_out, whole=whole, kind=kind, why=why, seen=seen_in(job),
                        saw=saw_in(job))
-        change = self.hand.change(asked)
+        change = self.worker.change(asked)
         done = not is_refused(change.answers)
         return {"answers": change.answers, "done": done, "took": change.took, "copy": change.copy}
 
@@ -275,7 +275,7 @@ class Asks:
 
     def compare(self, job: Job) -> Job:
         """What becomes of people, if the office goes back to a kept copy."""
-        now = self.hand.view.rows()
+        now = self.worker.view.rows()
         with self.copies.copied() as copy:
             self.backups.take(text(job, "name"), copy)
             return differences(rows_of(copy), now)
@@ -298,7 +298,7 @@ class Asks:
             if now and answer.status == 0:
                 found.update(differences(rows_of(copy), now))
             return [answer]
-        change = self.hand.change(Change(job["who"], f"back {name}", carry_out, whole=True, kind="back",
+        change = self.worker.change(Change(job["who"], f"back {name}", carry_out, whole=True, kind="back",
                                          why=f"before back {name}, by {job['who']}", damaged=True, seen=seen_in(job)))
         if is_refused(change.answers):
             said = change.answers[-1].text.strip()
@@ -313,7 +313,7 @@ class Asks:
             blank([label], copy)
             return [self.program.look(copy)]
         spoken = masked(f"blank {label}")
-        change = self.hand.change(Change(job["who"], spoken, carry_out, whole=True, seen=seen_in(job)))
+        change = self.worker.change(Change(job["who"], spoken, carry_out, whole=True, seen=seen_in(job)))
         if is_refused(change.answers):
             said = change.answers[-1].text.strip()
             raise Fault(f"the program does not take the office afterwards ({said}). Nothing was changed.")
@@ -334,7 +334,7 @@ class Asks:
                 return answers
             blank(sorted({record[0] for record in kept_in(copy, person)["lists"]}), copy)
             return [*answers, self.program.look(copy)]
-        change = self.hand.change(Change(job["who"], f"forget {person}", carry_out, whole=True, kind="forget",
+        change = self.worker.change(Change(job["who"], f"forget {person}", carry_out, whole=True, kind="forget",
                                          why=f"before forget {person}, by {job['who']}", seen=seen_in(job),
                                          saw=saw_in(job)))
         done = not is_refused(change.answers)
@@ -348,7 +348,7 @@ class Asks:
         values = {name: text(job, name) for name in ("name", "key") if name in job}
         if not values:
             raise Fault("not understood: neither name nor key")
-        if told.name_shows_a_key(values.get("name", "")):
+        if name_shows_a_key(values.get("name", "")):
             raise Fault("the name has a word that may be a key. Nothing was changed.")
         spoken = masked(f"correct {person}: {' and '.join(values)}")
         return {"corrected": person, "copy": self.correct_all(job, {person: values}, spoken, spoken)}
@@ -368,7 +368,7 @@ class Asks:
         def carry_out(copy: Path) -> list[Answer]:
             correct(people, copy)
             return [self.program.look(copy)]
-        change = self.hand.change(Change(job["who"], spoken, carry_out, whole=True, kind="correct",
+        change = self.worker.change(Change(job["who"], spoken, carry_out, whole=True, kind="correct",
                                          why=f"before {short}, by {job['who']}", seen=seen_in(job), saw=saw_in(job)))
         if is_refused(change.answers):
             said = change.answers[-1].text.strip()

@@ -1,6 +1,6 @@
-"""The hand: the one thread that owns `rooms serve`, and works on the office's file between two servings.
+"""The worker: the one thread that owns `rooms serve`, and works on the office's file between two servings.
 
-Changes wait in a queue. The server is stopped once for all that wait, and started again after them. The hand works
+Changes wait in a queue. The server is stopped once for all that wait, and started again after them. The worker works
 in the main thread: what it starts ends with this thread, even if the keeper is killed.
 """
 
@@ -86,7 +86,7 @@ class Ended:
     status: int
 
 
-class Hand:  # pylint: disable=too-many-instance-attributes  # the parts of the office, and its server
+class Worker:  # pylint: disable=too-many-instance-attributes  # the parts of the office, and its server
     """Owns the server, and carries out one change after the other."""
 
     def __init__(self, office: Office) -> None:
@@ -124,14 +124,14 @@ class Hand:  # pylint: disable=too-many-instance-attributes  # the parts of the 
         return {"times": self.ends, "at": at, "ago": round(abs(time.time() - self.ended_at)), "status": self.status}
 
     def end(self) -> None:
-        """Ends the hand after the change that it is carrying out."""
+        """Ends the worker after the change that it is carrying out."""
         self.over = True
         self.work.put(None)
 
-    # --- the hand's own thread
+    # --- the worker's own thread
 
     def keep(self) -> None:
-        """Keeps the server running, and carries out changes, until the hand is ended."""
+        """Keeps the server running, and carries out changes, until the worker is ended."""
         self.start()
         while not self.over:
             item = self.next_work()
@@ -190,14 +190,14 @@ class Hand:  # pylint: disable=too-many-instance-attributes  # the parts of the 
     def make(self, change: Change) -> None:
         """Makes a change, if the office is as its sender saw it, with the copy before it and the journal.
 
-        The hand has the file for itself meanwhile, but for the time in which the program carries out a line on it.
+        The worker has the file for itself meanwhile, but for the time in which the program carries out a line on it.
         """
         began = time.monotonic()
         self.place.finish()
         with contextlib.ExitStack() as holding:
             held = holding.enter_context(self.place.held())
-            asks = change.seen is not None or change.saw is not None
-            if asks and (why := why_stale(self.view.rows(still=True), change.seen, change.saw)):
+            saw_something = change.seen is not None or change.saw is not None
+            if saw_something and (why := why_stale(self.view.rows(still=True), change.seen, change.saw)):
                 raise Fault(why)
             if change.kind:
                 change.copy = self.backups.keep(change.kind, change.why, still=True, damaged=change.damaged)
