@@ -24,12 +24,12 @@ import times
 
 import keeper_client
 import plain
+import views
 from codes import unbroken
 from keeper_client import Answer, KeeperFault
 from memory import Memory
 from office_view import Office
 
-HERE = Path(__file__).resolve().parent
 # As in haproxy.cfg. A list that is too long comes as far as this page, which says so: where the proxy answers before all
 # of a body is there, some clients of HTTP/2, such as curl, report a failure in place of the answer.
 LONGEST_FORM = 5_000_000
@@ -136,8 +136,8 @@ def go_to(address: str) -> NoReturn:
 def show(view: str, **values: Any) -> str:
     """A page of a template."""
     values = {"office": None, **values}
-    return str(bottle.template(view, template_lookup=[str(HERE / "views")], token=token(), clerk=clerk(), plain=plain,
-                               times=times, unbroken=unbroken, news=memory.news(clerk()), here=request.path, **values))
+    return views.render(view, token=token(), clerk=clerk(), plain=plain, times=times, unbroken=unbroken,
+                        news=memory.news(clerk()), here=request.path, **values)
 
 
 def download(body: str | bytes, name: str, kind: str = "text/csv; charset=utf-8") -> HTTPResponse:
@@ -198,7 +198,7 @@ def change(question: str, **fields: Any) -> bool:
 
 def down(why: str) -> str:
     """The page of what cannot be shown or done."""
-    return str(bottle.template("down", template_lookup=[str(HERE / "views")], why=why[:1].upper() + why[1:]))
+    return views.render("down", why=why[:1].upper() + why[1:])
 
 
 def tell_keeper_faults(callback: Callable[..., Any]) -> Callable[..., Any]:
