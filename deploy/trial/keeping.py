@@ -14,7 +14,8 @@ import time
 from pathlib import Path
 
 from hanging import try_hanging
-from stand import Stand, check, command_of, until
+from stand import Stand, check, until
+from watcher import Watcher
 
 KEY = "abcdefabcdefabcdefabcdefabcdef99"
 OTHER = "0011223344556677889900aabbccddee"
@@ -38,31 +39,6 @@ ON_COMMAND_LINES = (
     ("name", KEY, "Ann"),
     (KEY,),
 )
-
-
-class Watcher:
-    """Reads the command lines of all processes, again and again, as any account may."""
-
-    def __init__(self, *secrets):
-        self.secrets, self.seen, self.looks, self.over = secrets, set(), 0, threading.Event()
-        self.thread = threading.Thread(target=self.watch)
-
-    def __enter__(self):
-        self.thread.start()
-        return self
-
-    def __exit__(self, *_):
-        self.over.set()
-        self.thread.join()
-
-    def watch(self):
-        """Notes each command line with a secret."""
-        while not self.over.is_set():
-            for process in Path("/proc").glob("[0-9]*"):
-                line = " ".join(command_of(process.name))
-                if any(secret in line for secret in self.secrets):
-                    self.seen.add(line)
-            self.looks += 1
 
 
 def quiet_lines(stand):
