@@ -6,10 +6,9 @@ import contextlib
 import http.client
 import os
 import pwd
-import random
+import re
 import secrets
 import shutil
-import socket
 import subprocess
 import sys
 import tempfile
@@ -24,6 +23,7 @@ from program import bound
 from settings import Fault
 
 from college import NOTICE, College
+from ports import free_ports
 
 CLERK = "clerk"
 HOST = "127.0.0.1"
@@ -42,19 +42,6 @@ def missing() -> list[str]:
     """Debian's packages that are missing."""
     return [*([] if shutil.which("haproxy", path=PATH) else ["haproxy"]),
             *(package for module, package in MODULES.items() if find_spec(module) is None)]
-
-
-def free_ports(count: int) -> list[int]:
-    """So many ports that nobody uses now, below those that the system gives to connections."""
-    lowest = int(Path("/proc/sys/net/ipv4/ip_local_port_range").read_text(encoding="ascii").split()[0])
-    free: list[int] = []
-    for port in random.sample(range(max(1024, lowest // 2), lowest), 1000):
-        with contextlib.suppress(OSError), socket.socket() as probe:
-            probe.bind((HOST, port))
-            free.append(port)
-        if len(free) == count:
-            return free
-    raise Fault(f"no {count} ports are free below {lowest}")
 
 
 class DemoOffice:  # pylint: disable=too-many-instance-attributes  # a machine in small
@@ -133,6 +120,7 @@ class DemoOffice:  # pylint: disable=too-many-instance-attributes  # a machine i
             "bind :::443 v4v6 ssl crt /etc/haproxy/rooms.pem alpn h2,http/1.1 strict-sni\n": f"bind {HOST}:{self.port}\n",
             "server one 127.0.0.1:290 ": f"server one {HOST}:{self.server_port} ",
             "server page unix@/rooms-page.sock ": f"server page unix@{self.folder}/page.sock ",
+            "server told unix@/rooms-told.sock ": f"server told unix@{self.folder}/told.sock ",
             "userlist office\n": f"userlist office\n    user {CLERK} insecure-password {self.password}\n",
             "acl names_clerk var(txn.name) -m str anna bert\n": f"acl names_clerk var(txn.name) -m str {CLERK}\n",
         }.items():
@@ -149,7 +137,8 @@ class DemoOffice:  # pylint: disable=too-many-instance-attributes  # a machine i
 
     def launch(self, name: str, *words: str, **variables: str) -> None:
         """Starts something that ends with this process, and that a key on the terminal does not reach."""
-        environment = {**os.environ, "PYTHONDONTWRITEBYTECODE": "1", "TMPDIR": str(self.folder), **variables}
+        own = {key: value for key, value in os.environ.items() if not key.startswith(("ROOMS_", "LISTEN_"))}
+        environment = {**own, "PYTHONDONTWRITEBYTECODE": "1", "TMPDIR": str(self.folder), **variables}
         with open(self.folder / f"{name}.log", "wb") as log:
             # pylint: disable-next=consider-using-with  # it ends with the office
             self.running[name] = subprocess.Popen(bound(*words), stdin=subprocess.DEVNULL, stdout=log, stderr=log,
@@ -159,16 +148,23 @@ class DemoOffice:  # pylint: disable=too-many-instance-attributes  # a machine i
         """Starts all of it, and waits until a clerk and a resident are answered."""
         if len(str(self.folder)) > LONGEST_PATH:
             raise Fault(f"the name of the folder {self.folder} is too long: set TMPDIR to a shorter one")
+        if not re.fullmatch(r"[\w./-]+", str(self.folder)):
+            raise Fault(f"HAProxy takes no folder of the name {self.folder}: set TMPDIR to one without spaces and other signs")
         self.write_portal()
         proxy = shutil.which("haproxy", path=PATH) or "haproxy"
         self.launch("haproxy", proxy, "-db", "-f", str(self.write_proxy()))
-        keeper = str(self.folder / "keeper.sock")
+        # A path of each kind that the keeper has, or it would take that of a real office on this machine.
+        keeper, told = str(self.folder / "keeper.sock"), self.folder / "told"
+        told.mkdir()
         self.launch("page", sys.executable, "-B", str(self.modules / "page/page.py"), ROOMS_SOCKET=keeper,
                     ROOMS_PAGE_SOCKET=str(self.folder / "page.sock"), ROOMS_SCHEME="http")
+        self.launch("told", sys.executable, "-B", str(self.modules / "told_server.py"), ROOMS_TOLD=str(told),
+                    ROOMS_TOLD_SOCKET=str(self.folder / "told.sock"))
         self.fill()
         self.launch("keeper", sys.executable, "-B", str(self.modules / "keeper.py"), ROOMS_SOCKET=keeper,
                     ROOMS_FILE=str(self.folder / "office/rooms.db"), ROOMS_PROGRAM=self.program,
                     ROOMS_PORT=str(self.server_port), ROOMS_SCRATCH=str(self.folder / "copies"),
+                    ROOMS_TOLD=str(told), ROOMS_MAIL=str(self.folder / "no-mail.conf"),
                     ROOMS_SPEAKERS=pwd.getpwuid(os.geteuid()).pw_name)
         self.wait()
 

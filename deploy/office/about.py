@@ -10,13 +10,14 @@ from pathlib import Path
 from typing import Any
 from urllib.parse import quote
 
+from languages import _
+from lines import IDENTIFIER
 from office import Office
 from placing import beside
 from settings import Fault
 
 # The columns of an imported list that are shown; that of the key in a list of people is not.
 KEY_COLUMN = {"people": 2}
-IDENTIFIER = re.compile(r"[A-Z0-9]{1,12}")
 
 
 def records_in(database: sqlite3.Connection, person: str) -> list[list[Any]]:
@@ -28,7 +29,7 @@ def records_in(database: sqlite3.Connection, person: str) -> list[list[Any]]:
         with contextlib.suppress(csv.Error):
             for fields in csv.reader(io.StringIO(text, newline="")):
                 if fields and fields[0] == person:
-                    found.append([label, kind, ["(key)" if place == KEY_COLUMN.get(kind) and field else field
+                    found.append([label, kind, [_("(key)") if place == KEY_COLUMN.get(kind) and field else field
                                                 for place, field in enumerate(fields)]])
     return found
 

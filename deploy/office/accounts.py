@@ -16,9 +16,10 @@ from contextlib import closing
 from pathlib import Path
 from typing import Any, NamedTuple
 
-from about import IDENTIFIER
 from copies import Copies
 from journal import Journal
+from languages import _
+from lines import IDENTIFIER
 from placing import beside, to_disk
 from rows import View
 from settings import Fault, unwritten
@@ -73,14 +74,16 @@ def people_of(text: str, register: set[str]) -> dict[str, str]:
     """The person of each account in a list. Names that can be taken for one another are refused."""
     found: dict[str, str] = {}
     taken: set[str] = set()
+    people: set[str] = set()
     for number, row in enumerate(records_of(text), 1):
         if number == 1 or not row:
             continue
-        why = why_bad(row, register, taken, set(found.values()))
+        why = why_bad(row, register, taken, people)
         if why:
             raise Fault(f"row {number} of the list: {why}. Nothing was changed.")
         person, account = row
         taken.add(alike(account))
+        people.add(person)
         found[account] = person
     return found
 
@@ -105,7 +108,7 @@ class Accounts:
     """The file of the accounts."""
 
     def __init__(self, file: Path) -> None:
-        self.file, self.lock = file.with_name("accounts"), threading.Lock()
+        self.file, self.lock = file, threading.Lock()
         self.seen: tuple[tuple[int, int], Kept] | None = None
 
     def kept(self) -> Kept:
@@ -128,7 +131,8 @@ class Accounts:
                 return Kept(rule, people)
         except (ValueError, KeyError, TypeError, AttributeError):
             pass
-        raise Fault(f"the file {self.file} is damaged: nobody signs in by an account. Bring the list of accounts in again.")
+        raise Fault(_("the file {path} is damaged: nobody signs in by an account. Bring the list of accounts in again.",
+                      path=self.file))
 
     def write(self, kept: Kept) -> None:
         """Puts another file in the place of this one."""
@@ -149,18 +153,21 @@ class Accounts:
         with self.lock:
             self.write(Kept(rule, people))
 
+    def erase(self, people: set[str]) -> None:
+        """Takes people out."""
+        with self.lock:
+            kept = self.kept()
+            stay = {account: person for account, person in kept.people.items() if person not in people}
+            if stay != kept.people:
+                self.write(Kept(kept.rule, stay))
+
     def forget(self, people: list[str]) -> None:
         """Takes people out who have left the register: whoever gets such an identifier later is somebody else."""
-        gone = set(people)
         try:
-            with self.lock:
-                kept = self.kept()
-                stay = {account: person for account, person in kept.people.items() if person not in gone}
-                if stay != kept.people:
-                    self.write(Kept(kept.rule, stay))
+            self.erase(set(people))
         except Fault as fault:
-            raise Fault("the office was changed, but not the list of accounts. Bring this list in again, without those who have "
-                        "left.") from fault
+            raise Fault(_("the office was changed, but not the list of accounts. Bring this list in again, without those who "
+                          "have left.")) from fault
 
     def about(self, person: str) -> dict[str, Any]:
         """The account of a person, if the list has one."""
@@ -185,7 +192,7 @@ class ClerkRequests:
         self.accounts, self.view, self.journal = accounts, view, journal
         self.known = {"accounts": self.show, "set-accounts": self.put}
 
-    def show(self, _: dict[str, Any]) -> dict[str, Any]:
+    def show(self, _job: dict[str, Any]) -> dict[str, Any]:
         """How the person of an account is found."""
         kept = self.accounts.kept()
         return {"rule": kept.rule, "count": len(kept.people)}
@@ -196,8 +203,8 @@ class ClerkRequests:
         if not isinstance(rule, str) or not isinstance(text, str):
             raise Fault("not understood: rule or list is no text")
         people = people_of(text, {row[0] for row in self.view.rows()["people"]}) if rule == LIST else {}
-        self.accounts.put(rule, people)
-        self.journal.note(who=job["who"], line=f"accounts {rule}", answer=f"{len(people)} accounts")
+        with self.journal.change(job["who"], f"accounts {rule}: {len(people)}"):
+            self.accounts.put(rule, people)
         return self.show(job)
 
 

@@ -268,28 +268,25 @@ class Unreadable(Exception):
 # The order of the lines of a record. Rounds that were opened and cancelled may come before them.
 LINES = ["room", "person", "home", "grade", "open", "cancel", "choose", "withdraw", "going", "shut", "close", "draw",
          "run", "publish", "round", "order", "results"]
-COMMENTS = ["round"], ["seed"], ["result"]
-NEEDED = ["# round", "open", "close", "draw", "run"]
+COMMENTS, NEEDED = (["round"], ["seed"], ["result"]), ["# round", "open", "close", "draw", "run"]
 
 
 class Record:  # pylint: disable=too-many-instance-attributes  # a list for each kind of line
-    """What a record says. Comments have the number, the results, the seed, and what the journal says (`history`)."""
+    """What a record says. Comments have the number, the results, the seed, and what the journal says (`history`). A sign that
+    a terminal carries out counts as a space: by such signs a record could replace what is found wrong in it."""
 
     def __init__(self, text: str) -> None:
-        self.number, self.seed, self.last = 0, "", 0
+        self.number, self.seed, self.last, self.history = 0, "", 0, list[str]()
         self.lines: set[str] = set()  # those that were read, by their first words: each of them comes once
-        self.history: list[str] = []
         self.rooms: dict[str, bool] = {}
-        self.homes: dict[str, str | None] = {}
-        self.withdrawn: set[str] = set()
-        self.going: set[str] = set()
+        self.homes, self.results = dict[str, str | None](), dict[str, str | None]()
+        self.withdrawn, self.going = set[str](), set[str]()
         self.grades: dict[str, int] = {}
         self.choices: dict[str, list[str]] = {}
         self.words: dict[str, str] = {}
-        self.results: dict[str, str | None] = {}
         for number, line in enumerate(text.split("\n"), 1):
             try:
-                self.read(line.split())
+                self.read("".join(sign if sign.isprintable() else " " for sign in line).split())
             except Unreadable as why:
                 raise Unreadable(f"line {number}: {why}") from why
             except (KeyError, ValueError) as why:
@@ -298,11 +295,8 @@ class Record:  # pylint: disable=too-many-instance-attributes  # a list for each
         if missing:
             raise Unreadable(f"it has no line `{missing[0]}`")
 
-    def read(self, words: list[str]) -> None:
-        """One line. One that is unknown or out of order ends in a KeyError or a ValueError."""
-        if not words or (words[0].startswith("#") and words[1:2] not in COMMENTS):
-            self.history += [f"- {' '.join(words[2:])}"] if words[1:2] == ["journal:"] else []
-            return
+    def note(self, words: list[str]) -> None:
+        """Notes that a line is there: once, and in its order."""
         name = " ".join(words[:1 if words[0] == "draw" else 3 if words[1:2] == ["result"] else 2])
         if name in self.lines:
             raise Unreadable(f"there is a second line `{name}`")
@@ -311,6 +305,13 @@ class Record:  # pylint: disable=too-many-instance-attributes  # a list for each
             if LINES.index(words[0]) < self.last:
                 raise ValueError
             self.last = LINES.index(words[0])
+
+    def read(self, words: list[str]) -> None:
+        """One line. One that is unknown or out of order ends in a KeyError or a ValueError."""
+        if not words or (words[0].startswith("#") and words[1:2] not in COMMENTS):
+            self.history += [f"- {' '.join(words[2:])}"] if words[1:2] == ["journal:"] else []
+            return
+        self.note(words)
         match words:
             case ["cancel"]:
                 self.last, self.lines = 0, self.lines - {"open", "cancel"}

@@ -20,6 +20,7 @@ from typing import Any, NamedTuple
 
 import times
 from copies import ENDS, Copies, make_whole
+from languages import N_, _
 from placing import beside, to_disk
 from settings import Fault, Settings, unwritten
 
@@ -29,6 +30,7 @@ ASKED_FOR, BACK = "backup", "back"
 WISHES = re.compile(r"\b(choose [^ ,;]+)(?: [^ ,;(]+)+")
 DAYS = "days"
 MOST_DAYS = 3650
+DOUBT = datetime.timedelta(days=2)  # so much older than a copy may be none of the last two nights is, unless they failed
 
 
 class Stay(NamedTuple):
@@ -49,7 +51,7 @@ class Backups:
         try:
             return self.taken(kind, why, still, damaged)
         except OSError as fault:
-            raise unwritten("a copy of the office", fault) from fault
+            raise unwritten(N_("a copy of the office"), fault) from fault
 
     def taken(self, kind: str, why: str, still: bool, damaged: bool) -> str:
         """Takes the copy. Before a line, while residents wait, nobody looks: the program has just read all of it."""
@@ -58,7 +60,7 @@ class Backups:
             if make_whole(copy, look=damaged or not still):
                 return self.store([copy], {"kind": kind, "why": why, "whole": True})
         if not damaged:
-            raise Fault("the office's file is damaged, so nothing was done. Put a copy back: rooms-office back NAME")
+            raise Fault(_("the office's file is damaged, so nothing was done. Put a copy back: rooms-office back NAME"))
         with self.copies.copied(still) as copy:  # anew: to look at the first one may have changed it
             return self.store([one for end in ENDS if (one := beside(copy, end)).exists()],
                               {"kind": kind, "why": why, "whole": False})
@@ -134,7 +136,7 @@ class Backups:
             part.rename(self.folder / DAYS)
             to_disk(self.folder)
         except OSError as fault:
-            raise unwritten("the number of days", fault) from fault
+            raise unwritten(N_("the number of days"), fault) from fault
         self.drop_old()
 
     def stays(self, days: int) -> dict[str, Stay]:
@@ -153,8 +155,9 @@ class Backups:
 
     def old(self, days: int) -> list[str]:
         """The copies that go, if a copy stays for so many days at most."""
-        last = datetime.datetime.now(datetime.timezone.utc) - datetime.timedelta(days=days)
-        return [name for name, stay in self.stays(days).items() if stay.more <= 0 or made_at(name) < last]
+        stays = self.stays(days)
+        gone = too_old(list(stays), [name for name in stays if self.entry(name)["kind"] == ASKED_FOR], days)
+        return [name for name, stay in stays.items() if stay.more <= 0 or name in gone]
 
     def drop_old(self) -> None:
         """Deletes the copies that are too old, and the oldest ones of each kind."""
@@ -165,14 +168,14 @@ class Backups:
         """Puts a kept copy over another copy, as one file."""
         source = self.folder / name / target.name
         if not NAME.fullmatch(name) or not source.is_file():
-            raise Fault(f"there is no copy {name!r}. See them all: rooms-office backups")
+            raise Fault(_("there is no copy {name}. See them all: rooms-office backups", name=repr(name)))
         for end in (*ENDS, "-shm"):
             beside(target, end).unlink(missing_ok=True)
         for end in ENDS:
             with contextlib.suppress(FileNotFoundError):
                 shutil.copyfile(beside(source, end), beside(target, end))
         if not make_whole(target):
-            raise Fault(f"the copy {name} is damaged, and was not put back")
+            raise Fault(_("the copy {name} is damaged, and was not put back", name=name))
 
     def clear(self) -> None:
         """Deletes what a keeper left that was killed while it wrote a copy."""
@@ -186,6 +189,15 @@ class Backups:
 def made_at(name: str) -> datetime.datetime:
     """When a copy was made, by its name."""
     return datetime.datetime.strptime(name[:16], times.COPY).replace(tzinfo=datetime.timezone.utc)
+
+
+def too_old(names: list[str], nights: list[str], days: int) -> set[str]:
+    """Those of these copies that are older than so many days. None, if one of the last two that were asked for is much older
+    itself: then the clock may be set far ahead, and nobody knows how old any copy is."""
+    last = datetime.datetime.now(datetime.timezone.utc) - datetime.timedelta(days=days)
+    if any(made_at(name) < last - DOUBT for name in sorted(nights or names)[-2:]):
+        return set()
+    return {name for name in names if made_at(name) < last}
 
 
 def blank(labels: list[str], file: Path) -> None:
@@ -202,6 +214,6 @@ def blank(labels: list[str], file: Path) -> None:
         with database:
             for label in labels:
                 if database.execute("UPDATE list SET body = ? WHERE label = ?", (b"blanked", label)).rowcount != 1:
-                    raise Fault(f"no list has come in under the label {label!r}")
+                    raise Fault(_("no list has come in under the label {label}", label=repr(label)))
         database.execute("VACUUM")
         database.execute("PRAGMA wal_checkpoint(TRUNCATE)")

@@ -7,7 +7,9 @@ it is newer than the backup's.
 import contextlib
 import datetime
 import hashlib
+import json
 import os
+import pwd
 import re
 import shutil
 import subprocess
@@ -16,8 +18,9 @@ from contextlib import AbstractContextManager
 from pathlib import Path
 from typing import NamedTuple
 
+import told
 from journal import Journal
-from machine_backup import FILES, STATE, About, Kept
+from machine_backup import FILES, STATE, TOLD, About, Kept
 from machine_files import CERTIFICATE, MACHINE, PROXY, version
 from placing import to_disk
 from settings import Fault
@@ -25,6 +28,14 @@ from settings import Fault
 Owner = Callable[[], AbstractContextManager[None]]
 OPENSSL = ("openssl", "x509", "-noout", "-enddate", "-ext", "subjectAltName", "-in")
 SECONDS = 60
+UNTIL = "until"
+# The files that name people, and what an administrator has to know of an older one.
+WARNINGS = {
+    "mail.db": "whoever was erased since has an address again, and what was sent since is not known and can be sent a second time",
+    "accounts": "whoever was removed since is on the list again: bring the newest list in (rooms-office accounts)",
+    "languages": "set the languages again that were changed since",
+}
+OF_PEOPLE = set(WARNINGS)
 
 
 class Goal(NamedTuple):
@@ -70,12 +81,17 @@ def write(goal: Goal, owner: Owner) -> Path:
     return part
 
 
+def is_same(goal: Goal) -> bool:
+    """Whether the file is in its place already."""
+    target = goal.target
+    return target.is_file() and not target.is_symlink() and hashlib.sha256(target.read_bytes()).hexdigest() == goal.sum
+
+
 def bring(goal: Goal, owner: Owner) -> str:
     """Puts a file in its place, and says what became of what was there."""
     with owner():
         there = os.path.lexists(goal.target)
-        same = there and goal.target.is_file() and not goal.target.is_symlink()
-        if same and hashlib.sha256(goal.target.read_bytes()).hexdigest() == goal.sum:
+        if is_same(goal):
             return f"as it was: {goal.target}"
     part = write(goal, owner)
     with owner():
@@ -104,11 +120,20 @@ def bring_journal(goal: Goal, owner: Owner, copy: str) -> str:
     return f"{said}\nthe journal says that the office went back to the copy {copy}"
 
 
+def date_in(until: Path) -> str:
+    """The date until which lists are taken, as the keeper's file has it; nothing if there is none."""
+    with contextlib.suppress(OSError, ValueError, KeyError, TypeError):
+        found = json.loads(until.read_text(encoding="utf-8"))
+        return f"{found['local']} ({found['zone']})".replace("T", " ", 1)
+    return "a date that cannot be read" if until.exists() else ""
+
+
 class Rest:
     """What is to be brought beside the office's file."""
 
     def __init__(self, folder: Path, about: About, sums: dict[str, str], parts: set[str]) -> None:
         self.folder, self.about, self.sums, self.parts = folder, about, sums, parts
+        self.brought: set[str] = set()  # the files of people, in which somebody may be who was erased since
 
     def goals(self, top: str, target: Path, folder_mode: int) -> list[Goal]:
         """What is to be brought out of one folder of the backup."""
@@ -116,9 +141,45 @@ class Rest:
                 for name, kept in self.about.files.items() if name.startswith(f"{top}/") and kept.part in self.parts]
 
     def bring_state(self, data: Path, owner: Owner) -> None:
-        """What lies beside the office's file, by its owner. The keeper is stopped."""
-        for goal in self.goals(STATE, data, 0o700):
-            print(bring_journal(goal, owner, self.about.copy) if goal.kept.part == "journal" else bring(goal, owner), flush=True)
+        """What lies beside the office's file, by its owner. The keeper is stopped. A date until which lists are taken is not
+        brought, since the keeper would close the round at once if it is past."""
+        goals = [goal for goal in self.goals(STATE, data, 0o700) if goal.target.name != UNTIL]
+        with owner():
+            there = {name for name in OF_PEOPLE if (data / name).exists()}
+        for goal in goals:
+            name = goal.target.name.removesuffix("-journal")
+            if goal.kept.part == "journal":
+                print(bring_journal(goal, owner, self.about.copy), flush=True)
+            elif name in there:
+                print(self.left(goal, owner), flush=True)
+            else:
+                print(bring(goal, owner), flush=True)
+                self.brought |= {name} & OF_PEOPLE
+
+    @staticmethod
+    def left(goal: Goal, owner: Owner) -> str:
+        """What is said of a file of people where one is already. It stays, and none gets a second name: whoever was erased from one
+        would be in the other, and what was sent since stands in it alone."""
+        with owner():
+            same = is_same(goal)
+        return (f"as it was: {goal.target}" if same else
+                f"not brought: {goal.target} is another one here. To have the backup's, move it away and begin again")
+
+    def bring_told(self, folder: Path, owner: Owner, account: str) -> None:
+        """What residents read of rooms, by its owner, who is this account. The keeper is stopped. The names of pictures are made
+        of what is in them, so a picture that is there is the same."""
+        goals = self.goals(TOLD, folder, 0o755)
+        if goals and not folder.is_dir():
+            folder.mkdir(mode=0o755)
+            folder.chmod(0o755)
+            shutil.chown(folder, account, pwd.getpwnam(account).pw_gid)
+        texts = [goal for goal in goals if goal.target.name == told.FILE]
+        for goal in goals:
+            said = bring(goal, owner)
+            if goal in texts:
+                print(said, flush=True)
+        if len(goals) > len(texts):
+            print(f"in place: {len(goals) - len(texts)} pictures of rooms in {folder}", flush=True)
 
     def bring_files(self) -> None:
         """The files of the machine, by root."""
@@ -129,12 +190,17 @@ class Rest:
         """What an administrator has to do by hand."""
         has = {kept.part for kept in self.about.files.values()}
         left = []
+        if until := date_in(self.folder / STATE / UNTIL):
+            left.append(f"lists were to be taken until {until}. This date was not brought: set it again on the office's page")
+        left += [f"{name} is as it was when the backup was made: {WARNINGS[name]}" for name in sorted(self.brought)]
         if not has <= self.parts:
             left.append(f"the backup also has {', '.join(sorted(has - self.parts))}: rooms-restore --with all brings these too")
         if "proxy" in self.parts:
             left += [f"the backup lacks {one}: set it up by hand" for one in self.about.absent]
             left += [*proxy_faults(), *certificate_words(), "run systemctl restart haproxy",
                      "clerks sign in with the passwords of the backup: take out those who have left since"]
+        if "portal" in self.parts and any(name.startswith(f"{FILES}/etc/rooms/sign-in/") for name in self.about.files):
+            left.append("residents sign in by the college's accounts: sign-in/README.md, \"On a new machine\"")
         if "units" in self.parts & has:
             left.append("run systemctl daemon-reload, and start the keeper and the page again; systemctl restart rsyslog")
         if self.parts & {"portal", "proxy"} and self.about.version != version():

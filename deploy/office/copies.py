@@ -20,6 +20,7 @@ from collections.abc import Iterator
 from pathlib import Path
 from typing import NamedTuple
 
+from languages import _
 from placing import Place, beside
 from settings import Fault, Settings
 
@@ -86,11 +87,11 @@ class Copies:
 
     def copy_to(self, folder: Path, still: bool = False) -> Path:
         """Copies file and log into a folder. With `still` nobody writes: the file is held."""
-        for _ in range(TRIES):
+        for __ in range(TRIES):
             if self.copy_once(folder, still):
                 return folder / self.file.name
             time.sleep(COARSE / 1e9)
-        raise Fault("the file changes all the time. Try again.")
+        raise Fault(_("the file changes all the time. Try again."))
 
     def copy_once(self, folder: Path, still: bool) -> bool:
         """Copies the log, and then the file. Whether the copy is sure to be that of one moment."""

@@ -16,11 +16,14 @@ import zoneinfo
 from pathlib import Path
 from typing import NamedTuple
 
+import times
 from job import Job
+from languages import N_, _
+from mail_why import FAILED
 from office import Office
 from placing import beside, to_disk
 from program import is_refused
-from seen import stamp, why_stale
+from seen import Rows, stamp, why_stale
 from settings import Fault, unwritten
 from told import mark_of
 from worker import Change, Worker
@@ -29,8 +32,21 @@ WRITTEN = re.compile(r"[0-9]{4}-[0-9]{2}-[0-9]{2}T[0-9]{2}:[0-9]{2}(:[0-9]{2})?"
 LOCALTIME, ZONES = Path("/etc/localtime"), "zoneinfo/"
 LONGEST = datetime.timedelta(days=2 * 366)
 OFTEN, LONGEST_PAUSE = 1.0, 300.0  # seconds between two looks at the clock, and between two tries to close
-CHANGED = "Another date was set since you opened the page. Nothing was changed: look again."
-NOT_OPEN = "No round is open, so no date can be set. Nothing was changed."
+CHANGED = N_("Another date was set since you opened the page. Nothing was changed: look again.")
+NOT_OPEN = N_("No round is open, so no date can be set. Nothing was changed.")
+LOST = N_("the date until which lists are taken is lost: the file {file} is damaged. Set the date again.")
+ANSWERED = N_("the program answered: {answer}")
+
+
+class Why(NamedTuple):
+    """What went wrong while no clerk asked: a text in English, and its values. A clerk reads it in their language."""
+
+    text: str
+    values: dict[str, object]
+
+    def told(self) -> str:
+        """In the language that is spoken."""
+        return _(self.text, **self.values)
 
 
 class Until(NamedTuple):
@@ -77,20 +93,25 @@ def moment_of(written: str, zone: str) -> datetime.datetime:
             raise ValueError
         local = datetime.datetime.fromisoformat(written)
     except ValueError as fault:
-        raise Fault("this is no date with a time, such as 2027-05-31 and 12:00. Nothing was changed.") from fault
+        raise Fault(_("this is no date with a time, such as 2027-05-31 and 12:00. Nothing was changed.")) from fault
     try:
         held = local.replace(tzinfo=zone_of(zone))
         first, second = (held.replace(fold=fold).astimezone(datetime.timezone.utc) for fold in (0, 1))
         shown = first.astimezone(held.tzinfo).replace(tzinfo=None)
     except (OverflowError, ValueError) as fault:
-        raise Fault("this date is too far away. Nothing was changed.") from fault
+        raise Fault(_("this date is too far away. Nothing was changed.")) from fault
+    day, clock = times.of_day(f"{local:%Y-%m-%d}"), f"{local:%H:%M}"
     if shown != local:
-        raise Fault(f"there is no {local:%H:%M} on {local:%Y-%m-%d}: the clocks go forward then ({zone}). Nothing was changed: "
-                    "choose another time.")
+        raise Fault(_("there is no {time} on {day}: the clocks go forward then ({zone}). Nothing was changed: choose another time.",
+                      time=clock, day=day, zone=zone))
     if first != second:
-        raise Fault(f"{local:%H:%M} comes twice on {local:%Y-%m-%d}: the clocks go back then ({zone}). Nothing was changed: "
-                    "choose another time.")
+        raise Fault(_("{time} comes twice on {day}: the clocks go back then ({zone}). Nothing was changed: choose another time.",
+                      time=clock, day=day, zone=zone))
     return first
+
+
+class Damaged(Exception):
+    """The file has no date in it."""
 
 
 class Dates:
@@ -99,18 +120,18 @@ class Dates:
     def __init__(self, office: Office, worker: Worker) -> None:
         self.office, self.worker, self.lock = office, worker, threading.Lock()
         self.until: Until | None = None
-        self.fault = ""  # why there is no date, or why the round could not be closed
+        self.fault = Why("", {})  # why there is no date, or why the round could not be closed
         self.pause, self.due = OFTEN, 0.0
         self.published: tuple[Until | None, int] | None = None  # what residents read, and when that was written
         try:
             self.until = self.read()
-        except Fault as fault:
-            self.fault = str(fault)
+        except Damaged:
+            self.fault = Why(LOST, {"file": office.settings.until})
 
     # --- the file
 
     def read(self) -> Until | None:
-        """The date, if there is one."""
+        """The date, if there is one. It raises Damaged if there was one."""
         path = self.office.settings.until
         try:
             found = Until(**json.loads(path.read_text(encoding="utf-8")))
@@ -120,8 +141,7 @@ class Dates:
         except FileNotFoundError:
             return None
         except (OSError, ValueError, TypeError) as fault:
-            raise Fault(f"the date until which lists are taken is lost: the file {path} is damaged. Set the date again."
-                        ) from fault
+            raise Damaged from fault
 
     def write(self, until: Until | None) -> None:
         """Keeps a date, or deletes it."""
@@ -140,8 +160,8 @@ class Dates:
         except OSError as fault:
             with contextlib.suppress(OSError):
                 part.unlink()
-            raise unwritten("the date", fault) from fault
-        self.until, self.fault, self.pause, self.due = until, "", OFTEN, 0.0
+            raise unwritten(N_("the date"), fault) from fault
+        self.until, self.fault, self.pause, self.due = until, Why("", {}), OFTEN, 0.0
 
     def publish(self) -> None:
         """Has residents read the date, without its author. If the administrator has put older texts back, they get it too."""
@@ -155,30 +175,25 @@ class Dates:
     def shown(self) -> Job:
         """The date as clerks see it, and what a form about it needs."""
         until = self.until
-        return {"until": until and {**until._asdict(), "past": until.is_past()}, "fault": self.fault, "zone": zone_name(),
+        return {"until": until and {**until._asdict(), "past": until.is_past()}, "fault": self.fault.told(), "zone": zone_name(),
                 "mark": mark_of(until)}
 
     def set(self, job: Job) -> Job:
         """Sets the date of the open round, or takes it away if `at` is empty."""
         written, closes, zone = job["at"], job["closes"], zone_name()
         if not isinstance(written, str) or not isinstance(closes, bool):
-            raise Fault("not understood: at is no text, or closes is not true or false")
+            raise Fault(_("not understood: at is no text, or closes is not true or false"))
         with self.lock:
             rows = self.worker.view.rows()
             if job.get("seen") is not None and (why := why_stale(rows, job["seen"], None)):
                 raise Fault(why)
             if job.get("saw") is not None and job["saw"] != mark_of(self.until):
-                raise Fault(CHANGED)
+                raise Fault(_(CHANGED))
             if rows["phase"] != "open":
-                raise Fault(NOT_OPEN)
+                raise Fault(_(NOT_OPEN))
             until = self.made(written, zone, rows["number"], closes, job["who"]) if written else None
-            number = self.office.journal.begin(job["who"], spoken_of(until))
-            try:
+            with self.office.journal.change(job["who"], spoken_of(until)):
                 self.write(until)
-            except Fault as fault:
-                self.office.journal.end(number, f"fault: {fault}", 3, 0)
-                raise
-            self.office.journal.end(number, "ok", 0, 0)
         try:
             self.publish()
         except Fault as fault:
@@ -190,9 +205,10 @@ class Dates:
         """A date to come, if that can be one."""
         moment, now = moment_of(written, zone), datetime.datetime.now(datetime.timezone.utc)
         if moment <= now:
-            raise Fault(f"{written.replace('T', ' ')} is past ({zone}). Nothing was changed: choose a later time.")
+            raise Fault(_("{day} {time} is past ({zone}). Nothing was changed: choose a later time.",
+                          day=times.of_day(written[:10]), time=written[11:], zone=zone))
         if moment - now > LONGEST:
-            raise Fault("this date is more than two years away. Nothing was changed: look at the year.")
+            raise Fault(_("this date is more than two years away. Nothing was changed: look at the year."))
         return Until(moment.isoformat(), written, zone, number, closes, who)
 
     # --- the thread
@@ -204,8 +220,14 @@ class Dates:
     def keep(self) -> None:
         """Looks at the clock until the keeper ends."""
         while not self.worker.over:
-            with contextlib.suppress(Fault, OSError, sqlite3.Error):  # it looks again
+            try:
                 self.look()
+                if self.fault.text == FAILED:
+                    self.fault = Why("", {})
+            except (Fault, OSError, sqlite3.Error):  # it looks again
+                pass
+            except Exception as fault:  # pylint: disable=broad-except  # whatever it is, the next look may close the round
+                self.fault = Why(FAILED, {"kind": type(fault).__name__})
             time.sleep(OFTEN)
 
     def look(self) -> None:
@@ -220,6 +242,14 @@ class Dates:
                     self.close(until)
         self.publish()
 
+    def went_back(self, then: Rows) -> None:
+        """The office went back to a copy with these rows. If that has another round, or this one not open, the date is over, even
+        if a round of the same number has been opened since."""
+        with self.lock, contextlib.suppress(Fault, OSError):  # then the next look forgets it
+            until = self.until
+            if until is not None and (then["number"], then["phase"]) != (until.round, "open"):
+                self.forget()
+
     def forget(self) -> None:
         """Forgets the date of a round that is no longer open."""
         self.office.journal.note(who="keeper", line="the date until which lists are taken is forgotten", answer="ok")
@@ -232,10 +262,10 @@ class Dates:
                         why=f"before close, by {who}", seen=stamp({"number": until.round, "phase": "open"}))
         try:
             answers = self.worker.change(change).answers
-            fault = f"the program answered: {answers[-1].text.strip()}" if is_refused(answers) else ""
+            fault = Why(ANSWERED, {"answer": answers[-1].text.strip()}) if is_refused(answers) else None
         except (Fault, OSError, sqlite3.Error) as why:
-            fault = str(why)
-        if not fault:
+            fault = Why(str(why), {})
+        if fault is None:
             self.forget()
             return
         self.fault, self.due = fault, time.monotonic() + self.pause

@@ -93,13 +93,16 @@ class Counts:
 # --- what may be shown
 
 def coarse(exact: Tables) -> Tables:
-    """The tables in coarse numbers of people. A table whose totals would give a few people away is left out."""
+    """The tables in coarse numbers of people. A table whose totals would give a few people away is left out. Right results never
+    leave the first one out; without it there is none."""
     shown: Tables = {}
     for name, table in exact.items():
         rounded = {row: {one: number if one == "rooms" else number - number % FEWEST for one, number in counted.items()}
                    for row, counted in table.items()}
         if not gives_away({**shown, name: rounded}):
             shown[name] = rounded
+        elif not shown:
+            break
     return shown
 
 
@@ -119,7 +122,8 @@ def totals_of(tables: Tables) -> Iterator[Total]:
 
 def gives_away(tables: Tables) -> bool:
     """Whether totals leave one number alone for a group of fewer than five people. A cell is known to lie between two numbers;
-    each total narrows those of its parts, and they narrow those of the total."""
+    each total narrows those of its parts, and they narrow those of the total. Wrong results, such as a room off somebody's list,
+    may leave no number at all: such a table says nothing that is right, and narrowing it would not end."""
     low = {(name, row, one): number for name, table in tables.items() for row, counted in table.items()
            for one, number in counted.items() if one != "rooms"}
     small, high = [cell for cell in low if low[cell] == 0], {cell: number + FEWEST - 1 for cell, number in low.items()}
@@ -133,4 +137,6 @@ def gives_away(tables: Tables) -> bool:
             for cell, (lower, upper) in {**limits, total: (least, most)}.items():
                 if lower > low[cell] or upper < high[cell]:
                     low[cell], high[cell], narrowed = max(lower, low[cell]), min(upper, high[cell]), True
+                    if low[cell] > high[cell]:
+                        return True
     return any(low[cell] >= high[cell] for cell in small)

@@ -16,6 +16,7 @@ from pathlib import Path
 from typing import Any, NamedTuple
 
 from figures_counted import ALL, TABLES, Counts, Tables, coarse
+from languages import _
 from lines import verb_of
 from placing import beside, to_disk
 from rows import rows_of
@@ -42,7 +43,10 @@ def round_of(rows: Rows) -> Round:
     """The figures of a round that is published."""
     homes = {row[0]: row[2] for row in rows["people"]}
     moves = any(homes.get(person) != room for person, room in rows["results"]) or any(homes.get(one) for one, in rows["going"])
-    return Round(datetime.date.today().isoformat(), moves, coarse(Counts(rows).tables()))
+    tables = coarse(Counts(rows).tables())
+    if not tables:
+        raise Fault(_("the results contradict each other"))
+    return Round(datetime.date.today().isoformat(), moves, tables)
 
 
 def is_known(number: int, one: Round, rows: Rows) -> bool:
@@ -114,28 +118,29 @@ class Kept:
         return {"rounds": [[number, one.published, one.tables] for number, one in rounds.items() if is_known(number, one, rows)],
                 "damaged": ""}
 
-    def follow(self, lines: list[str], settled: list[Rows], rows: Callable[[], Rows]) -> str:
-        """Keeps the figures after lines were carried out: `settled` are the rows before each `settle`, `rows` gives those of now.
-        Says what went wrong, if anything: the lines have been carried out."""
+    def follow(self, lines: list[str], before: "Before", rows: Callable[[], Rows]) -> str:
+        """Keeps the figures after lines were carried out: `before` has what was noted meanwhile, `rows` gives the rows of now. Says
+        what went wrong, if anything: the lines have been carried out."""
         if STEPS.isdisjoint(map(verb_of, lines)):
             return ""
         said: list[str] = []
         try:
             with self.lock:
-                self.keep(settled, rows(), said)
+                self.keep(before, rows(), said)
         except (Fault, OSError, sqlite3.Error) as fault:
-            said.append(f"The figures of the round could not be kept ({getattr(fault, 'strerror', None) or fault}).")
+            reason = getattr(fault, "strerror", None) or fault
+            said.append(_("The figures of the round could not be kept ({reason}).", reason=reason))
         return " ".join(said)
 
-    def keep(self, settled: list[Rows], now: Rows, said: list[str]) -> None:
+    def keep(self, before: "Before", now: Rows, said: list[str]) -> None:
         """Adds the figures of published rounds, and takes those of unknown ones out."""
         old: dict[int, Round] = {}
         try:
             old = self.read()
         except Damaged:
             said.append(self.set_aside())
-        new = {number: one for number, one in old.items() if is_known(number, one, now)}
-        for published in [*settled, *([now] if now["phase"] == "published" else [])]:
+        new = {number: one for number, one in old.items() if is_known(number, one, now) and number not in before.given_up}
+        for published in [*before.rows, *([now] if now["phase"] == "published" else [])]:
             number, taken = published["number"], round_of(published)
             same = number in old and old[number].tables == taken.tables
             new[number] = taken._replace(published=old[number].published) if same else taken
@@ -146,19 +151,25 @@ class Kept:
         """Gives a damaged file another name, so that nothing of it is lost."""
         other = beside(self.path, f".damaged-{datetime.datetime.now():%Y%m%dT%H%M%S}")
         self.path.rename(other)
-        return (f"The file of the figures was damaged, and has the name {other} now. The page has no figures of earlier rounds. "
-                "Tell the administrator.")
+        return _("The file of the figures was damaged, and has the name {file} now. The page has no figures of earlier rounds. "
+                 "Tell the administrator.", file=other)
 
 
 class Before:  # pylint: disable=too-few-public-methods  # it notes, and nothing else
-    """Notes the rows of an office before a line settles its round: afterwards the lists are deleted."""
+    """Notes the rows of an office before a line settles its round, since afterwards the lists are deleted; and which round a line
+    gives up: after a way back it may have been published once, and have figures."""
 
     def __init__(self, file: Path) -> None:
         self.file = file  # the office's own file: nobody reads it while a line is carried out on it
         self.rows: list[Rows] = []
+        self.given_up: set[int] = set()
 
     def look(self, line: str, file: Path) -> None:
         """Looks at the office, or a copy of it, on which a line is about to be carried out."""
-        if verb_of(line) == "settle" and file != self.file:
+        if verb_of(line) in ("settle", "cancel") and file != self.file:
             with contextlib.suppress(sqlite3.Error):  # the program says what is wrong with the file
-                self.rows.append(rows_of(file))
+                rows = rows_of(file)
+                if verb_of(line) == "settle":
+                    self.rows.append(rows)
+                else:
+                    self.given_up.add(rows["number"])

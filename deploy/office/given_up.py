@@ -9,13 +9,14 @@ from typing import Any
 from urllib.parse import quote
 
 from backups import Backups
+from languages import _
 from office import Office
 from placing import beside
 from rows import View, rows_of
 from seen import Rows
 from settings import Fault
 
-GIVE_UP = "cancel"  # the kind of the copy that is made before a round is given up
+GIVE_UP, SETTLE = "cancel", "settle"  # the kinds of the copies that are made before a round is given up, or settled
 
 
 def round_in(file: Path) -> tuple[int, str] | None:
@@ -33,15 +34,21 @@ def round_in(file: Path) -> tuple[int, str] | None:
 def rounds(backups: Backups, file: str, now: Rows) -> list[tuple[str, int, str]]:
     """The copy, the number and the phase of each round that was given up since the last one was settled, the newest first.
 
-    After a way back to a copy, a round that was given up may be under way again: then it is none.
+    After a way back to a copy, a round that was given up, or settled, may be under way again: then it is none. The office knows a
+    settled round by its moves. One in which nobody moved is known by the copy before it was settled, as long as that one is kept.
     """
     last = now["number"] if now["phase"] == "idle" else now["number"] - 1
     found: dict[int, tuple[str, int, str]] = {}
+    settled = set(now["settled"])
     for name in reversed(backups.names()):
-        had = round_in(backups.folder / name / file) if backups.entry(name)["kind"] == GIVE_UP else None
-        if had and max(now["settled"], default=0) < had[0] <= last:
-            found.setdefault(had[0], (name, *had))
-    return sorted(found.values(), key=lambda one: one[1], reverse=True)
+        kind = backups.entry(name)["kind"]
+        had = round_in(backups.folder / name / file) if kind in (GIVE_UP, SETTLE) else None
+        if had and had[0] <= last and had[0] not in found:
+            if kind == SETTLE:
+                settled.add(had[0])
+            else:
+                found[had[0]] = (name, *had)
+    return sorted((one for one in found.values() if one[1] > max(settled, default=0)), key=lambda one: one[1], reverse=True)
 
 
 def had_in(rows: Rows) -> dict[str, Any]:
@@ -57,7 +64,7 @@ def given_up(office: Office, view: View, name: str | None) -> dict[str, Any]:
     if name is None:
         return {"rounds": found}
     if name not in [copy for copy, _, _ in found]:
-        raise Fault("no round was given up after this copy was made, or the copy is gone")
+        raise Fault(_("no round was given up after this copy was made, or the copy is gone"))
     with office.copies.copied() as copy:
         office.backups.take(name, copy)
         return had_in(rows_of(copy))

@@ -18,6 +18,7 @@ from collections.abc import Iterator
 from pathlib import Path
 from typing import Any
 
+from languages import N_, in_english
 from lines import LIKE_A_KEY, on_one_line
 from placing import beside, to_disk
 from settings import Fault, unwritten
@@ -26,7 +27,12 @@ from settings import Fault, unwritten
 WITHOUT_NAMES = re.compile(
     r"ok|not understood|unavailable|withdrawn|going|cancelled|(?:refused|round|chosen|shut|added|closed|drawn|ran|published"
     r"|settled|would get)\b.*")
-NOT_NOTED = "(an answer that is not noted)"
+# The journal has these texts in English. The office's page shows them in the clerk's language.
+NOT_NOTED = N_("(an answer that is not noted)")
+CUT_OFF = N_("(an entry that was cut off)")
+NOT_KNOWN = N_("not known: the keeper was ended meanwhile. Look whether the line took effect.")
+OWN_TEXTS = (NOT_NOTED, CUT_OFF, NOT_KNOWN)
+KEY = N_("(key)")  # in the place of what may be a key
 # A person's list, in a line or in its answer, and the number of its rooms in its place.
 WISHES = re.compile(r"(choose \S+|chosen)((?: (?!\()\S+)*)")
 COUNTED = re.compile(rb"\(\d+ rooms?\)")
@@ -38,9 +44,9 @@ ANSWER = 300     # signs of an answer that are kept
 NOTE = 600       # signs of a note that are kept: a seed, and up to 400 of what the witnesses saw
 
 
-def masked(text: str) -> str:
-    """A text without anything that may be a key."""
-    return LIKE_A_KEY.sub("(key)", text)
+def masked(text: str, key: str = KEY) -> str:
+    """A text without anything that may be a key, with a word in its place."""
+    return LIKE_A_KEY.sub(key, text)
 
 
 def without_wishes(line: str) -> str:
@@ -58,7 +64,7 @@ def masked_line(line: str) -> str:
     if words[:1] == ["draw"]:
         return f"draw ({len(words) - 1} words)"
     if words[:1] == ["person"]:
-        return masked(" ".join([*words[:2], "(key) (name)"]))
+        return masked(" ".join([*words[:2], f"{KEY} (name)"]))
     return masked(without_wishes(" ".join(words)))
 
 
@@ -84,7 +90,7 @@ def blanked(line: bytes) -> bytes:
     try:
         entry = json.loads(line)
     except ValueError:
-        entry = {"line": "(an entry that was cut off)"}
+        entry = {"line": CUT_OFF}
     if isinstance(entry, dict) and "n" in entry and "answer" in entry:
         entry["answer"] = without_names(str(entry["answer"]))
     if isinstance(entry, dict) and "n" in entry and "line" in entry:
@@ -127,7 +133,7 @@ class Journal:
             except OSError as fault:
                 with contextlib.suppress(OSError):
                     os.ftruncate(held, size)
-                raise unwritten("the journal", fault) from fault
+                raise unwritten(N_("the journal"), fault) from fault
         finally:
             os.close(held)
 
@@ -144,6 +150,18 @@ class Journal:
             self.note(**values)
         except (Fault, OSError):
             self.late.append({"at": now(), **values})
+
+    @contextlib.contextmanager
+    def change(self, who: str, line: str) -> Iterator[None]:
+        """Notes a change beside the office's file, which the block makes: before it, and how it ended. If the first cannot be
+        noted, nothing is changed."""
+        number = self.begin(who, line)
+        try:
+            yield
+        except Exception as fault:
+            self.end(number, f"fault: {in_english(fault)}", 3, 0)
+            raise
+        self.end(number, "ok", 0, 0)
 
     def entries(self) -> Iterator[dict[str, Any]]:
         """The entries at the end of the journal. An entry that is cut off is skipped."""
@@ -181,7 +199,7 @@ class Journal:
                 to_disk(self.path.parent)
             except OSError as fault:
                 self.part.unlink(missing_ok=True)
-                raise unwritten("the journal", fault) from fault
+                raise unwritten(N_("the journal"), fault) from fault
             return sum(map(is_rid_of, old, new))
 
     def end_unfinished(self) -> None:
@@ -192,8 +210,7 @@ class Journal:
         for entry in entries:
             if "n" in entry and "line" in entry and entry["n"] not in ended:
                 with contextlib.suppress(Fault, OSError):
-                    self.note(n=entry["n"], status=3,
-                              answer="not known: the keeper was ended meanwhile. Look whether the line took effect.")
+                    self.note(n=entry["n"], status=3, answer=NOT_KNOWN)
 
 
 def now() -> str:

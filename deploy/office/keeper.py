@@ -30,6 +30,7 @@ from typing import Any, Protocol
 
 from accounts import KeyRequests
 from journal import masked
+from languages import ENGLISH, _, speak
 from keeper_requests import Requests
 from office import Office
 from settings import Fault, Settings, from_environment
@@ -86,9 +87,9 @@ class RequestHandler(socketserver.StreamRequestHandler):
         except Fault as why:
             answer = {"fault": str(why)}
         except FileNotFoundError as why:
-            answer = {"fault": f"there is no file {why.filename}"}
+            answer = {"fault": _("there is no file {path}", path=why.filename)}
         except (OSError, sqlite3.Error) as why:
-            answer = {"fault": f"the file, the disk or the memory did not serve ({why})"}
+            answer = {"fault": _("the file, the disk or the memory did not serve ({why})", why=why)}
         except (ValueError, TypeError, RecursionError) as why:
             answer = {"fault": f"not understood: {type(why).__name__}"}
         send(self.connection, answer)
@@ -111,6 +112,7 @@ class RequestHandler(socketserver.StreamRequestHandler):
         job = json.loads(request.partition(b"\n")[0])
         if not isinstance(job, dict):
             raise Fault("not understood: a request is an object")
+        speak(str(job.get("speaks", ENGLISH)))
         who = account_of(self.connection)
         if who in self.server.speakers and isinstance(job.get("who"), str):
             who = masked("".join(sign for sign in job["who"] if sign.isprintable())[:60])
@@ -187,15 +189,17 @@ def main() -> int:
     office.clear()
     worker = Worker(office)
     requests = Requests(office, worker)
+    requests.beside.finish(lambda: {row[0] for row in worker.view.rows()["people"]})
+    requests.post.start()
     servers = servers_of(office, requests)
     for server in servers:
         threading.Thread(target=server.serve_forever, daemon=True).start()
     requests.dates.start()
     for number in (signal.SIGTERM, signal.SIGINT):
-        signal.signal(number, lambda *_: worker.end())
+        signal.signal(number, lambda *_ignored: worker.end())
     print("rooms-keeper: ready", flush=True)
     worker.keep()
-    requests.post.sender.stop()
+    requests.post.stop()
     for server in servers:
         server.wait_for_answers()
     return 0

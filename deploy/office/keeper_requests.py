@@ -11,15 +11,10 @@
 | export | kind | answers |
 | figures | | rounds: number, day and tables of each published round (figures_counted.py); damaged: the file, if it is damaged |
 | record | | body: the public record of the round |
-| backup, backups | | name; backups: name, bytes and reason of each; days: how long one stays at most; stays: of each |
-| days | days, only_try | gone: how many copies are older than so many days, and are deleted |
-| compare | name | what becomes of people by going back to a copy (differences.py) |
-| given-up | name of a copy, or none | rounds: copy, number, phase of each that was given up; or what the one in the copy had |
-| back | name, seen | name: of the copy of the present office that was taken before; and as `compare`, if that could be read |
 | blank | label, seen | blanked: the label |
 | correct | person, name or key or both, seen, saw | corrected: the person; copy |
 | keys | keys: by person, seen, saw | corrected: how many; copy |
-| about | person | lists, moves, copies, journal: what names the person (about.py); mail; account: theirs |
+| about | person | lists, moves, copies, journal: what names the person (about.py); mail; language; account: theirs |
 | forget | person, seen, saw | as `do`: the person is removed, and the lists that name them are blanked |
 | note, journal | line; last | nothing; journal: the last entries; whole: whether no entry is too old to be had |
 | blank-journal | | blanked: how many lines of the journal had wishes, or an answer that may have had names |
@@ -27,37 +22,38 @@
 | set-until | at, closes, seen, saw | untold: why residents do not read the date that was set (dates.py), if so |
 | tell-words, tell-rooms | notice, contact; rooms; saw | |
 | add-picture, drop-picture | room, body, shows; room, file | file: its name; nothing |
-| mail, mail-.. | | mail.py has these |
+| backup, backups, days, compare, given-up, back | | copy_requests.py has these |
+| mail, mail-..; language, languages, set-languages | | mail.py and languages_kept.py have these |
 | accounts | | rule: how the person of an account is found (accounts.py); count: of the accounts in the list |
 | set-accounts | rule, list | as `accounts`; `list` for the rule `list` alone |
 
 By `seen` and `saw` the sender says what it saw of the round and of people; if that is so no more, nothing is changed
-(seen.py). An answer is a text and a status of the program. What cannot be done is answered `fault`, with the reason.
+(seen.py). An answer is a text and a status of the program. `fault` is why something cannot be done, in the language `speaks`.
 """
 
 import collections
-import contextlib
 import importlib
-import sqlite3
 from collections.abc import Callable
 from pathlib import Path
 
-from about import IDENTIFIER, about, kept_in
+from about import about, kept_in
 from accounts import Accounts, ClerkRequests
-from backups import ASKED_FOR, MOST_DAYS, blank
+from backups import blank
+from beside_register import BesideRegister
+from copy_requests import CopyRequests
 from dates import Dates
-from differences import differences
 from figures_kept import Before
-from given_up import given_up
 from history import history
 from job import Job, body_of, lines_of, saw_in, seen_in, text
 from journal import masked, masked_line, masked_note
-from lines import STEPS, have_keys, name_shows_a_key, only_reads, reason_to_copy, verb_of
+from languages import ENGLISH, _, speaking
+from languages_kept import LanguageRequests
+from lines import IDENTIFIER, STEPS, have_keys, name_shows_a_key, only_reads, reason_to_copy, verb_of
 from mail import Post
 from office import Office
-from program import NOT_UNDERSTOOD, Answer, correct, is_of_earlier_version, is_refused
+from program import NOT_UNDERSTOOD, Answer, correct, is_refused
 from rows import rows_of
-from seen import Rows
+from seen import Rows, takes_part
 from settings import Fault
 from watching import watch
 from worker import CarryOut, Change, Worker
@@ -86,15 +82,14 @@ def short_of(lines: list[str]) -> str:
     return ", ".join(f"{verb} ({count})" for verb, count in collections.Counter(map(verb_of, lines)).items())
 
 
-def participants(rows: Rows) -> int:
-    """How many take part in the round."""
-    going = {person for person, in rows["going"]}
-    return sum(not withdrawn and person not in going for person, _, _, withdrawn in rows["people"])
-
-
 def has_label(rows: Rows, label: str) -> bool:
     """Whether a list was imported under this label."""
     return any(label == taken for taken, *_ in rows["lists"])
+
+
+def told_of(change: Change) -> Job:
+    """What is answered of a change."""
+    return {"answers": change.answers, "done": not is_refused(change.answers), "took": change.took, "copy": change.copy}
 
 
 def only(answer: Answer) -> Job:
@@ -108,20 +103,20 @@ class Requests:
 
     def __init__(self, office: Office, worker: Worker) -> None:
         self.office, self.program, self.copies, self.worker = office, office.program, office.copies, worker
-        self.backups, self.journal, self.dates = office.backups, office.journal, Dates(office, worker)
-        self.post, self.accounts = Post(office, worker), Accounts(office.settings.file)
+        self.journal, self.dates = office.journal, Dates(office, worker)
+        self.post, self.accounts = Post(office, worker), Accounts(office.settings.accounts)
+        self.beside = BesideRegister(office.settings.file, self.post, office.languages, self.accounts)
         self.known: dict[str, Callable[[Job], Job]] = {
-            "view": self.view, "watch": lambda _: watch(self.office, self.worker), "try": self.try_out,
+            "view": self.view, "watch": lambda _job: watch(self.office, self.worker), "try": self.try_out,
             "do": self.do_lines, "draw": self.draw, "import": self.bring_in, "export": self.export,
-            "record": self.record, "backup": self.backup, "backups": self.list_backups,
-            "compare": self.compare, "back": self.put_back, "blank": self.blank, "note": self.note,
+            "record": self.record, "blank": self.blank, "note": self.note,
             "journal": self.show_journal, "blank-journal": self.blank_journal, "correct": self.correct,
-            "keys": self.new_keys, "days": self.set_days, "forget": self.forget,
-            "about": self.about,
-            "given-up": lambda job: given_up(self.office, self.worker.view, text(job, "name") if "name" in job else None),
-            **office.told.requests(), "set-until": self.dates.set, **self.post.requests(),
-            "figures": lambda _: self.office.figures.shown(self.worker.view.rows()),
+            "keys": self.new_keys, "forget": self.forget, "about": self.about,
+            **CopyRequests(office, worker, self.dates).requests(), **office.told.requests(), "set-until": self.dates.set,
+            **self.post.requests(),
+            "figures": lambda _job: self.office.figures.shown(self.worker.view.rows()),
             **ClerkRequests(self.accounts, worker.view, office.journal).known,
+            **LanguageRequests(office.languages, worker.view, office.journal).requests(),
         }
 
     def answer(self, job: Job) -> Job:
@@ -135,7 +130,7 @@ class Requests:
 
     # --- reading
 
-    def view(self, _: Job) -> Job:
+    def view(self, _job: Job) -> Job:
         """The office as it is now."""
         return {**self.worker.view.rows(), "server": self.worker.server is not None, "status": self.worker.status,
                 "ended": self.worker.ended(), "until": self.dates.shown(), "mail": self.post.is_on()}
@@ -143,7 +138,8 @@ class Requests:
     def about(self, job: Job) -> Job:
         """All that is kept of a person."""
         person = text(job, "person")
-        return {**about(self.office, person), "mail": self.post.about(person), **self.accounts.about(person)}
+        return {**about(self.office, person), "mail": self.post.about(person),
+                "language": self.office.languages.about(person), **self.accounts.about(person)}
 
     def try_out(self, job: Job) -> Job:
         """Questions, and what lines would do."""
@@ -160,14 +156,18 @@ class Requests:
         try:
             record = importlib.import_module("record")
         except ImportError as fault:
-            raise Fault("the program of the public record (record.py) is not installed next to the keeper") from fault
+            raise Fault(_("the program of the public record (record.py) is not installed next to the keeper")) from fault
         with self.copies.copied() as copy:
             rows = rows_of(copy)
-            told_before = history(list(self.journal.entries()), self.journal.is_whole(), rows["number"], rows["settled"])
             try:
-                body = record.record(copy, self.journal.seeds(), told_before)
+                with speaking(ENGLISH):
+                    told_before = history(list(self.journal.entries()), self.journal.is_whole(), rows["number"], rows["settled"])
+                    body = record.record(copy, self.journal.seeds(), told_before)
+            except record.NoResults as why:  # record.py has its texts in English, since it also works without the keeper
+                raise Fault(_("there is no record: round {number} is {phase}: a round has results from `run` until `settle`",
+                              number=why.number, phase=why.phase)) from why
             except record.Refused as why:
-                raise Fault(f"there is no record: {why}") from why
+                raise Fault(_("there is no record: {why}", why=_(why.text, **why.values))) from why
         self.journal.note(who=job["who"], line="the public record was taken")
         return {"body": body}
 
@@ -181,7 +181,8 @@ class Requests:
         if only_reads(lines):
             answers = self.try_out(job)["answers"]
             return {"answers": answers, "done": not is_refused(answers)}
-        whole = len(lines) > 1 or have_keys(lines)
+        removed = frozenset(line.split()[1] for line in lines if verb_of(line) == "remove" and len(line.split()) > 1)
+        whole = len(lines) > 1 or have_keys(lines) or bool(removed)
         kind = "lines" if len(lines) > 1 else verb_of(lines[0])
         if not reason_to_copy(lines, self.worker.view.rows()["choices"]):
             kind = ""
@@ -193,37 +194,26 @@ class Requests:
                 return self.program.tell_all(lines, file, before.look)
             before.look(lines[0], file)
             return [self.program.tell(lines[0], file)]
-        reply = self.change(job, (short_of(lines), spoken_of(lines)), carry_out, whole=whole, kind=kind)
+        change = self.change(job, (short_of(lines), spoken_of(lines)), carry_out, whole=whole, kind=kind, removed=removed)
+        reply = told_of(change)
         if reply["done"]:
             self.follow(lines, before, reply)
+            self.beside.let_go(change.gone)
         return reply
 
     def follow(self, lines: list[str], before: Before, reply: Job) -> None:
-        """Brings what is kept beside the office up to lines that were carried out: addresses, accounts and figures."""
-        if unkept := self.office.figures.follow(lines, before.rows, self.worker.view.rows):
+        """Brings figures and receipts up to lines that were carried out."""
+        if "open" in map(verb_of, lines):
+            self.post.opened()
+        if unkept := self.office.figures.follow(lines, before, self.worker.view.rows):
             reply["unkept"] = unkept
-        if removed := [line.split()[1] for line in lines if verb_of(line) == "remove"]:
-            self.let_go(removed)
-
-    def let_go(self, removed: list[str]) -> None:
-        """Takes people who are out of the register out of the mail addresses and the accounts. If one file fails, the other is
-        changed all the same: whoever gets such an identifier later is somebody else."""
-        failed = []
-        erasures: list[Callable[[list[str]], None]] = [self.post.erase, self.accounts.forget]
-        for erase in erasures:
-            try:
-                erase(removed)
-            except Fault as fault:
-                failed.append(str(fault))
-        if failed:
-            raise Fault(" ".join(failed))
 
     def draw(self, job: Job) -> Job:
         """The draw by a seed."""
-        seed, count = text(job, "seed"), participants(self.worker.view.rows())
+        seed, count = text(job, "seed"), len(takes_part(self.worker.view.rows()))
         line = " ".join(["draw", *self.program.words(seed, count)])
         spoken = f"draw $(rooms words --seed {seed} --count {count})"
-        return self.change(job, ("draw", spoken), lambda file: [self.program.tell(line, file)], kind="draw")
+        return told_of(self.change(job, ("draw", spoken), lambda file: [self.program.tell(line, file)], kind="draw"))
 
     def bring_in(self, job: Job) -> Job:
         """A list. With `only_try` it is tried alone, and so is one under a label that is taken: it changes nothing."""
@@ -235,75 +225,22 @@ class Requests:
             if job.get("only_try") or known:
                 return {**only(answer), "known": known}
         short = masked(f"import {kind} {label}")
-        return self.change(job, (short, f"{short} ({len(body)} bytes)"),
-                           lambda file: [self.program.bring_in(kind, label, body, file)], kind="import")
+        return told_of(self.change(job, (short, f"{short} ({len(body)} bytes)"),
+                                   lambda file: [self.program.bring_in(kind, label, body, file)], whole=kind == "people",
+                                   kind="import"))
 
-    def change(self, job: Job, names: tuple[str, str], carry_out: CarryOut, *, whole: bool = False, kind: str = "") -> Job:
-        """Gives a change to the worker, and gives its answers. The names are those of the copy before it and in the journal."""
+    # pylint: disable-next=too-many-arguments  # what a change is
+    def change(self, job: Job, names: tuple[str, str], carry_out: CarryOut, *, whole: bool = False, kind: str = "",
+               removed: frozenset[str] = frozenset()) -> Change:
+        """Gives a change to the worker. The names are those of the copy before it and in the journal. A change of the register has
+        to be a whole one: what is beside the register follows it."""
         short, spoken = names
         spoken = spoken if len(spoken) <= LONGEST else spoken[:LONGEST] + " .."
         why = f"before {short}, by {job['who']}"
-        asked = Change(job["who"], spoken, carry_out, whole=whole, kind=kind, why=why, seen=seen_in(job),
-                       saw=saw_in(job))
-        change = self.worker.change(asked)
-        done = not is_refused(change.answers)
-        return {"answers": change.answers, "done": done, "took": change.took, "copy": change.copy}
+        return self.worker.change(Change(job["who"], spoken, carry_out, whole=whole, kind=kind, why=why, seen=seen_in(job),
+                                         saw=saw_in(job), register=self.beside.prepare, removed=removed))
 
-    # --- copies
-
-    def backup(self, job: Job) -> Job:
-        """Keeps a copy of the office while the server runs."""
-        name = self.backups.keep(ASKED_FOR, f"asked for by {job['who']}")
-        self.journal.note(who=job["who"], line="backup", answer=name)
-        return {"name": name}
-
-    def list_backups(self, _: Job) -> Job:
-        """The kept copies."""
-        days = self.backups.days()
-        return {"backups": self.backups.listed(), "days": days, "stays": self.backups.stays(days)}
-
-    def set_days(self, job: Job) -> Job:
-        """For how many days a copy stays at most. With `only_try` only says how many copies go."""
-        days = job["days"]
-        if not isinstance(days, int) or isinstance(days, bool) or not 1 <= days <= MOST_DAYS:
-            raise Fault(f"a copy stays for 1 to {MOST_DAYS:,} days. Nothing was changed.")
-        gone = len(self.backups.old(days))
-        if not job.get("only_try"):
-            self.journal.note(who=job["who"], line=f"copies stay for {days} days", answer=f"{gone} copies are deleted")
-            self.backups.set_days(days)
-        return {"gone": gone}
-
-    def compare(self, job: Job) -> Job:
-        """What becomes of people, if the office goes back to a kept copy."""
-        now = self.worker.view.rows()
-        with self.copies.copied() as copy:
-            self.backups.take(text(job, "name"), copy)
-            return differences(rows_of(copy), now)
-
-    def put_back(self, job: Job) -> Job:
-        """Puts a kept copy in the office's place. The present office is copied before, even if it is damaged.
-
-        A copy from before an upgrade of the program is brought to the program's version.
-        """
-        name, found = text(job, "name"), Job()
-
-        def carry_out(copy: Path) -> list[Answer]:
-            now = None
-            with contextlib.suppress(sqlite3.Error):  # of an office that is damaged
-                now = rows_of(copy)
-            self.backups.take(name, copy)
-            answer = self.program.look(copy)
-            if is_of_earlier_version(answer):
-                answer = self.program.migrate(copy)
-            if now and answer.status == 0:
-                found.update(differences(rows_of(copy), now))
-            return [answer]
-        change = self.worker.change(Change(job["who"], f"back {name}", carry_out, whole=True, kind="back",
-                                         why=f"before back {name}, by {job['who']}", damaged=True, seen=seen_in(job)))
-        if is_refused(change.answers):
-            said = change.answers[-1].text.strip()
-            raise Fault(f"the program does not take this copy ({said}). Nothing was changed.")
-        return {"name": change.copy, **found}
+    # --- what is kept of people
 
     def blank(self, job: Job) -> Job:
         """Empties the kept bytes of a list (`blank` in backups.py says what it costs). Kept copies still have them."""
@@ -316,7 +253,7 @@ class Requests:
         change = self.worker.change(Change(job["who"], spoken, carry_out, whole=True, seen=seen_in(job)))
         if is_refused(change.answers):
             said = change.answers[-1].text.strip()
-            raise Fault(f"the program does not take the office afterwards ({said}). Nothing was changed.")
+            raise Fault(_("the program does not take the office afterwards ({said}). Nothing was changed.", said=said))
         return {"blanked": label}
 
     def forget(self, job: Job) -> Job:
@@ -336,11 +273,11 @@ class Requests:
             return [*answers, self.program.look(copy)]
         change = self.worker.change(Change(job["who"], f"forget {person}", carry_out, whole=True, kind="forget",
                                          why=f"before forget {person}, by {job['who']}", seen=seen_in(job),
-                                         saw=saw_in(job)))
-        done = not is_refused(change.answers)
-        if done:
-            self.let_go([person])
-        return {"answers": change.answers, "done": done, "took": change.took, "copy": change.copy}
+                                         saw=saw_in(job), register=self.beside.prepare))
+        reply = told_of(change)
+        if reply["done"]:
+            self.beside.let_go([person])  # who may be out of the register already
+        return reply
 
     def correct(self, job: Job) -> Job:
         """Another name or key for a person (`correct` in program.py). The journal has neither."""
@@ -349,7 +286,7 @@ class Requests:
         if not values:
             raise Fault("not understood: neither name nor key")
         if name_shows_a_key(values.get("name", "")):
-            raise Fault("the name has a word that may be a key. Nothing was changed.")
+            raise Fault(_("the name has a word that may be a key. Nothing was changed."))
         spoken = masked(f"correct {person}: {' and '.join(values)}")
         return {"corrected": person, "copy": self.correct_all(job, {person: values}, spoken, spoken)}
 
@@ -372,7 +309,7 @@ class Requests:
                                          why=f"before {short}, by {job['who']}", seen=seen_in(job), saw=saw_in(job)))
         if is_refused(change.answers):
             said = change.answers[-1].text.strip()
-            raise Fault(f"the program does not take this name or key ({said}). Nothing was changed.")
+            raise Fault(_("the program does not take this name or key ({said}). Nothing was changed.", said=said))
         return change.copy
 
     # --- the journal

@@ -4,9 +4,10 @@ A text stands in English where it is used, inside `_`, `ngettext` or `N_`, or as
 catalogue has it in another language. It is one file in the format of GNU gettext, whose name is the language's code:
 languages/de.po. An office adds a language by one more file in ROOMS_LANGUAGES. A text that a catalogue lacks is in English.
 
-A thread speaks one language at a time, which `speak` sets.
+A thread speaks one language at a time, which `speak` sets, and `speaking` for a while.
 """
 
+import contextlib
 import contextvars
 import functools
 import gettext
@@ -15,52 +16,65 @@ import os
 import re
 import string
 import sys
-from collections.abc import Iterable
+from collections.abc import Iterable, Iterator
 from pathlib import Path
-from typing import NamedTuple
+from typing import Any, NamedTuple
 
 try:
-    import polib  # type: ignore[import]  # Debian's polib has no types
+    import polib
 except ImportError:  # without python3-polib everything is in English
-    polib = None
+    polib = None  # type: ignore[assignment]
 
 ENGLISH = "en"
 FOLDERS = (Path(__file__).resolve().parent / "languages", Path(os.environ.get("ROOMS_LANGUAGES", "/etc/rooms/languages")))
-NAME = "X-Language-Name"  # the field of a catalogue's head that has the name of the language in itself
+NAME = "X-Language-Name"     # the field of a catalogue's head that has the name of the language in itself
+DIRECTION = "X-Direction"    # and the one that is `rtl` where the language is written from right to left
 CODE = re.compile("[a-z]{2,3}(-[A-Za-z0-9]{2,8})*")
 
 _spoken: contextvars.ContextVar[str] = contextvars.ContextVar("language", default=ENGLISH)
 
 
 class Language(NamedTuple):
-    """A language: its name in itself, and its texts."""
+    """A language: its name in itself, its texts, and `rtl` where it is written from right to left."""
 
     name: str
     texts: gettext.NullTranslations
+    direction: str = "ltr"
 
 
-def values_in(text: str) -> set[str]:
-    """The names of the values that a text has in braces. It raises ValueError if braces do not fit."""
-    return {name for _, name, _, _ in string.Formatter().parse(text) if name is not None}
+Value = tuple[str, str | None, str | None]
+COUNT: Value = ("count", "", None)
 
 
-def fits(text: str, other: str) -> bool:
-    """Whether a translation has no value in braces that its text has not."""
+def values_in(text: str) -> set[Value]:
+    """The values that a text has in braces, each with its form. It raises ValueError if braces do not fit."""
+    return {(name, form, conversion) for _, name, form, conversion in string.Formatter().parse(text) if name is not None}
+
+
+def fits(text: str, other: str, counts: bool) -> bool:
+    """Whether a translation has no value in braces that its text has not. A text that counts always gets its values."""
     try:
-        return values_in(other) <= values_in(text)
+        wanted = values_in(text)
     except ValueError:  # braces that are no values, as in a text of which nothing is filled in
-        return True
+        return not counts
+    try:
+        return values_in(other) <= (wanted | {COUNT} if counts else wanted)
+    except ValueError:
+        return not wanted and not counts
 
 
 def catalogue_of(file: Path) -> Language:
     """The language of a catalogue. A translation with a value that its text has not is left out."""
     entries = polib.pofile(str(file), encoding="utf-8")
     for entry in list(entries):
-        given = [entry.msgstr, *entry.msgstr_plural.values()]
-        if not all(fits(entry.msgid_plural or entry.msgid, text) for text in given):
+        plural: Any = entry.msgstr_plural  # by number; its types say otherwise
+        given = [entry.msgstr, *plural.values()]
+        if not all(fits(entry.msgid_plural or entry.msgid, text, bool(entry.msgid_plural)) for text in given):
             print(f"{file.name}: other values in braces: {entry.msgid!r}", file=sys.stderr, flush=True)
             entries.remove(entry)
-    return Language(entries.metadata.get(NAME, file.stem), gettext.GNUTranslations(io.BytesIO(entries.to_binary())))
+    entries.metadata["Content-Type"] = "text/plain; charset=UTF-8"
+    direction = "rtl" if entries.metadata.get(DIRECTION) == "rtl" else "ltr"
+    return Language(entries.metadata.get(NAME) or file.stem, gettext.GNUTranslations(io.BytesIO(entries.to_binary())), direction)
 
 
 @functools.cache
@@ -87,6 +101,28 @@ def speak(code: str) -> None:
     _spoken.set(code if code in languages() else ENGLISH)
 
 
+@contextlib.contextmanager
+def speaking(code: str) -> Iterator[None]:
+    """Lets this thread speak a language until the block ends."""
+    before = spoken()
+    speak(code)
+    try:
+        yield
+    finally:
+        speak(before)
+
+
+def accepted(header: str) -> list[str]:
+    """The codes in a browser's field Accept-Language, the dearest first."""
+    found = []
+    for part in header.split(",")[:20]:
+        code, _, rest = part.strip().partition(";")
+        weight = re.fullmatch(r"q=([01](?:\.[0-9]{0,3})?)", rest.strip()) if rest else None
+        if code and (not rest or weight):
+            found.append((-float(weight[1]) if weight else -1.0, code.strip()))
+    return [code for weight, code in sorted(found, key=lambda one: one[0]) if weight]
+
+
 def first_of(wanted: Iterable[str]) -> str:
     """The first of the codes that there is a language for, or English. `de-AT` is content with `de`."""
     for code in wanted:
@@ -96,6 +132,28 @@ def first_of(wanted: Iterable[str]) -> str:
     return ENGLISH
 
 
+class Said(str):
+    """A text in another language, which knows what it is in English."""
+
+    english: str
+
+
+def in_english(said: object) -> str:
+    """A text, or what a fault says, in English."""
+    text = said.args[0] if isinstance(said, Exception) and len(said.args) == 1 else said
+    return text.english if isinstance(text, Said) else str(said)
+
+
+def said_of(text: str, other: str, values: dict[str, object]) -> str:
+    """A translation with its values."""
+    if other == text:
+        return filled(text, values)
+    said = Said(filled(other, values))
+    said.english = filled(text, {name: in_english(one) if isinstance(one, (Said, Exception)) else one
+                                 for name, one in values.items()})
+    return said
+
+
 def filled(text: str, values: dict[str, object]) -> str:
     """A text with its values."""
     return text.format(**values) if values else text
@@ -103,12 +161,17 @@ def filled(text: str, values: dict[str, object]) -> str:
 
 def _(text: str, /, **values: object) -> str:
     """A text in the language that is spoken, with its values."""
-    return filled(languages()[spoken()].texts.gettext(text) if text else "", values)
+    return said_of(text, languages()[spoken()].texts.gettext(text), values) if text else ""
 
 
 def ngettext(one: str, many: str, count: int, /, **values: object) -> str:
     """The text for one thing or for several, with `{count}` and its other values."""
-    return filled(languages()[spoken()].texts.ngettext(one, many, count), {"count": count, **values})
+    english = one if count == 1 else many
+    try:
+        other = languages()[spoken()].texts.ngettext(one, many, count)
+    except ArithmeticError:  # of a catalogue's rule for plurals
+        other = english
+    return said_of(english, other, {"count": count, **values})
 
 
 def N_(text: str) -> str:  # pylint: disable=invalid-name  # as it is called with gettext

@@ -5,6 +5,7 @@ from typing import Any
 
 # What may be a key: identifiers have at most 12 signs, and codes 8. In capitals it may be a key too that was typed so.
 LIKE_A_KEY = re.compile(r"[A-Za-z0-9]{16,}")
+IDENTIFIER = re.compile(r"[A-Z0-9]{1,12}")
 DRAWN = re.compile(r"[A-Fa-f0-9]{16}")  # a word of a draw
 
 # What only reads is asked of a copy. Every other line may change the office.

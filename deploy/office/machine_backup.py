@@ -2,8 +2,9 @@
 
     rooms.db, why   a copy of the office, as the keeper keeps it
     state/          what lies beside the office's file: the journal, and for how many days copies stay
+    told/           what residents read of rooms: told.json.gz, and the pictures
     files/          files of the machine, each under its path: the texts of the residents' page, HAProxy's configuration
-    about.json      when and where the backup was made; each file of the two folders, with its part, mode and time
+    about.json      when and where the backup was made; each file of the three folders, with its part, mode and time
     SHA256SUMS      the checksum of each file, for `sha256sum -c SHA256SUMS`
 
 SHA256SUMS and about.json name the same files. So a backup of which a part is gone is found out, and so is one that was cut
@@ -17,15 +18,19 @@ from dataclasses import asdict, dataclass, field
 from pathlib import Path
 from typing import Any, NamedTuple
 
+import told
 from settings import Fault
 
 FILE, WHY, ABOUT, SUMS = "rooms.db", "why", "about.json", "SHA256SUMS"
-STATE, FILES = "state", "files"
+STATE, TOLD, FILES = "state", "told", "files"
 FORMAT = 1
 # What `rooms-restore --with` brings beside the office's file.
 PARTS = {
     "journal": "the journal: who changed what, and the seeds of the draws",
     "settings": "what the office has set, as for how many days copies stay",
+    "mail": "mail addresses, the texts of mails, and which were sent to whom",
+    "accounts": "whose the college's accounts are",
+    "told": "what residents read of rooms, with the pictures",
     "portal": "the texts of the residents' page",
     "proxy": "HAProxy's configuration, with the clerks' passwords, and the certificate with its key",
     "units": "changes of the units, and the bound of HAProxy's log",
@@ -75,7 +80,7 @@ def write_list(folder: Path, about: About) -> None:
 
 def is_backup(folder: Path) -> bool:
     """Whether a folder is such a backup, or what is left of one; another one may be a kept copy of the office alone."""
-    return any((folder / name).exists() for name in (SUMS, ABOUT, STATE, FILES))
+    return any((folder / name).exists() for name in (SUMS, ABOUT, STATE, TOLD, FILES))
 
 
 def sums_in(folder: Path) -> dict[str, str]:
@@ -94,10 +99,12 @@ def sums_in(folder: Path) -> dict[str, str]:
 
 
 def is_placed(name: str, kept: Kept) -> bool:
-    """Whether a file may be in a backup: below one of its two folders, and for a place that is this one's."""
+    """Whether a file may be in a backup: below one of its folders, and for a place that is this one's."""
     words = name.split("/")
     if any(word in ("", ".", "..") for word in words) or kept.part not in PARTS:
         return False
+    if words[0] == TOLD:
+        return len(words) == 2 and told.is_own(words[1])
     return words[0] == STATE or any(name.startswith(f"{FILES}/{place}/") for place in PLACES)
 
 

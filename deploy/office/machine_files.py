@@ -1,4 +1,5 @@
-"""What rooms-backup saves beside the copy of the office: what lies beside the office's file, and files of the machine."""
+"""What rooms-backup saves beside the copy of the office: what lies beside the office's file, what residents read of rooms, and
+files of the machine."""
 
 import contextlib
 import os
@@ -6,10 +7,12 @@ import re
 import shutil
 import stat
 import time
-from collections.abc import Iterator
+from collections.abc import Callable, Iterator
 from pathlib import Path
 
-from machine_backup import FILES, PLACES, STATE, Kept
+import told
+from machine_backup import FILES, PLACES, STATE, TOLD, Kept
+from placing import beside
 from settings import Fault, Settings
 
 MACHINE = Path(os.environ.get("ROOMS_MACHINE", "/"))  # the trial has a machine of its own
@@ -24,7 +27,7 @@ WANTED = {
 }
 # What dpkg, an editor or rooms-restore has put aside.
 ASIDE = re.compile(r".*(\.dpkg-\w+|~|\.before-.*)")
-CERTIFICATES = re.compile(r"^[^#\n]*?\bcrt\s+/(\S+)", re.MULTILINE)
+CERTIFICATES = re.compile(r"""(?<!\S)(crt|crt-list|crt-base)\s+["']?([^\s"']+)""")
 TRIES, PAUSE = 50, 0.1  # until nobody changes a file while it is copied
 
 
@@ -46,8 +49,8 @@ def version() -> str:
 
 
 def state_files(settings: Settings) -> Iterator[tuple[str, str, int, os.stat_result]]:
-    """What lies beside the office's file, but for copies, and for what is yet to be renamed: the path in the backup, the
-    name, the open folder, and what the system says of the file."""
+    """What lies beside the office's file, but for copies, for what rooms-restore has put aside, and for what is yet to be renamed:
+    the path in the backup, the name, the open folder, and what the system says of the file."""
     top = settings.file.parent
     for folder, folders, names, held in os.fwalk(top, follow_symlinks=False):
         place = Path(folder).relative_to(top)
@@ -55,35 +58,78 @@ def state_files(settings: Settings) -> Iterator[tuple[str, str, int, os.stat_res
         for name in sorted(names):
             with contextlib.suppress(FileNotFoundError):
                 found = os.stat(name, dir_fd=held, follow_symlinks=False)
-                if stat.S_ISREG(found.st_mode) and not name.startswith((".", settings.file.name)) and not name.endswith(".part"):
+                passing = name.startswith((".", settings.file.name)) or name.endswith(".part") or ASIDE.fullmatch(name)
+                if stat.S_ISREG(found.st_mode) and not passing:
                     yield str(Path(STATE) / place / name), name, held, found
 
 
-def stamps(settings: Settings) -> dict[str, tuple[int, int, int]]:
+def told_files(settings: Settings) -> Iterator[tuple[str, str, int, os.stat_result]]:
+    """The same of what residents read of rooms, if somebody has written something there."""
+    for _folder, folders, names, held in os.fwalk(settings.told, follow_symlinks=False):
+        folders.clear()
+        for name in filter(told.is_own, sorted(names)):
+            with contextlib.suppress(FileNotFoundError):
+                found = os.stat(name, dir_fd=held, follow_symlinks=False)
+                if stat.S_ISREG(found.st_mode):
+                    yield f"{TOLD}/{name}", name, held, found
+
+
+Walk = Callable[[Settings], Iterator[tuple[str, str, int, os.stat_result]]]
+
+
+def stamps(walk: Walk, settings: Settings) -> dict[str, tuple[int, int, int]]:
     """By what a change of these files is known."""
-    return {path: (found.st_ino, found.st_mtime_ns, found.st_size) for path, _, _, found in state_files(settings)}
+    return {path: (found.st_ino, found.st_mtime_ns, found.st_size) for path, _name, _held, found in walk(settings)}
+
+
+def save_all(walk: Walk, settings: Settings, folder: Path, top: Path) -> dict[str, float]:
+    """Copies files as they are at one moment, and gives the time of each."""
+    for _try in range(TRIES):
+        with contextlib.suppress(FileNotFoundError):
+            before, kept = stamps(walk, settings), {}
+            for path, name, held, found in walk(settings):
+                save(name, folder / path, held)
+                kept[path] = found.st_mtime
+            if stamps(walk, settings) == before:
+                return kept
+        for one in {path.partition("/")[0] for path in before}:
+            shutil.rmtree(folder / one, ignore_errors=True)
+        time.sleep(PAUSE)
+    raise Fault(f"files in {top} change all the time. Try again")
 
 
 def save_state(settings: Settings, folder: Path) -> dict[str, Kept]:
-    """Copies what lies beside the office's file, as it is at one moment."""
-    for _ in range(TRIES):
-        before, kept = stamps(settings), {}
-        for path, name, held, found in state_files(settings):
-            save(name, folder / path, held)
-            part = "journal" if path == f"{STATE}/{settings.journal.name}" else "settings"
-            kept[path] = Kept(part, 0o600, found.st_mtime)
-        if stamps(settings) == before:
-            return kept
-        shutil.rmtree(folder / STATE)
-        time.sleep(PAUSE)
-    raise Fault(f"files in {settings.file.parent} change all the time. Try again")
+    """Copies what lies beside the office's file."""
+    parts = {settings.journal: "journal", settings.mail_book: "mail", beside(settings.mail_book, "-journal"): "mail",
+             settings.accounts: "accounts"}
+    names = {f"{STATE}/{file.name}": part for file, part in parts.items()}
+    return {path: Kept(names.get(path, "settings"), 0o600, time_of)
+            for path, time_of in save_all(state_files, settings, folder, settings.file.parent).items()}
+
+
+def save_told(settings: Settings, folder: Path) -> dict[str, Kept]:
+    """Copies what residents read of rooms."""
+    return {path: Kept("told", 0o644, time_of)
+            for path, time_of in save_all(told_files, settings, folder, settings.told).items()}
+
+
+def named_in(text: str) -> list[str]:
+    """The certificates of a configuration of HAProxy, and the lists of certificates, without the first `/`."""
+    found = [pair for line in text.splitlines() for pair in CERTIFICATES.findall(line.partition("#")[0])]
+    base = Path("/", *(place for word, place in found if word == "crt-base"))
+    named = [str(base / place) for word, place in found if word == "crt"]
+    for path in [MACHINE / place.lstrip("/") for word, place in found if word == "crt-list"]:
+        named.append(f"/{path.relative_to(MACHINE)}")
+        with contextlib.suppress(OSError):
+            rows = [line.partition("#")[0].split() for line in path.read_text(encoding="utf-8", errors="replace").splitlines()]
+            named += [str(base / row[0]) for row in rows if row]
+    return [one.lstrip("/") for one in dict.fromkeys(named)]
 
 
 def certificates() -> list[str]:
     """The certificates that HAProxy's configuration names, as patterns: it may name a folder."""
     with contextlib.suppress(OSError):
-        text = (MACHINE / PROXY).read_text(encoding="utf-8", errors="replace")
-        found = dict.fromkeys(CERTIFICATES.findall(text))
+        found = named_in((MACHINE / PROXY).read_text(encoding="utf-8", errors="replace"))
         return [f"{one.rstrip('/')}/*" if (MACHINE / one).is_dir() else one for one in found]
     return []
 

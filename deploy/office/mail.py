@@ -2,11 +2,13 @@
 
 | ask | fields | answer |
 |---|---|---|
-| mail | | from; per_minute; with, without: who has an address; strangers; kinds: who has got it, and who has not; run |
-| mail-show | kind, link, person, subject, body | to, subject, body: the message as this person would get it; faults: of the text |
-| mail-text | kind, subject, body | nothing: the text is kept |
-| mail-send | kind, turn, subject, body, link, seen | to: to how many people it goes now |
+| mail | | from; per_minute; with, without: who has an address; strangers; run; kinds (mail_state.py) |
+| mail-show | kind, link, person, language, subject, body | to, subject, body: the message as this person gets it, if in this |
+| | | language; gets: in which one they get it; faults: of the text |
+| mail-text | kind, language, subject, body | nothing: the text is kept |
+| mail-send | kind, mark, link, seen | to: to how many people it goes now |
 | mail-run | act: pause, go-on or give-up | nothing |
+| mail-receipts | act: on, off or go-on; mark, link, seen | nothing |
 | mail-again | kind, turn, only: `uncertain`, or nothing | nothing: who has got this message can get it once more |
 | mail-addresses | addresses: by person; was: of one person, as the sender saw it | changed: of how many |
 | mail-list | | addresses: by person |
@@ -16,24 +18,33 @@ message after the other. If the mail server is away, or refuses several people i
 """
 
 import contextlib
+import datetime
+import sqlite3
 import threading
 from collections.abc import Callable
 
 import mail_book
 from job import Job
-from mail_book import BEGUN, ENDED, PAUSED, REFUSED, RUNNING, SENT, UNCERTAIN, WAITING, Book, Run
-from mail_people import goes_to, values_of
+from languages import _, languages, ngettext, speaking
+from mail_book import ENDED, PAUSED, RUNNING, Book, Run
+from mail_people import values_of
+from mail_receipts import Receipts, receipt_to
 from mail_run import LAST_WORDS, Sender
 from mail_settings import must_read
-from mail_words import KINDS, Text, faults_of, filled, is_address
+from mail_state import State
+from mail_why import GIVEN_UP, RESTARTED, STOPPED, kept
+from mail_words import KINDS, RECEIPT, Text, faults_of, filled, is_address
 from office import Office
-from seen import Rows, why_stale
+from seen import why_stale
 from settings import Fault
 from worker import Worker
 
 STEER_SECONDS = 10.0  # for the message that is on its way when a clerk stops the run
-HAVE = (SENT, UNCERTAIN, BEGUN, WAITING)  # a further press sends nothing to these
-RESTARTED = "the keeper was started again"
+
+
+def changed_meanwhile() -> Fault:
+    """The fault of a request whose sender saw other texts, or another turn."""
+    return Fault(_("somebody else has begun this meanwhile, or changed a text. Nothing was changed by you: look again."))
 
 
 def text_in(job: Job) -> Text:
@@ -50,35 +61,63 @@ def kind_in(job: Job) -> str:
     return str(job["kind"])
 
 
+def language_in(job: Job) -> str:
+    """The language in a request."""
+    if job["language"] not in languages():
+        raise Fault("not understood: there is no such language")
+    return str(job["language"])
+
+
 def link_in(job: Job) -> str:
     """The address of the residents' page in a request."""
     link = job["link"]
     if not isinstance(link, str) or not link.startswith("https://") or not link.isprintable() or " " in link:
-        raise Fault("the address of the residents' page is not known. Open the office's page by its name.")
+        raise Fault(_("the address of the residents' page is not known. Open the office's page by its name."))
     return link
 
 
-class Post:
+class Post:  # pylint: disable=too-many-instance-attributes  # the parts of the mail
     """Addresses, texts, and the run."""
 
     def __init__(self, office: Office, worker: Worker) -> None:
         self.path, self.journal, self.worker, self.lock = office.settings.mail, office.journal, worker, threading.Lock()
+        self.languages = office.languages
         self.book = Book(office.settings.mail_book)
         self.sender = Sender(office, worker, self.book)
+        self.receipts = Receipts(office, worker, self.book, self.sender.pace)
+        self.state = State(self.book, self.sender, self.receipts, office.languages)
+
+    def start(self) -> None:
+        """Begins: what was on its way when the keeper was ended is uncertain, a run waits for a clerk, and receipts go on."""
+        uncertain: list[str] = []
         with contextlib.suppress(Fault):  # the pages of mail say what is wrong with the file
-            self.book.end_begun()
+            uncertain = self.book.end_begun()
             if (run := self.book.run()) and run.state == RUNNING:
                 self.book.set_run(PAUSED, RESTARTED)
+        self.receipts.start(uncertain)
+
+    def opened(self) -> None:
+        """A round was opened just now."""
+        with contextlib.suppress(Fault, OSError, sqlite3.Error):  # then lists of the first seconds bring no receipts
+            self.receipts.opened()
+
+    def stop(self) -> None:
+        """Ends what sends."""
+        self.sender.stop()
+        self.receipts.stop()
 
     def requests(self) -> dict[str, Callable[[Job], Job]]:
         """What can be asked."""
         return {"mail": self.show, "mail-show": self.preview, "mail-text": self.set_text, "mail-send": self.send,
-                "mail-run": self.steer, "mail-again": self.again, "mail-addresses": self.set_addresses,
-                "mail-list": lambda _: {"addresses": self.book.addresses()}}
+                "mail-run": self.steer, "mail-again": self.again, "mail-receipts": self.steer_receipts,
+                "mail-addresses": self.set_addresses,
+                "mail-list": lambda _job: {"addresses": self.book.addresses()}}
 
     def is_on(self) -> bool:
         """Whether the office has mail."""
-        return self.path.exists()
+        with contextlib.suppress(OSError):  # in a folder that is closed to the keeper it finds no settings
+            return self.path.exists()
+        return False
 
     # --- what is kept of people
 
@@ -94,83 +133,68 @@ class Post:
         try:
             self.book.erase(people)
         except Fault as fault:
-            who = people[0] if len(people) == 1 else f"{len(people)} people"
-            raise Fault(f"Only a part was done: {who}: out of the register, but no mail address was erased, since {fault}"
-                        ) from fault
+            who = people[0] if len(people) == 1 else ngettext("{count} person", "{count} people", len(people))
+            raise Fault(_("Only a part was done: {who}: out of the register, but no mail address was erased, since {why}",
+                          who=who, why=fault)) from fault
 
     def set_addresses(self, job: Job) -> Job:
         """Sets addresses of people in the register, all or none."""
         new = job["addresses"]
         if not isinstance(new, dict) or not all(isinstance(one, str) and (one == "" or is_address(one)) for one in new.values()):
-            raise Fault("one of these is no mail address. Nothing was changed.")
+            raise Fault(_("one of these is no mail address. Nothing was changed."))
         known = {row[0] for row in self.worker.view.rows()["people"]}
         old = self.book.addresses()
         if strangers := [person for person in new if person not in known and new[person]]:
-            raise Fault(f"nobody has the identifier {strangers[0][:20]!r}. Nothing was changed.")
+            raise Fault(_("nobody has the identifier {person}. Nothing was changed.", person=repr(strangers[0][:20])))
         if job.get("was") is not None and [old.get(person, "") for person in new] != [job["was"]]:
-            raise Fault("the mail address was changed after you looked. Nothing was changed by you: decide again.")
+            raise Fault(_("the mail address was changed after you looked. Nothing was changed by you: decide again."))
         changed = {person: one for person, one in new.items() if old.get(person, "") != one}
         if changed:
             who = next(iter(changed)) if len(changed) == 1 else f"{len(changed)} people"
-            self.journal.note(who=job["who"], line=f"mail addresses of {who}", answer="set")
-            self.book.set_addresses(changed)
+            with self.journal.change(job["who"], f"mail addresses of {who}"):
+                self.book.set_addresses(changed)
         return {"changed": len(changed)}
 
     # --- reading
 
-    def show(self, _: Job) -> Job:
+    def show(self, _job: Job) -> Job:
         """How it stands with mail."""
         settings, rows, addresses = must_read(self.path), self.worker.view.rows(), self.book.addresses()
-        people, run, moves = [row[0] for row in rows["people"]], self.book.run(), self.sender.moves(rows)
-        texts = self.book.texts()
-        kinds = {kind: {**self.state_of(kind, rows, addresses, moves), "text": texts.get(kind, Text(one.subject, one.body))}
-                 for kind, one in KINDS.items()}
+        people = dict.fromkeys(row[0] for row in rows["people"])
         return {"from": settings.sender, "per_minute": settings.per_minute, "with": sum(one in addresses for one in people),
                 "without": [one for one in people if one not in addresses],
-                "strangers": [one for one in addresses if one not in set(people)],
-                "kinds": kinds, "run": self.run_of(run) if run else None}
-
-    def state_of(self, kind: str, rows: Rows, addresses: dict[str, str], moves: dict[str, list[str]]) -> Job:
-        """Who has got a message of this kind, and to whom it would go now."""
-        number, turn = rows["number"], self.book.turn(kind, rows["number"])
-        states = self.book.states(kind, number, turn)
-        now = rows["phase"] == KINDS[kind].phase
-        people = goes_to(kind, rows, moves) if now else []
-        return {"now": now, "turn": turn, "people": len(people),
-                "to": [one for one in people if one in addresses and states.get(one, [""])[0] not in HAVE],
-                "no_address": [one for one in people if one not in addresses],
-                **{state: [[one, at, why] for one, (was, at, why) in states.items() if was == state]
-                   for state in (SENT, REFUSED, UNCERTAIN)}}
-
-    def run_of(self, run: Run) -> Job:
-        """How far a run is. One whose pause could not be noted, as on a full disk, has no thread."""
-        lost = run.state == RUNNING and not self.sender.is_at_work()
-        state, why = (PAUSED, "why it stopped could not be written down") if lost else (run.state, run.why)
-        return {"kind": run.kind, "round": run.round, "who": run.who, "state": state, "why": why, "at": run.at,
-                **self.sender.count(run)}
+                "strangers": [one for one in addresses if one not in people],
+                "kinds": {kind: self.state.of_kind(kind, rows, addresses) for kind in KINDS}, "run": self.state.of_run()}
 
     def preview(self, job: Job) -> Job:
-        """A message as one person would get it."""
+        """A message as one person would get it, in one language."""
         must_read(self.path)
-        kind, text, rows = kind_in(job), text_in(job), self.worker.view.rows()
+        kind, language, text, rows = kind_in(job), language_in(job), text_in(job), self.worker.view.rows()
         if faults := faults_of(kind, text):
             return {"faults": faults}
-        if job["person"] not in {row[0] for row in rows["people"]}:
-            raise Fault("nobody has this identifier")
-        subject, body = filled(text, values_of(kind, rows, job["person"], link_in(job), self.sender.moves(rows)))
-        return {"faults": [], "to": self.book.addresses().get(job["person"], ""), "subject": subject, "body": body}
+        person, link = job["person"], link_in(job)
+        if person not in {row[0] for row in rows["people"]}:
+            raise Fault(_("nobody has this identifier"))
+        if kind == RECEIPT:
+            since = self.receipts.book.entry(person).at or datetime.datetime.now().astimezone().isoformat()
+            shown = receipt_to(rows, person, since, link, (language, text))
+        else:
+            with speaking(language):
+                shown = filled(text, values_of(kind, rows, person, link, self.sender.moves(rows)))
+        gets = self.state.texts(kind).language_for(self.languages.of(person))
+        return {"faults": [], "to": self.book.address(person), "subject": shown.subject, "body": shown.body, "gets": gets}
 
     # --- texts, and another turn
 
     def set_text(self, job: Job) -> Job:
-        """Keeps the text of a kind of message."""
+        """Keeps the text of a kind of message in a language."""
         must_read(self.path)
-        kind, text = kind_in(job), text_in(job)
+        kind, language, text = kind_in(job), language_in(job), text_in(job)
         if faults := faults_of(kind, text):
             raise Fault(" ".join(faults))
-        if self.book.texts().get(kind) != text:
-            self.journal.note(who=job["who"], line=f"mail text of {KINDS[kind].title.lower()}", answer="set")
-            self.book.set_text(kind, text)
+        if self.book.texts(kind).get(language) != text:
+            with self.journal.change(job["who"], f"mail text of {KINDS[kind].name} in {language}"):
+                self.book.set_text(kind, language, text)
         return {}
 
     def again(self, job: Job) -> Job:
@@ -178,15 +202,26 @@ class Post:
         must_read(self.path)
         kind, number, turn = kind_in(job), self.worker.view.rows()["number"], job["turn"]
         with self.lock:
+            if kind == RECEIPT:
+                return self.receipts_again(job, number)
             self.fail_if_busy()
             if turn != self.book.turn(kind, number):
-                raise Fault("somebody else has begun this meanwhile. Nothing was changed by you: look again.")
+                raise changed_meanwhile()
             what = "to those who may not have it" if job.get("only") else "to everybody"
-            self.journal.note(who=job["who"], line=f"mail {kind} of round {number} once more {what}", answer="ok")
-            if job.get("only"):
-                self.book.forget_uncertain(kind, number, turn)
-            else:
-                self.book.begin_turn(kind, number, turn + 1)
+            with self.journal.change(job["who"], f"mail {kind} of round {number} once more {what}"):
+                if job.get("only"):
+                    self.book.forget_uncertain(kind, number, turn)
+                else:
+                    self.book.begin_turn(kind, number, turn + 1)
+        return {}
+
+    def receipts_again(self, job: Job, number: int) -> Job:
+        """Lets those get a receipt of whom nobody knows whether they have it."""
+        if not job.get("only"):
+            raise Fault("not understood: a receipt is for the one whose list has changed")
+        line = f"mail {RECEIPT} of round {number} once more to those who may not have it"
+        with self.journal.change(job["who"], line):
+            self.receipts.book.forget_uncertain(number)
         return {}
 
     # --- the run
@@ -195,27 +230,25 @@ class Post:
         """Refuses what does not go together with an unfinished run."""
         run = self.book.run()
         if run and run.state != ENDED or self.sender.is_at_work(LAST_WORDS):
-            raise Fault("messages are being sent already. Wait, or give up the rest.")
+            raise Fault(_("messages are being sent already. Wait, or give up the rest."))
 
     def send(self, job: Job) -> Job:
-        """Begins to send a message to all who have not got it."""
+        """Begins to send a message to all who have not got it, with the texts that the clerk saw."""
         must_read(self.path)
-        kind, text, link, rows = kind_in(job), text_in(job), link_in(job), self.worker.view.rows()
-        if faults := faults_of(kind, text):
-            raise Fault(" ".join(faults))
+        kind, link, rows = kind_in(job), link_in(job), self.worker.view.rows()
         if why := why_stale(rows, job["seen"], None):
             raise Fault(why)
         with self.lock:
             self.fail_if_busy()
-            state = self.state_of(kind, rows, self.book.addresses(), self.sender.moves(rows))
-            if state["turn"] != job["turn"]:
-                raise Fault("somebody else has begun this meanwhile. Nothing was sent by you: look again.")
+            state, texts = self.state.of_kind(kind, rows, self.book.addresses()), self.state.texts(kind)
+            if state["mark"] != job["mark"]:
+                raise Fault(_("somebody else has begun this meanwhile, or changed a text. Nothing was sent by you: look again."))
             if not state["to"]:
-                raise Fault("nobody is left who has an address and has not got this message. Nothing was sent.")
-            self.journal.note(who=job["who"], line=f"mail {kind} of round {rows['number']} begins",
-                              answer=f"messages: {len(state['to'])}")
-            run = Run(kind, rows["number"], state["turn"], *text, link, job["who"], RUNNING, "", mail_book.now())
-            self.book.start(run, state["to"])
+                raise Fault(_("nobody is left who has an address and has not got this message. Nothing was sent."))
+            run = Run(kind, rows["number"], state["turn"], *texts.each[texts.default], link, job["who"], RUNNING, "",
+                      mail_book.now())
+            with self.journal.change(job["who"], f"mail {kind} of round {rows['number']} begins: {len(state['to'])}"):
+                self.book.start(run, texts.each, state["to"])
             self.sender.begin()
         return {"to": len(state["to"])}
 
@@ -225,18 +258,44 @@ class Post:
         with self.lock:
             run = self.book.run()
             if run is None or run.state == ENDED:
-                raise Fault("no messages are being sent now.")
+                raise Fault(_("no messages are being sent now."))
             if self.sender.is_at_work() and job["act"] != "pause":
-                raise Fault("a message is on its way, and the mail server is slow. Nothing comes after it. Try again in a minute.")
+                raise Fault(_("a message is on its way, and the mail server is slow. Nothing comes after it. Try again in a "
+                              "minute."))
             if job["act"] == "go-on":
                 must_read(self.path)
-                self.book.end_begun()
+                self.book.end_begun(of_run=True)
                 self.book.set_run(RUNNING, "")
                 self.sender.begin()
             elif job["act"] == "pause":
-                self.book.set_run(PAUSED, f"{job['who']} has stopped it")
+                self.book.set_run(PAUSED, kept(STOPPED, who=job["who"]))
             elif job["act"] == "give-up":
-                self.sender.end_run(run, f"{job['who']} has given up the rest")
+                self.sender.end_run(run, kept(GIVEN_UP, who=job["who"]))
             else:
                 raise Fault("not understood: there is no such act")
+        return {}
+
+    # --- receipts
+
+    def steer_receipts(self, job: Job) -> Job:
+        """Begins with receipts, ends with them, or lets them go on."""
+        must_read(self.path)
+        act = job["act"]
+        if act not in ("on", "off", "go-on"):
+            raise Fault("not understood: there is no such act")
+        with self.lock:
+            if act == "go-on":
+                self.receipts.go_on()
+                return {}
+            if act == "on":
+                link = link_in(job)
+                if self.state.of_kind(RECEIPT, self.worker.view.rows(), {})["mark"] != job["mark"]:
+                    raise changed_meanwhile()
+                if self.receipts.book.wanted().on:
+                    raise Fault(_("receipts are being sent already. Nothing was changed."))
+            with self.journal.change(job["who"], f"mail receipts {act}"):
+                if act == "on":
+                    self.receipts.begin(job["who"], link)
+                else:
+                    self.receipts.end()
         return {}

@@ -13,7 +13,9 @@ from collections.abc import Iterable, Iterator
 from pathlib import Path
 from typing import Any, NamedTuple
 
-from mail_words import Text
+from languages import _
+from mail_why import ENDED_MEANWHILE
+from mail_words import ALL, RECEIPT, Text
 from settings import Fault
 
 WAITING, BEGUN, SENT, REFUSED, UNCERTAIN = "waiting", "begun", "sent", "refused", "uncertain"
@@ -21,13 +23,20 @@ RUNNING, PAUSED, ENDED = "running", "paused", "ended"
 TABLES = """
 CREATE TABLE IF NOT EXISTS address(person TEXT PRIMARY KEY, email TEXT NOT NULL);
 CREATE TABLE IF NOT EXISTS text(kind TEXT PRIMARY KEY, subject TEXT NOT NULL, body TEXT NOT NULL);
+CREATE TABLE IF NOT EXISTS words(kind TEXT, language TEXT, subject TEXT NOT NULL, body TEXT NOT NULL, PRIMARY KEY(kind, language));
+CREATE TABLE IF NOT EXISTS setting(name TEXT PRIMARY KEY, value TEXT NOT NULL);
 CREATE TABLE IF NOT EXISTS turn(kind TEXT, round INTEGER, number INTEGER NOT NULL, PRIMARY KEY(kind, round));
 CREATE TABLE IF NOT EXISTS message(kind TEXT, round INTEGER, turn INTEGER, person TEXT, state TEXT NOT NULL, at TEXT NOT NULL,
   why TEXT NOT NULL, PRIMARY KEY(kind, round, turn, person));
 CREATE TABLE IF NOT EXISTS run(one INTEGER PRIMARY KEY, kind TEXT NOT NULL, round INTEGER NOT NULL, turn INTEGER NOT NULL,
   subject TEXT NOT NULL, body TEXT NOT NULL, link TEXT NOT NULL, who TEXT NOT NULL, state TEXT NOT NULL, why TEXT NOT NULL,
   at TEXT NOT NULL);
+CREATE TABLE IF NOT EXISTS run_words(language TEXT PRIMARY KEY, subject TEXT NOT NULL, body TEXT NOT NULL);
+CREATE TABLE IF NOT EXISTS receipt(person TEXT PRIMARY KEY, now TEXT NOT NULL, at TEXT NOT NULL, told TEXT NOT NULL);
 """
+# The table `text` has what clerks wrote before there were languages, and `words` what they write in each. `run` has the text of
+# whoever has no other one in `run_words`.
+
 # The messages of the run, which is the only one.
 OF_RUN = "(kind, round, turn) = (SELECT kind, round, turn FROM run)"
 
@@ -57,7 +66,7 @@ def now() -> str:
     return datetime.datetime.now().astimezone().isoformat(timespec="seconds")
 
 
-class Book:
+class Book:  # pylint: disable=too-many-public-methods  # one for each thing that is written or read
     """The file. Each call is done, and on the disk, when it returns."""
 
     def __init__(self, path: Path) -> None:
@@ -74,10 +83,11 @@ class Book:
                     with database:
                         yield database
             except sqlite3.OperationalError as fault:
-                raise Fault(f"the file of the mail could not be read or written ({fault}). Nothing was changed in it.") from fault
+                raise Fault(_("the file of the mail could not be read or written ({why}). Nothing was changed in it.", why=fault)
+                            ) from fault
             except sqlite3.DatabaseError as fault:
-                raise Fault(f"the file of the mail, {self.path}, is damaged. Tell the administrator: it has to be moved away. "
-                            "Then bring the addresses in again; what was sent is not known any more.") from fault
+                raise Fault(_("the file of the mail, {path}, is damaged. Tell the administrator: it has to be moved away. "
+                              "Then bring the addresses in again; what was sent is not known any more.", path=self.path)) from fault
 
     def rows(self, query: str, *values: Any) -> list[Any]:
         """What a query gives. Of a file that is not there, nothing."""
@@ -92,6 +102,10 @@ class Book:
         """The address of each person who has one."""
         return dict(self.rows("SELECT person, email FROM address ORDER BY person"))
 
+    def address(self, person: str) -> str:
+        """A person's address, or nothing."""
+        return str((self.rows("SELECT email FROM address WHERE person = ?", person) or [[""]])[0][0])
+
     def set_addresses(self, addresses: dict[str, str]) -> None:
         """Gives people these addresses. An empty one takes a person's address away."""
         with self.opened() as database:
@@ -102,23 +116,35 @@ class Book:
         """Erases all that the file has of people."""
         if self.path.exists():
             with self.opened() as database:
-                for table in ("address", "message"):
+                for table in ("address", "message", "receipt"):
                     database.executemany(f"DELETE FROM {table} WHERE person = ?", [(person,) for person in people])
 
     def has(self, person: str) -> dict[str, Any]:
         """All that the file has of a person."""
-        found = self.rows("SELECT email FROM address WHERE person = ?", person)
         sent = self.rows("SELECT kind, round, state, at FROM message WHERE person = ? ORDER BY at", person)
-        return {"address": found[0][0] if found else "", "sent": sent}
+        return {"address": self.address(person), "sent": sent}
 
-    def texts(self) -> dict[str, Text]:
-        """The texts that clerks have written, by kind."""
-        return {kind: Text(subject, body) for kind, subject, body in self.rows("SELECT kind, subject, body FROM text")}
+    def texts(self, kind: str) -> dict[str, Text]:
+        """The texts of a kind that clerks have written, by language."""
+        found = self.rows("SELECT ?, subject, body FROM text WHERE kind = ?", ALL, kind)
+        found += self.rows("SELECT language, subject, body FROM words WHERE kind = ?", kind)
+        return {language: Text(subject, body) for language, subject, body in found}
 
-    def set_text(self, kind: str, text: Text) -> None:
+    def set_text(self, kind: str, language: str, text: Text) -> None:
         """Keeps a text."""
         with self.opened() as database:
-            database.execute("INSERT OR REPLACE INTO text VALUES (?, ?, ?)", (kind, *text))
+            database.execute("INSERT OR REPLACE INTO words VALUES (?, ?, ?, ?)", (kind, language, *text))
+
+    # --- settings
+
+    def setting(self, name: str) -> str:
+        """A setting, or nothing."""
+        return str((self.rows("SELECT value FROM setting WHERE name = ?", name) or [[""]])[0][0])
+
+    def set(self, **settings: str) -> None:
+        """Sets some."""
+        with self.opened() as database:
+            database.executemany("INSERT OR REPLACE INTO setting VALUES (?, ?)", settings.items())
 
     # --- messages
 
@@ -150,15 +176,20 @@ class Book:
         found = self.rows("SELECT * FROM run")
         return Run(*found[0][1:]) if found else None
 
-    def start(self, run: Run, people: list[str]) -> None:
-        """Begins a run. Messages of rounds that are long over are forgotten."""
+    def start(self, run: Run, texts: dict[str, Text], people: list[str]) -> None:
+        """Begins a run, with its texts by language. Messages of rounds that are long over are forgotten."""
         key = (run.kind, run.round, run.turn)
         with self.opened() as database:
             database.execute("INSERT OR REPLACE INTO run VALUES (1, ?, ?, ?, ?, ?, ?, ?, ?, ?, ?)", run)
+            database.execute("DELETE FROM run_words")
+            database.executemany("INSERT INTO run_words VALUES (?, ?, ?)", [(one, *text) for one, text in texts.items()])
             database.executemany("INSERT OR REPLACE INTO message VALUES (?, ?, ?, ?, ?, ?, '')",
                                  [(*key, person, WAITING, run.at) for person in people])
-            for table in ("message", "turn"):
-                database.execute(f"DELETE FROM {table} WHERE round < ?", (run.round - 1,))
+            forget_old(database, run.round)
+
+    def run_texts(self) -> dict[str, Text]:
+        """The texts of the run by language. A run that an earlier version began has one text alone."""
+        return {language: Text(*text) for language, *text in self.rows("SELECT language, subject, body FROM run_words")}
 
     def set_run(self, state: str, why: str) -> None:
         """How far the run is. With its end, what still waits is no message any more."""
@@ -167,10 +198,16 @@ class Book:
             if state == ENDED:
                 database.execute(f"DELETE FROM message WHERE {OF_RUN} AND state = ?", (WAITING,))
 
-    def waiting(self) -> list[str]:
-        """Who waits for a message of the run."""
-        return [person for person, in self.rows(f"SELECT person FROM message WHERE {OF_RUN} AND state = ? ORDER BY person",
-                                                WAITING)]
+    def waiting(self) -> str:
+        """Who is the next that waits for a message of the run, or nobody."""
+        found = self.rows(f"SELECT person FROM message WHERE {OF_RUN} AND state = ? ORDER BY person LIMIT 1", WAITING)
+        return str(found[0][0]) if found else ""
+
+    def stopped_at(self, kind: str, number: int, state: str) -> tuple[str, str] | None:
+        """At whose message of a kind it stopped, which is in this state now, and why; None if that person was erased."""
+        found = self.rows("SELECT person, why FROM message WHERE kind = ? AND round = ? AND state = ? AND why <> '' "
+                          "ORDER BY at DESC LIMIT 1", kind, number, state)
+        return found[0] if found else None
 
     def mark(self, person: str, state: str, why: str = "") -> None:
         """What becomes of a message of the run."""
@@ -183,11 +220,19 @@ class Book:
         with self.opened() as database:
             database.execute(f"DELETE FROM message WHERE {OF_RUN} AND person = ?", (person,))
 
-    def end_begun(self) -> int:
-        """Of messages that were begun, and whose outcome nobody has noted, nobody knows whether they were sent. Gives how
-        many are uncertain for this reason now."""
+    def end_begun(self, of_run: bool = False) -> list[str]:
+        """Of messages that were begun, and whose outcome nobody has noted, nobody knows whether they were sent: of all, or of
+        those of the run. Gives whose receipts are uncertain for this reason now."""
         if not self.path.exists():
-            return 0
+            return []
+        which = f"state = ? AND {OF_RUN}" if of_run else "state = ?"
         with self.opened() as database:
-            why = "the keeper was ended, or could not write, while this message was on its way"
-            return database.execute("UPDATE message SET state = ?, why = ? WHERE state = ?", (UNCERTAIN, why, BEGUN)).rowcount
+            found = database.execute(f"SELECT person FROM message WHERE {which} AND kind = ?", (BEGUN, RECEIPT)).fetchall()
+            database.execute(f"UPDATE message SET state = ?, why = ? WHERE {which}", (UNCERTAIN, ENDED_MEANWHILE, BEGUN))
+            return [person for person, in found]
+
+
+def forget_old(database: sqlite3.Connection, number: int) -> None:
+    """Forgets the messages of rounds that are long over."""
+    for table in ("message", "turn"):
+        database.execute(f"DELETE FROM {table} WHERE round < ?", (number - 1,))

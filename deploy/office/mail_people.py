@@ -1,24 +1,26 @@
-"""To whom a message of each kind goes, and what stands in the place of its placeholders, by the rows of the office (rows.py)."""
+"""To whom a message of each kind goes, and what stands in the place of its placeholders, by the rows of the office (rows.py).
+Sentences are in the language that is spoken.
+"""
 
+import datetime
+
+import times
+from languages import ENGLISH, _, ngettext, spoken
+from mail_words import RECEIPT
 from program import Program
 from copies import Copies
-from seen import Rows
+from seen import Rows, takes_part
 
-NONE = "none"
-NOT_YET = "(not known yet)"
+NONE = "none"  # as the program says it in a plan of moves, and an English message
 LEAVES, SWAP = "0", "swap"
-
-
-def takes_part(rows: Rows) -> list[str]:
-    """Who takes part in the round."""
-    going = {person for person, in rows["going"]}
-    return [person for person, _, _, withdrawn in rows["people"] if not withdrawn and person not in going]
 
 
 def goes_to(kind: str, rows: Rows, moves: dict[str, list[str]]) -> list[str]:
     """To whom a message of this kind goes now."""
     if kind == "invitation":
         return takes_part(rows)
+    if kind == RECEIPT:
+        return []  # the keeper finds out whose list has changed
     if kind == "reminder":
         return [person for person in takes_part(rows) if not rows["choices"].get(person)]
     known = {row[0] for row in rows["people"]}
@@ -35,34 +37,63 @@ def planned_moves(rows: Rows, program: Program, copies: Copies) -> dict[str, lis
     return {person: [wave, old, new] for wave, person, old, new in lines}
 
 
+def none() -> str:
+    """What stands in the place of a room that somebody does not have. Other languages have no word for `none` of whatever it is."""
+    return NONE if spoken() == ENGLISH else _("no room")
+
+
+def not_yet() -> str:
+    """What stands in the place of what is not known yet."""
+    return _("(not known yet)")
+
+
 def result_of(rows: Rows, person: str, home: str | None) -> tuple[str, str]:
     """A person's result as a sentence, and the room alone."""
     results = dict(rows["results"])
     if rows["phase"] != "published" or person not in results:
-        return NOT_YET, NOT_YET
+        return not_yet(), not_yet()
     room = results[person]
     if room is None:
-        return "You get no room in this round.", NONE
-    return (f"You keep your room {room}." if room == home else f"Your new room is {room}."), room
+        return _("You get no room in this round."), none()
+    return (_("You keep your room {room}.", room=room) if room == home else _("Your new room is {room}.", room=room)), room
 
 
 def move_of(wave: str, old: str, new: str) -> str:
     """A person's move as a sentence."""
     if wave == LEAVES:
-        return f"You move out of {old} before the others move."
-    whence = f"from {old} " if old != NONE else ""
+        return _("You move out of {old} before the others move.", old=old)
     if wave == SWAP:
-        return f"You move {whence}to {new}, at the same time as the people with whom you exchange rooms."
-    after = ", as one of the first." if wave == "1" else f", in wave {wave}: once the people of wave {int(wave) - 1} have moved."
-    return f"You move {whence}to {new}{after}"
+        return (_("You move from {old} to {new}, at the same time as the people with whom you exchange rooms.", old=old, new=new)
+                if old != NONE else
+                _("You move to {new}, at the same time as the people with whom you exchange rooms.", new=new))
+    if wave == "1":
+        return (_("You move from {old} to {new}, as one of the first.", old=old, new=new) if old != NONE else
+                _("You move to {new}, as one of the first.", new=new))
+    before = int(wave) - 1
+    return (_("You move from {old} to {new}, in wave {wave}: once the people of wave {before} have moved.",
+              old=old, new=new, wave=wave, before=before) if old != NONE else
+            _("You move to {new}, in wave {wave}: once the people of wave {before} have moved.", new=new, wave=wave, before=before))
 
 
-def values_of(kind: str, rows: Rows, person: str, link: str, moves: dict[str, list[str]]) -> dict[str, str]:
-    """What stands in the place of each placeholder for this person."""
-    name, home = next((name, home) for one, name, home, _ in rows["people"] if one == person)
-    values = {"name": name, "person": person, "room": home or NONE, "round": str(rows["number"]), "link": link}
+def receipt_of(rows: Rows, person: str, since: datetime.datetime) -> str:
+    """What the office has of a person's list, as a sentence without its rooms."""
+    number, time = rows["number"], times.to_the_minute(since)
+    if any(one == person and withdrawn for one, _name, _home, withdrawn in rows["people"]):
+        return _("You have withdrawn from round {round}, since about {time}.", round=number, time=time)
+    count = len(rows["choices"].get(person, []))
+    if not count:
+        return _("Round {round} has had an empty list from you since about {time}.", round=number, time=time)
+    return ngettext("Round {round} has had a list of {count} room from you since about {time}.",
+                    "Round {round} has had a list of {count} rooms from you since about {time}.", count, round=number, time=time)
+
+
+def values_of(kind: str, rows: Rows, person: str, link: str, known: dict[str, list[str]]) -> dict[str, str]:
+    """What stands in the place of each placeholder for this person. For a message of moves, `known` has the moves."""
+    name, home = next((name, home) for one, name, home, _withdrawn in rows["people"] if one == person)
+    values = {"name": name, "person": person, "room": home or none(), "round": str(rows["number"]), "link": link}
     if kind == "results":
         values["result"], values["new"] = result_of(rows, person, home)
     if kind == "moves":
-        values["move"], values["new"] = (move_of(*moves[person]), moves[person][2]) if person in moves else (NOT_YET, NOT_YET)
+        move = known.get(person)
+        values["move"], values["new"] = (move_of(*move), none() if move[2] == NONE else move[2]) if move else (not_yet(), not_yet())
     return values

@@ -5,11 +5,13 @@ import sqlite3
 import threading
 import time
 
+from languages import ENGLISH, speaking
 from mail_book import BEGUN, ENDED, PAUSED, REFUSED, SENT, UNCERTAIN, WAITING, Book, Run
 from mail_people import goes_to, planned_moves, values_of
 from mail_send import Away, NotTaken, Unknown, message_of, send
 from mail_settings import MailSettings, must_read
-from mail_words import KINDS, filled
+from mail_why import FAILED, GONE_ON, MANY_REFUSED, NOBODY_KNOWS, TAKES_NONE, kept
+from mail_words import KINDS, Text, filled
 from office import Office
 from seen import Rows, stamp
 from settings import Fault
@@ -19,12 +21,25 @@ IN_A_ROW = 3        # so many refusals one after the other are the mail server's
 LAST_WORDS = 2.0    # seconds for the message that is on its way when the keeper ends
 OUTCOMES = (WAITING, SENT, REFUSED, UNCERTAIN)
 
+class Pace:  # pylint: disable=too-few-public-methods  # all that it does is to wait
+    """Lets so many messages go in a minute, whichever thread sends them."""
+
+    def __init__(self) -> None:
+        self.lock, self.free = threading.Lock(), 0.0
+
+    def wait(self, settings: MailSettings, halt: threading.Event) -> bool:
+        """Waits until the next message may go. Whether it may: nothing has called a halt meanwhile."""
+        with self.lock:
+            at = max(self.free, time.monotonic())
+            self.free = at + 60 / settings.per_minute
+        return not halt.wait(max(0.0, at - time.monotonic()))
+
 
 class Sender:
     """Sends the messages of the run that the file of the mail has."""
 
     def __init__(self, office: Office, worker: Worker, book: Book) -> None:
-        self.office, self.worker, self.book = office, worker, book
+        self.office, self.worker, self.book, self.pace = office, worker, book, Pace()
         self.halt, self.in_a_row = threading.Event(), 0
         self.thread: threading.Thread | None = None
         self.planned: tuple[Rows, dict[str, list[str]]] = ({}, {})
@@ -60,19 +75,14 @@ class Sender:
 
     def work(self, halt: threading.Event) -> None:
         """Sends one message after the other, until all are sent or something is in the way."""
-        while not halt.is_set():
-            began = time.monotonic()
-            try:
+        try:
+            settings = must_read(self.office.settings.mail)
+            while self.pace.wait(settings, halt) and self.go_on(settings):
                 settings = must_read(self.office.settings.mail)
-                if not self.go_on(settings):
-                    return
-                halt.wait(max(0.0, began + 60 / settings.per_minute - time.monotonic()))
-            except (Fault, OSError, sqlite3.Error) as fault:
-                self.pause(str(fault))
-                return
-            except Exception as fault:  # pylint: disable=broad-except  # whatever it is, the run must not seem to go on
-                self.pause(f"the keeper failed ({type(fault).__name__})")
-                return
+        except (Fault, OSError, sqlite3.Error) as fault:
+            self.pause(str(fault))
+        except Exception as fault:  # pylint: disable=broad-except  # whatever it is, the run must not seem to go on
+            self.pause(kept(FAILED, kind=type(fault).__name__))
 
     def pause(self, why: str) -> None:
         """Notes why the run does not go on. If that cannot be noted, the next start finds a run without a thread."""
@@ -82,24 +92,26 @@ class Sender:
     def go_on(self, settings: MailSettings) -> bool:
         """Sends the next message. Whether another may come."""
         run, rows = self.book.run(), self.worker.view.rows()
-        waiting = self.book.waiting()
-        if run is None or not waiting:
+        person = self.book.waiting()
+        if run is None or not person:
             self.end_run(run, "")
         elif stamp(rows) != f"round {run.round} {KINDS[run.kind].phase}":
-            self.end_run(run, "the round has gone on")
+            self.end_run(run, GONE_ON)
         elif self.in_a_row >= IN_A_ROW:
-            self.pause(f"the mail server has refused {IN_A_ROW} messages one after the other")
+            self.pause(kept(MANY_REFUSED, count=IN_A_ROW))
         else:
-            return self.send_to(waiting[0], run, rows, settings)
+            return self.send_to(person, run, rows, settings)
         return False
 
     def send_to(self, person: str, run: Run, rows: Rows, settings: MailSettings) -> bool:
         """Sends one message, if it is still for this person. Whether another may come."""
-        address, moves = self.book.addresses().get(person), self.moves(rows) if run.kind == "moves" else {}
-        if address is None or person not in goes_to(run.kind, rows, moves):
+        address, moves = self.book.address(person), self.moves(rows) if run.kind == "moves" else {}
+        if not address or person not in goes_to(run.kind, rows, moves):
             self.book.skip(person)
             return True
-        message = message_of(settings, address, filled(run.text, values_of(run.kind, rows, person, run.link, moves)))
+        language, text = self.text_for(person, run)
+        with speaking(language):
+            message = message_of(settings, address, filled(text, values_of(run.kind, rows, person, run.link, moves)))
         self.book.mark(person, BEGUN)
         try:
             send(settings, address, message)
@@ -107,17 +119,26 @@ class Sender:
             self.book.mark(person, REFUSED, str(why))
             self.in_a_row += 1
         except Away as why:
-            self.book.mark(person, WAITING)
-            self.pause(f"the mail server takes no mail: {why}")
+            self.book.mark(person, WAITING, str(why))
+            self.pause(TAKES_NONE)
             return False
         except Unknown as why:
             self.book.mark(person, UNCERTAIN, str(why))
-            self.pause(f"nobody knows whether the message to {person} was sent: {why}")
+            self.pause(NOBODY_KNOWS)
             return False
         else:
             self.book.mark(person, SENT)
             self.in_a_row = 0
         return True
+
+    def text_for(self, person: str, run: Run) -> tuple[str, Text]:
+        """The language and the text of the run for a person: as they were when it began. An earlier version's run has one text,
+        with English sentences in it."""
+        texts, kept_of = self.book.run_texts(), self.office.languages.kept()
+        for language in (kept_of.residents.get(person, ""), kept_of.office or ENGLISH):
+            if language in texts:
+                return language, texts[language]
+        return ENGLISH, run.text
 
     def end_run(self, run: Run | None, why: str) -> None:
         """Ends the run, and notes it."""

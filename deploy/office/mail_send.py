@@ -12,6 +12,7 @@ from email.message import EmailMessage
 
 from lines import on_one_line
 from mail_settings import MailSettings
+from mail_why import ANSWERS, BROKEN, NO_ANSWER, kept
 from mail_words import Text
 
 # The policy refuses a line break in a header field. All is ASCII on the way, so any mail server takes it.
@@ -58,7 +59,7 @@ def send(settings: MailSettings, address: str, message: bytes) -> None:
         # With a name of its own, it asks no name server.
         server = smtplib.SMTP("127.0.0.1", settings.port, local_hostname="localhost", timeout=settings.seconds)
     except (OSError, smtplib.SMTPException) as fault:
-        raise Away(f"it does not answer ({told(fault)})") from fault
+        raise Away(kept(NO_ANSWER, why=told(fault))) from fault
     try:
         ask_to_take(server, settings.bounces_to, address)
         hand_over(server, message)
@@ -74,12 +75,12 @@ def ask_to_take(server: smtplib.SMTP, sender: str, address: str) -> None:
         server.ehlo_or_helo_if_needed()
         code, answer = server.mail(sender)
         if code != 250:
-            raise Away(f"it answers {said(code, answer)}")
+            raise Away(kept(ANSWERS, answer=said(code, answer)))
         code, answer = server.rcpt(address)
     except (OSError, smtplib.SMTPException) as fault:
-        raise Away(f"the connection broke ({told(fault)})") from fault
+        raise Away(kept(BROKEN, why=told(fault))) from fault
     if code == GOES_AWAY:
-        raise Away(f"it answers {said(code, answer)}")
+        raise Away(kept(ANSWERS, answer=said(code, answer)))
     if code not in (250, 251):
         raise NotTaken(said(code, answer))
 
@@ -91,9 +92,9 @@ def hand_over(server: smtplib.SMTP, message: bytes) -> None:
     except smtplib.SMTPDataError as fault:
         code, answer = fault.smtp_code, fault.smtp_error if isinstance(fault.smtp_error, bytes) else fault.smtp_error.encode()
     except (OSError, smtplib.SMTPException) as fault:
-        raise Unknown(f"the connection broke ({told(fault)})") from fault
+        raise Unknown(kept(BROKEN, why=told(fault))) from fault
     if code == GOES_AWAY:
-        raise Away(f"it answers {said(code, answer)}")
+        raise Away(kept(ANSWERS, answer=said(code, answer)))
     if code != 250:
         raise NotTaken(said(code, answer))
 

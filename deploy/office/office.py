@@ -4,6 +4,7 @@ from backups import Backups
 from copies import Copies
 from figures_kept import Kept
 from journal import Journal
+from languages_kept import Languages
 from placing import beside
 from program import Program
 from settings import Settings
@@ -18,6 +19,7 @@ class Office:  # pylint: disable=too-few-public-methods  # a place for the parts
         self.journal, self.backups = Journal(settings.journal), Backups(settings, self.copies)
         self.told = Told(settings.told, self.journal)
         self.figures = Kept(settings.figures)
+        self.languages = Languages(settings.languages)
 
     def clear(self) -> None:
         """Puts away what a killed keeper left, and notes of its unfinished changes that their answers are not known."""

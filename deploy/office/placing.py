@@ -23,14 +23,15 @@ import time
 from collections.abc import Callable, Iterator
 from pathlib import Path
 
+from languages import N_, _
 from settings import Fault, unwritten
 
 # The bytes by which SQLite locks a database, as `struct flock`. The lock is that of an open file, and not of a process:
 # it stays when the process opens and closes the same file once more.
 LOCK = struct.pack("hhqqi4x", fcntl.F_WRLCK, os.SEEK_SET, 1 << 30, 512, 0)
 PATIENCE = 5.0  # seconds until other programs have to have closed the file
-IN_USE = ("another program has the office's file open. As root, `lslocks` shows who has locked the file, and `fuser -v FILE` "
-          "also who only reads it. Nothing was changed. End that program, and try again.")
+IN_USE = N_("another program has the office's file open. As root, `lslocks` shows who has locked the file, and `fuser -v FILE` "
+            "also who only reads it. Nothing was changed. End that program, and try again.")
 
 
 def beside(file: Path, end: str) -> Path:
@@ -69,7 +70,7 @@ def wait_until(holds: Callable[[], bool]) -> None:
     end = time.monotonic() + PATIENCE
     while not holds():
         if time.monotonic() > end:
-            raise Fault(IN_USE)
+            raise Fault(_(IN_USE))
         time.sleep(0.001)
 
 
@@ -89,7 +90,7 @@ class Place:
         try:
             held = os.open(self.file, os.O_RDWR)
         except OSError as fault:
-            raise unwritten("the office", fault) from fault
+            raise unwritten(N_("the office"), fault) from fault
         try:
             # Who opens the file in the moment of a lease has the system send a signal. This one ends no process.
             fcntl.fcntl(held, fcntl.F_SETSIG, signal.SIGURG)
@@ -117,7 +118,7 @@ class Place:
         except (Fault, OSError) as fault:
             for one in (self.part, self.second):
                 one.unlink(missing_ok=True)
-            raise unwritten("the office", fault) if isinstance(fault, OSError) else fault
+            raise unwritten(N_("the office"), fault) if isinstance(fault, OSError) else fault
         to_disk(self.file.parent)
         self.finish()
         if held is not None and not self.has_alone(held):

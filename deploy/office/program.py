@@ -18,6 +18,7 @@ from collections.abc import Callable
 from pathlib import Path
 from typing import NamedTuple
 
+from languages import _
 from lines import LIKE_A_KEY, name_shows_a_key, shows_a_key, verb_of
 from settings import Fault, Settings
 
@@ -74,9 +75,9 @@ def correct(people: dict[str, dict[str, str]], copy: Path) -> None:
                     "UPDATE person SET name = coalesce(?, name), passkey = coalesce(?, passkey) WHERE id = ?",
                     (values.get("name"), values.get("key"), person))
             except sqlite3.IntegrityError as fault:
-                raise Fault("another person has this key. Nothing was changed.") from fault
+                raise Fault(_("another person has this key. Nothing was changed.")) from fault
             if changed.rowcount != 1:
-                raise Fault(f"nobody has the identifier {person!r}. Nothing was changed.")
+                raise Fault(_("nobody has the identifier {person}. Nothing was changed.", person=repr(person)))
 
 
 class Program:
@@ -97,8 +98,8 @@ class Program:
         try:
             done = subprocess.run(line, stdin=subprocess.DEVNULL, capture_output=True, timeout=limit, check=False)
         except subprocess.TimeoutExpired as fault:
-            why = f"the program did not end within {limit:g} seconds, and was ended. Look whether the line took effect."
-            raise Fault(why) from fault
+            raise Fault(_("the program did not end within {seconds:g} seconds, and was ended. Look whether the line took effect.",
+                          seconds=limit)) from fault
         return Answer((done.stdout + done.stderr).decode("utf-8", "replace"), done.returncode)
 
     def tell(self, line: str, file: Path) -> Answer:
@@ -119,8 +120,8 @@ class Program:
         end = time.monotonic() + limit
         for line in lines:
             if time.monotonic() > end:
-                raise Fault(f"these lines take longer than {limit:g} seconds together, and residents would wait for so "
-                            "long. Nothing was changed: make several files of them.")
+                raise Fault(_("these lines take longer than {seconds:g} seconds together, and residents would wait for so "
+                              "long. Nothing was changed: make several files of them.", seconds=limit))
             if look:
                 look(line, copy)
             verb = verb_of(line)
@@ -158,8 +159,8 @@ class Program:
     def bring_in(self, kind: str, label: str, body: bytes, file: Path) -> Answer:
         """Imports a list. The program reads it from a file in memory, which is gone afterwards."""
         if shows_a_key(f"import {kind} {label}"):
-            raise Fault("a kind or a label with 16 letters and digits in a row may be a key, so nothing was done. Put a "
-                        "hyphen into the label.")
+            raise Fault(_("a kind or a label with 16 letters and digits in a row may be a key, so nothing was done. Put a "
+                          "hyphen into the label."))
         with tempfile.NamedTemporaryFile(dir=self.settings.scratch) as held:
             held.write(body)
             held.flush()
@@ -172,10 +173,10 @@ class Program:
     def words(self, seed: str, count: int) -> list[str]:
         """The words of a seed."""
         if not SEED.fullmatch(seed):
-            raise Fault("a seed has 64 signs out of 0 to 9 and a to f")
+            raise Fault(_("a seed has 64 signs out of 0 to 9 and a to f"))
         text, status = self.run("words", f"--seed={seed}", f"--count={count}")
         if status != 0:
-            raise Fault(f"the program gave no words: {text.strip()}")
+            raise Fault(_("the program gave no words: {said}", said=text.strip()))
         return text.split()
 
     def migrate(self, file: Path) -> Answer:

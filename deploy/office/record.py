@@ -32,10 +32,19 @@ SEED = "[0-9a-fA-F]{64}"
 NOT_READ = ("it was not read, so seeds that were noted and rounds that were given up are not named",)
 
 
+def N_(text: str) -> str:  # pylint: disable=invalid-name  # as it is called with gettext
+    """Marks a text that the keeper says in the clerk's language. This program works without it, and in English."""
+    return text
+
+
 class Refused(Exception):
-    """The record cannot be written; says why."""
+    """The record cannot be written; says why, by a text and its values."""
 
     status = 2
+
+    def __init__(self, text: str, **values: object) -> None:
+        super().__init__(text.format(**values))
+        self.text, self.values = text, values
 
 
 class NoResults(Refused):
@@ -84,7 +93,7 @@ def opened(file: Path) -> Iterator[sqlite3.Connection]:
                 with contextlib.suppress(FileNotFoundError):
                     shutil.copyfile(file.with_name(file.name + end), copy.with_name(copy.name + end))
         except OSError as why:
-            raise Refused(f"{file} cannot be read ({why.strerror})") from why
+            raise Refused(N_("{file} cannot be read ({reason})"), file=file, reason=why.strerror) from why
         with contextlib.closing(sqlite3.connect(copy)) as database:
             yield database
 
@@ -95,11 +104,12 @@ def read_office(file: Path) -> Office:
         try:
             found = database.execute("SELECT version, number, phase FROM round").fetchall()
             if len(found) != 1 or found[0][0] != VERSION:
-                raise Refused(f"{file} is no office's file of version {VERSION}, the one that this program knows. "
-                              "An office of an earlier version becomes one by: rooms migrate --db FILE")
+                raise Refused(N_("{file} is no office's file of version {version}, the one that this program knows. "
+                                 "An office of an earlier version becomes one by: rooms migrate --db FILE"),
+                              file=file, version=VERSION)
             _, number, phase = found[0]
             if phase not in ("ran", "published"):
-                raise NoResults(f"round {number} is {phase}: a round has results from `run` until `settle`")
+                raise NoResults(number, phase)
             grades = dict(database.execute("SELECT person, value FROM grade"))
             going = {person for person, in database.execute("SELECT person FROM going")}
             choices: dict[str, list[str]] = {}
@@ -115,7 +125,8 @@ def read_office(file: Path) -> Office:
                 dict(database.execute("SELECT person, hex FROM word ORDER BY person")),
                 dict(database.execute("SELECT person, room FROM result ORDER BY person")))
         except sqlite3.Error as why:
-            raise Refused(f"{file} is no office's file, its log is not beside it, or it is damaged ({why})") from why
+            raise Refused(N_("{file} is no office's file, its log is not beside it, or it is damaged ({reason})"),
+                          file=file, reason=why) from why
 
 
 def check(office: Office) -> None:
@@ -128,17 +139,17 @@ def check(office: Office) -> None:
     for kind, form in FORMS.items():
         for text in texts[kind]:
             if not isinstance(text, str) or not re.fullmatch(form, text):
-                raise Refused(f"the file is no office's: it has {text!r} for a {kind}")
+                raise Refused(N_("the file is no office's: it has {found!r} for a {kind}"), found=text, kind=kind)
     participants = {person.identifier for person in office.people if person.takes_part}
     if any(person.grade not in range(10) or (person.withdrawn and person.going) for person in office.people):
-        raise Refused("the file is no office's: a grade is not from 0 to 9, or somebody has withdrawn and leaves")
+        raise Refused(N_("the file is no office's: a grade is not from 0 to 9, or somebody has withdrawn and leaves"))
     if set(office.words) != participants or set(office.results) != participants:
-        raise Refused("the file is no office's: its words and results are not those of the people who take part")
+        raise Refused(N_("the file is no office's: its words and results are not those of the people who take part"))
     homes = [person.home for person in office.people if person.home]
     free = {room for room, shut in office.rooms if not shut}
     listed = {room for rooms in office.choices.values() for room in rooms}
     if len(set(homes)) != len(homes) or not free.issuperset(homes) or not listed.issubset(texts["room"]):
-        raise Refused("the file is no office's: two people have one home, or a home or a list a room that is not there")
+        raise Refused(N_("the file is no office's: two people have one home, or a home or a list a room that is not there"))
 
 
 # --- writing

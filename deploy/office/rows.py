@@ -31,6 +31,12 @@ LATER = {
 SECRET = secrets.token_bytes(32)
 
 
+def identifiers_in(file: Path) -> set[str]:
+    """Who is in the register of a copy."""
+    with contextlib.closing(sqlite3.connect(file)) as database:
+        return {person for person, in database.execute("SELECT id FROM person")}
+
+
 def rows_of(file: Path) -> Rows:
     """The rows of a copy, by name."""
     with contextlib.closing(sqlite3.connect(file)) as database:

@@ -16,6 +16,7 @@ NOTED = re.compile(r"seed ([0-9A-Fa-f]{64})\b ?(.*)", re.DOTALL)
 DRAWN = re.compile(r"draw \$\(rooms words --seed ([0-9A-Fa-f]{64})")
 OF_TEXT = "SHA-256 of "
 STRUCK = "struck out"  # what is noted of a seed that was noted by mistake
+UNEXPLAINED = "without a word on how it came about"
 # Steps after which the round is over.
 LAST_STEPS = frozenset({"settle", "cancel"})
 REFUSED = (1, 2)
@@ -26,7 +27,7 @@ Entry = dict[str, Any]
 
 class Noted(NamedTuple):
     """A seed: when it was noted, by whom, how it came about, the line that works it out again from a text, whether it was
-    noted before the round was closed, when lists could still change, and who has struck it out, and when."""
+    noted before the round was closed, when lists could still change, and when it was struck out, and by whom."""
 
     at: str
     who: str
@@ -35,6 +36,7 @@ class Noted(NamedTuple):
     check: str
     early: bool
     struck: str = ""
+    struck_by: str = ""
 
     @property
     def counts(self) -> bool:
@@ -98,7 +100,7 @@ def noted_in(entry: Entry, early: bool = False) -> Noted | None:
     match = NOTED.fullmatch(str(entry.get("note", entry.get("line", ""))))
     if match is None or "n" in entry:
         return None
-    source = match[2] or "without a word on how it came about"
+    source = match[2] or UNEXPLAINED
     text = source.removeprefix(OF_TEXT)
     check = f"printf %s {shlex.quote(text)} | sha256sum" if text != source else ""
     return Noted(times.of_entry(entry["at"]), entry.get("who", ""), match[1].lower(), source, check, early)
@@ -125,6 +127,6 @@ def with_struck(noted: list[Noted]) -> list[Noted]:
         if one.source != STRUCK:
             found.append(one)
             continue
-        struck = f"{one.at} by {one.who}"
-        found = [other._replace(struck=struck) if other.seed == one.seed and not other.struck else other for other in found]
+        found = [other._replace(struck=one.at, struck_by=one.who) if other.seed == one.seed and not other.struck else other
+                 for other in found]
     return found

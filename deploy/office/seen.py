@@ -8,11 +8,24 @@ import hashlib
 import json
 from typing import Any, NamedTuple
 
+from languages import N_, _
+
 Rows = dict[str, Any]
 
-# What can be seen of people, as a refusal calls it.
-PARTS = {"name": "The name", "home": "The room", "grade": "The grade", "list": "The list", "key": "The key",
-         "all": "What is on record"}
+# What can be seen of people, and what a refusal says if it was changed.
+PARTS = {
+    "name": N_("The name of {who} was changed after you looked. Nothing was changed by you: decide again."),
+    "home": N_("The room of {who} was changed after you looked. Nothing was changed by you: decide again."),
+    "grade": N_("The grade of {who} was changed after you looked. Nothing was changed by you: decide again."),
+    "list": N_("The list of {who} was changed after you looked. Nothing was changed by you: decide again."),
+    "key": N_("The key of {who} was changed after you looked. Nothing was changed by you: decide again."),
+    "all": N_("What is on record of {who} was changed after you looked. Nothing was changed by you: decide again."),
+}
+# How far a round is, as a refusal says it.
+STATES = {
+    "idle": N_("round {number} idle"), "open": N_("round {number} open"), "closed": N_("round {number} closed"),
+    "drawn": N_("round {number} drawn"), "ran": N_("round {number} ran"), "published": N_("round {number} published"),
+}
 
 
 class Saw(NamedTuple):
@@ -21,6 +34,12 @@ class Saw(NamedTuple):
     part: str
     people: list[str]
     mark: str
+
+
+def takes_part(rows: Rows) -> list[str]:
+    """Who takes part in the round."""
+    going = {person for person, in rows["going"]}
+    return [person for person, _name, _home, withdrawn in rows["people"] if not withdrawn and person not in going]
 
 
 def stamp(rows: Rows) -> str:
@@ -44,8 +63,8 @@ def saw(rows: Rows, part: str, people: list[str]) -> Saw:
 def why_stale(rows: Rows, seen: str | None, had: Saw | None) -> str:
     """Why a change is not made whose sender saw the round and people in another state, or nothing."""
     if seen is not None and seen != stamp(rows):
-        return f"the office has gone on: it is at {stamp(rows)} now. Nothing was changed. Look before you go on."
+        now = _(STATES[rows["phase"]], number=rows["number"])
+        return _("the office has gone on: it is at {state} now. Nothing was changed. Look before you go on.", state=now)
     if had is not None and had != saw(rows, had.part, had.people):
-        who = had.people[0] if len(had.people) == 1 else "one of these people"
-        return f"{PARTS[had.part]} of {who} was changed after you looked. Nothing was changed by you: decide again."
+        return _(PARTS[had.part], who=had.people[0] if len(had.people) == 1 else _("one of these people"))
     return ""

@@ -7,15 +7,19 @@ import shutil
 from dataclasses import dataclass
 from pathlib import Path
 
+from languages import _
+
 
 class Fault(Exception):
     """The keeper cannot do what was asked for. The text says why, and what the clerk can do."""
 
 
 def unwritten(what: str, fault: OSError) -> Fault:
-    """The fault of something that could not be written, before anything was changed."""
-    hint = " The disk is full: make room." if fault.errno in (errno.ENOSPC, errno.EDQUOT) else ""
-    return Fault(f"{what} could not be written ({fault.strerror}). Nothing was changed.{hint}")
+    """The fault of something that could not be written, before anything was changed. What that is, is translated here."""
+    values = {"what": _(what), "reason": fault.strerror}
+    if fault.errno in (errno.ENOSPC, errno.EDQUOT):
+        return Fault(_("{what} could not be written ({reason}). Nothing was changed. The disk is full: make room.", **values))
+    return Fault(_("{what} could not be written ({reason}). Nothing was changed.", **values))
 
 
 @dataclass(frozen=True)
@@ -58,6 +62,16 @@ class Settings:  # pylint: disable=too-many-instance-attributes  # each is a set
     def backups(self) -> Path:
         """The folder of the kept copies."""
         return self.file.with_name("backups")
+
+    @property
+    def languages(self) -> Path:
+        """The languages of clerks and of residents."""
+        return self.file.with_name("languages")
+
+    @property
+    def accounts(self) -> Path:
+        """Whose the college's accounts are."""
+        return self.file.with_name("accounts")
 
     @property
     def mail_book(self) -> Path:

@@ -22,6 +22,8 @@ from typing import Any
 
 import waitress
 
+from languages import _, accepted, first_of, speaking
+
 PLACE = os.environ.get("ROOMS_SIGNED_IN_SOCKET", "/run/rooms-account.sock")
 KEEPER = os.environ.get("ROOMS_ACCOUNT_SOCKET", "/run/rooms-keys.sock")
 PROXY = os.environ.get("ROOMS_TURN_SOCKET", "/run/haproxy/rooms-account.sock")
@@ -85,7 +87,7 @@ def sent(method: str, path: str, body: bytes | None, key: str) -> Answer:
         return answer.status, answer.read(), answer.getheader("Content-Type", "application/json")
     except (OSError, http.client.HTTPException):
         # Nobody knows whether the request was carried out. The residents' page says so where the answer is no JSON.
-        return 502, b"no answer came\n", "text/plain"
+        return 502, f"{_('no answer came')}\n".encode(), "text/plain; charset=utf-8"
     finally:
         connection.close()
 
@@ -115,7 +117,8 @@ def app(environ: dict[str, Any], start_response: Callable[..., Any]) -> Iterable
     if environ["PATH_INFO"] == SIGN_IN:
         start_response("303 See Other", [("Location", SIGNED_IN), ("Content-Length", "0")])
         return [b""]
-    status, body, kind = answer_to(environ)
+    with speaking(first_of(accepted(environ.get("HTTP_ACCEPT_LANGUAGE", "")))):
+        status, body, kind = answer_to(environ)
     reason = http.client.responses.get(status, "Unknown")
     start_response(f"{status} {reason}", [("Content-Type", kind), ("Content-Length", str(len(body)))])
     return [body]

@@ -1,16 +1,41 @@
-"""Times for people: in the zone of this machine, which is the office's, and with the zone's name.
+"""Times for people: in the zone of this machine, which is the office's, with the zone's name, and in the form of the language
+that is spoken.
 
 The journal has times with their zone, and the names of copies are times in UTC.
 """
 
 import datetime
+import re
+
+from languages import N_, _
 
 COPY = "%Y%m%dT%H%M%SZ"
+LOCAL = re.compile(r"(\d{4})-(\d\d)-(\d\d)[T ](\d\d):(\d\d)")
+FORMS = {"year": "%Y", "month": "%m", "day": "%d", "hour": "%H", "minute": "%M", "second": "%S", "zone": "%Z"}
+# Zones that have another name in some languages.
+ZONES = (N_("UTC"), N_("GMT"), N_("BST"), N_("WET"), N_("WEST"), N_("CET"), N_("CEST"), N_("EET"), N_("EEST"))
 
 
 def shown(moment: datetime.datetime) -> str:
-    """A moment."""
-    return f"{moment.astimezone():%Y-%m-%d %H:%M:%S %Z}"
+    """A moment, to the second."""
+    return _("{year}-{month}-{day} {hour}:{minute}:{second} {zone}", **parts_of(moment))
+
+
+def in_words(moment: datetime.datetime) -> str:
+    """A moment within a sentence: something is done on it."""
+    return _("{year}-{month}-{day} at {hour}:{minute}:{second} {zone}", **parts_of(moment))
+
+
+def to_the_minute(moment: datetime.datetime) -> str:
+    """A moment, to the minute."""
+    return _("{year}-{month}-{day} {hour}:{minute} {zone}", **parts_of(moment))
+
+
+def parts_of(moment: datetime.datetime) -> dict[str, str]:
+    """The parts of a time in the office's zone."""
+    here = moment.astimezone()
+    found = {name: f"{here:{form}}" for name, form in FORMS.items()}
+    return {**found, "zone": _(found["zone"])}
 
 
 def of_entry(at: object) -> str:
@@ -19,6 +44,24 @@ def of_entry(at: object) -> str:
         return shown(datetime.datetime.fromisoformat(str(at)))
     except ValueError:
         return str(at)
+
+
+def of_date(written: str, zone: str) -> str:
+    """A date that a clerk has set, as it was written, with its zone. What is no date stays as it is."""
+    found = LOCAL.match(written)
+    if not found:
+        return f"{written} ({zone})"
+    year, month, day, hour, minute = found.groups()
+    return _("{year}-{month}-{day}, {hour}:{minute} ({zone})", year=year, month=month, day=day, hour=hour, minute=minute, zone=zone)
+
+
+def of_day(written: str) -> str:
+    """A day alone. What is no day stays as it is."""
+    try:
+        day = datetime.date.fromisoformat(written)
+    except ValueError:
+        return written
+    return _("{year}-{month}-{day}", year=f"{day:%Y}", month=f"{day:%m}", day=f"{day:%d}")
 
 
 def moment_of(copy: str) -> datetime.datetime | None:

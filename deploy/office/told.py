@@ -14,12 +14,14 @@ import json
 import os
 import re
 import threading
-from collections.abc import Callable, Iterator
+import zlib
+from collections.abc import Callable, Iterable, Iterator
 from pathlib import Path
 from typing import Any
 
 from job import Job
 from journal import Journal
+from languages import N_, _, in_english
 from lines import name_shows_a_key
 from placing import to_disk
 from settings import Fault, unwritten
@@ -40,8 +42,13 @@ UNTIL = "until"    # the date until which lists are taken (dates.py)
 AMOUNT = "amount"  # the rent as a number, by which residents look for rooms
 LONGEST_NOTICE, LONGEST_CONTACT, LONGEST_CAPTION = 600, 200, 80
 MOST_ROOMS, MOST_PICTURES, MOST_OF_ROOM = 2_000, 2_000, 4
-CHANGED = "What residents read has changed since you opened the page. Nothing was changed: look again."
-KEY = "This text has a word that may be a key, and anybody can read it. Nothing was changed: take the word out."
+CHANGED = N_("What residents read has changed since you opened the page. Nothing was changed: look again.")
+KEY = N_("This text has a word that may be a key, and anybody can read it. Nothing was changed: take the word out.")
+
+
+def is_own(name: str) -> bool:
+    """Whether a file of this name is one of what residents read."""
+    return name == FILE or bool(PICTURE.fullmatch(name))
 
 
 def nothing() -> Value:
@@ -64,11 +71,11 @@ def marks_of(told: Value) -> dict[str, str]:
 def as_text(value: Any, what: str, longest: int) -> str:
     """A text of the office's, which may not be too long, and has no key."""
     if not isinstance(value, str):
-        raise Fault(f"not understood: {what} is no text")
+        raise Fault(f"not understood: {in_english(what)} is no text")
     if len(value) > longest:
-        raise Fault(f"{what} has more than {longest} signs. Nothing was changed: shorten it.")
+        raise Fault(_("{what} has more than {longest} signs. Nothing was changed: shorten it.", what=what, longest=longest))
     if name_shows_a_key(value):
-        raise Fault(KEY)
+        raise Fault(_(KEY))
     return value
 
 
@@ -76,7 +83,7 @@ def as_notice(value: Any) -> dict[str, str]:
     """The notice in each language in which there is one."""
     if not isinstance(value, dict) or not all(isinstance(name, str) and LANGUAGE.fullmatch(name) for name in value):
         raise Fault("not understood: the notice is no text by language")
-    texts = {name: as_text(text, "the notice", LONGEST_NOTICE) for name, text in value.items()}
+    texts = {name: as_text(text, _("the notice"), LONGEST_NOTICE) for name, text in value.items()}
     return {name: text for name, text in texts.items() if text}
 
 
@@ -94,7 +101,8 @@ def as_description(value: Any) -> dict[str, Any]:
     amount = value.get(AMOUNT, 0)
     if isinstance(amount, bool) or not isinstance(amount, (int, float)) or not 0 <= amount < 10_000_000:
         raise Fault("not understood: the rent is no amount")
-    texts = {name: as_text(value[name], f"the field {name}", longest) for name, longest in FIELDS.items() if name in value}
+    texts = {name: as_text(value[name], _("the field {name}", name=name), longest)
+             for name, longest in FIELDS.items() if name in value}
     return {**texts, **({AMOUNT: amount} if AMOUNT in value else {})}
 
 
@@ -119,9 +127,14 @@ def as_told(value: Any) -> Value:
     if not isinstance(pictures, dict) or not all(
             isinstance(found, list) and found and all(map(is_picture, found)) for found in pictures.values()):
         raise Fault("not understood: no pictures by room")
-    contact = as_text(value.get("contact", ""), "the contact", LONGEST_CONTACT)
+    contact = as_text(value.get("contact", ""), _("the contact"), LONGEST_CONTACT)
     return {**value, "notice": as_notice(value.get("notice", {})), "contact": contact,
             "rooms": as_rooms(value.get("rooms", {})), "pictures": {as_code(code): one for code, one in pictures.items()}}
+
+
+def files_in(told: Value) -> set[str]:
+    """The files of all pictures."""
+    return {picture["file"] for pictures in told["pictures"].values() for picture in pictures}
 
 
 def picture_of(body: str) -> bytes:
@@ -149,16 +162,16 @@ class Told:
             return nothing()
         try:
             return as_told(json.loads(gzip.decompress(packed)))
-        except (OSError, EOFError, ValueError, Fault) as fault:
-            raise Fault(f"what residents read of rooms is damaged. Call the administrator: {self.folder / FILE} is to be put "
-                        "back from a copy, or to be deleted. Nothing was changed.") from fault
+        except (OSError, EOFError, ValueError, RecursionError, zlib.error, Fault) as fault:
+            raise Fault(_("what residents read of rooms is damaged. Call the administrator: {path} is to be put back from a copy, "
+                          "or to be deleted. Nothing was changed.", path=self.folder / FILE)) from fault
 
     def write(self, told: Value) -> None:
         """Replaces the texts."""
         packed = gzip.compress(json.dumps(told, ensure_ascii=False, sort_keys=True).encode(), mtime=0)
         if len(packed) > LONGEST:
-            raise Fault(f"the descriptions are too long: packed they have {len(packed):,} bytes, and may have {LONGEST:,}. "
-                        "Nothing was changed: shorten the texts.")
+            raise Fault(_("the descriptions are too long: packed they have {bytes:,} bytes, and may have {most:,}. Nothing was "
+                          "changed: shorten the texts.", bytes=len(packed), most=LONGEST))
         self.put(FILE, packed)
 
     def put(self, name: str, data: bytes) -> None:
@@ -173,12 +186,12 @@ class Told:
             part.rename(self.folder / name)
             to_disk(self.folder)
         except FileNotFoundError as fault:
-            raise Fault(f"there is no folder {self.folder}. Nothing was changed: the administrator has to make it "
-                        "(deploy/README.md, \"By hand\").") from fault
+            raise Fault(_("there is no folder {folder}. Nothing was changed: the administrator has to make it (deploy/README.md, "
+                          "\"By hand\").", folder=self.folder)) from fault
         except OSError as fault:
             with contextlib.suppress(OSError):
                 part.unlink()
-            raise unwritten("what residents read", fault) from fault
+            raise unwritten(_("what residents read"), fault) from fault
 
     @contextlib.contextmanager
     def change(self, who: str, line: str, part: str = "", saw: str | None = None) -> Iterator[Value]:
@@ -186,18 +199,14 @@ class Told:
         `saw` nothing is changed if somebody else has changed this part since."""
         with self.lock:
             told = self.read()
+            had = files_in(told)
             if saw is not None and saw != marks_of(told)[part]:
-                raise Fault(CHANGED)
+                raise Fault(_(CHANGED))
             yield told
-            number = self.journal.begin(who, line)
-            try:
+            with self.journal.change(who, line):
                 self.write(told)
-            except Fault as fault:
-                self.journal.end(number, f"fault: {fault}", 3, 0)
-                raise
-            self.journal.end(number, "ok", 0, 0)
             with contextlib.suppress(OSError):
-                self.sweep(told)
+                self.sweep(files_in(told), had)
 
     def changed_at(self) -> int:
         """When the texts were last written, in nanoseconds; 0 if there are none."""
@@ -213,18 +222,20 @@ class Told:
                 return
             self.write({**{name: value for name, value in told.items() if name != UNTIL}, **({UNTIL: until} if until else {})})
 
-    def sweep(self, told: Value) -> None:
-        """Deletes the pictures that no room has."""
-        used = {picture["file"] for pictures in told["pictures"].values() for picture in pictures}
+    def sweep(self, used: set[str], had: Iterable[str] = ()) -> None:
+        """Deletes the pictures that no room has. If no room has one, nor had one before, the texts were taken away or are new, and
+        may be put back: then all pictures stay."""
+        if not used and not had:
+            return
         for one in self.folder.iterdir():
             if PICTURE.fullmatch(one.name) and one.name not in used:
                 one.unlink()
 
     def clear(self) -> None:
-        """Puts away what a killed keeper left."""
-        with contextlib.suppress(OSError, Fault):
+        """Puts away what a killed keeper left. Whatever is wrong there, the office goes on."""
+        with contextlib.suppress(Exception):
             (self.folder / PART).unlink(missing_ok=True)
-            self.sweep(self.read())
+            self.sweep(files_in(self.read()))
 
     # --- what can be asked
 
@@ -233,14 +244,14 @@ class Told:
         return {"told": self.show, "tell-words": self.tell_words, "tell-rooms": self.tell_rooms,
                 "add-picture": self.add_picture, "drop-picture": self.drop_picture}
 
-    def show(self, _: Job) -> Job:
+    def show(self, _job: Job) -> Job:
         """What residents read, and the marks of its parts."""
         told = self.read()
         return {"told": told, "marks": marks_of(told)}
 
     def tell_words(self, job: Job) -> Job:
         """The notice and the contact."""
-        notice, contact = as_notice(job["notice"]), as_text(job["contact"], "the contact", LONGEST_CONTACT)
+        notice, contact = as_notice(job["notice"]), as_text(job["contact"], _("the contact"), LONGEST_CONTACT)
         with self.change(job["who"], "notice and contact for residents", "words", job.get("saw")) as told:
             told.update(notice=notice, contact=contact)
         return {}
@@ -255,15 +266,17 @@ class Told:
     def add_picture(self, job: Job) -> Job:
         """One more picture of a room. The same picture a second time changes nothing."""
         room, data = as_code(job["room"]), picture_of(job["body"])
-        shows = as_text(job["shows"], "the text of a picture", LONGEST_CAPTION)
+        shows = as_text(job["shows"], _("the text of a picture"), LONGEST_CAPTION)
         name = hashlib.sha256(data).hexdigest()[:32] + ".jpg"
         with self.change(job["who"], f"a picture of {room}") as told:
             pictures = told["pictures"].setdefault(room, [])
             others = [one for one in pictures if one["file"] != name]
             if len(others) >= MOST_OF_ROOM:
-                raise Fault(f"{room} has {MOST_OF_ROOM} pictures already. Nothing was changed: take one of them away first.")
+                raise Fault(_("{room} has {most} pictures already. Nothing was changed: take one of them away first.",
+                              room=room, most=MOST_OF_ROOM))
             if sum(map(len, told["pictures"].values())) >= MOST_PICTURES:
-                raise Fault(f"there are {MOST_PICTURES:,} pictures already. Nothing was changed: take some away first.")
+                raise Fault(_("there are {most:,} pictures already. Nothing was changed: take some away first.",
+                              most=MOST_PICTURES))
             self.put(name, data)
             if len(others) < len(pictures):
                 next(one for one in pictures if one["file"] == name)["shows"] = shows
@@ -277,7 +290,7 @@ class Told:
         with self.change(job["who"], f"a picture of {room} taken away") as told:
             left = [one for one in told["pictures"].get(room, []) if one["file"] != name]
             if len(left) == len(told["pictures"].get(room, [])):
-                raise Fault(CHANGED)
+                raise Fault(_(CHANGED))
             told["pictures"][room] = left
             if not left:
                 del told["pictures"][room]

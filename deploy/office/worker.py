@@ -17,9 +17,10 @@ from pathlib import Path
 from typing import Any
 
 from copies import make_whole
+from languages import _, in_english, speaking, spoken
 from office import Office
 from program import Answer, is_refused
-from rows import View
+from rows import View, identifiers_in
 from seen import Saw, why_stale
 from settings import Fault
 
@@ -29,6 +30,7 @@ REFUSED = (1, 2)                       # statuses of a server that another start
 
 
 CarryOut = Callable[[Path], list[Answer]]
+Register = Callable[[set[str], set[str]], None]
 
 
 @dataclass
@@ -42,10 +44,14 @@ class Change:  # pylint: disable=too-many-instance-attributes  # what is asked f
     kind: str = ""                              # the kind of the copy that is kept before, or none
     why: str = ""
     damaged: bool = False                       # even if the office is damaged
+    register: Register | None = None            # is told who comes into the register and who goes, before they do
+    removed: frozenset[str] = frozenset()       # who goes by its lines, and may come again by a later one
     seen: str | None = None                     # the state in which its sender saw the round
     saw: Saw | None = None                      # what its sender saw of people
+    language: str = field(default_factory=spoken)  # of its sender
     copy: str | None = None                     # the name of the copy that was kept before
     answers: list[Answer] = field(default_factory=list)
+    gone: list[str] = field(default_factory=list)  # who is out of the register by it
     took: int = 0                               # milliseconds
     fault: str = ""
     wanted: threading.Lock = field(default_factory=threading.Lock)  # taken to make the change, or to give it up
@@ -110,7 +116,7 @@ class Worker:  # pylint: disable=too-many-instance-attributes  # the parts of th
             return change
         self.work.put(change)
         if not change.done.wait(self.settings.turn_seconds) and change.wanted.acquire(blocking=False):
-            raise Fault("other changes took too long. Nothing was changed: try again.")
+            raise Fault(_("other changes took too long. Nothing was changed: try again."))
         change.done.wait()
         if change.fault:
             raise Fault(change.fault)
@@ -145,7 +151,8 @@ class Worker:  # pylint: disable=too-many-instance-attributes  # the parts of th
         while not self.work.empty():
             left = self.work.get()
             if isinstance(left, Change):
-                left.end("the keeper is being ended. Nothing was changed: try again.")
+                with speaking(left.language):
+                    left.end(_("the keeper is being ended. Nothing was changed: try again."))
 
     def next_work(self) -> Change | Ended | None:
         """The next piece of work. Meanwhile a server is started again when its time has come."""
@@ -176,16 +183,17 @@ class Worker:  # pylint: disable=too-many-instance-attributes  # the parts of th
             return
         # Until it is made, its answers are those of the copy on which it was tried. If nobody knows what went wrong,
         # its sender must not get them.
-        change.fault = "the keeper failed at this line. Look whether it took effect."
-        try:
-            self.make(change)
-            change.fault = ""
-        except Fault as fault:
-            change.fault = str(fault)
-        except (OSError, sqlite3.Error) as fault:
-            change.fault = f"the disk or the memory did not serve ({fault}). Look whether this took effect."
-        finally:
-            change.done.set()
+        with speaking(change.language):
+            change.fault = _("the keeper failed at this line. Look whether it took effect.")
+            try:
+                self.make(change)
+                change.fault = ""
+            except Fault as fault:
+                change.fault = str(fault)
+            except (OSError, sqlite3.Error) as fault:
+                change.fault = _("the disk or the memory did not serve ({why}). Look whether this took effect.", why=fault)
+            finally:
+                change.done.set()
 
     def make(self, change: Change) -> None:
         """Makes a change, if the office is as its sender saw it, with the copy before it and the journal.
@@ -209,7 +217,7 @@ class Worker:  # pylint: disable=too-many-instance-attributes  # the parts of th
                     holding.close()
                     change.answers = change.carry_out(self.copies.file)
             except (Fault, OSError, sqlite3.Error) as fault:
-                self.journal.end(number, f"fault: {fault}", 3, self.since(began))
+                self.journal.end(number, f"fault: {in_english(fault)}", 3, self.since(began))
                 raise
         change.took = self.since(began)
         self.journal.end(number, change.answers[-1].text, change.answers[-1].status, change.took)
@@ -217,12 +225,17 @@ class Worker:  # pylint: disable=too-many-instance-attributes  # the parts of th
     def replaced(self, change: Change, held: int) -> list[Answer]:
         """Carries out a change on a copy, which then takes the office's place, if the program takes it as an office."""
         with self.copies.copied(still=True) as copy:
+            before = identifiers_in(copy) if change.register else set()
             answers = change.carry_out(copy)
             if is_refused(answers):
                 return answers
             looked = self.program.look(copy)
             if looked.status != 0 or not make_whole(copy):
-                raise Fault(f"the office that comes of this is none ({looked.text.strip()}). Nothing was changed.")
+                raise Fault(_("the office that comes of this is none ({said}). Nothing was changed.", said=looked.text.strip()))
+            if change.register:
+                after = identifiers_in(copy)
+                change.gone = sorted(before - after)
+                change.register(after - before | change.removed & after, before - after)
             self.place.put(copy, held)
             return answers
 

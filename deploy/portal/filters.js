@@ -7,7 +7,10 @@ import { text } from "./language.js";
 const byId = id => document.getElementById(id);
 const BY_NAME = new Intl.Collator(undefined, { numeric: true });
 
-const valuesOf = field => [...desk.told.rooms.values()].map(said => said[field]).filter(value => value || value === 0);
+// Of the rooms that there are, as far as the page knows which these are.
+const valuesOf = field => [...desk.told.rooms]
+  .filter(([code]) => desk.rooms.length === 0 || desk.rooms.some(({ room }) => room === code))
+  .map(([, said]) => said[field]).filter(value => value || value === 0);
 
 // A rent that was typed, such as 450, 450,50 or 1.200; nothing if it is none.
 export function amountOf(typed) {

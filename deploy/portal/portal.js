@@ -28,6 +28,7 @@ async function load(doubt = {}) {
   const rooms = mayEdit(person) ? inOrder(await call(desk.key, "GET", "/rooms", doubt)) : null;
   const taken = takeRecord(person, rooms);
   draw();
+  takeTold();
   return taken;
 }
 
@@ -346,8 +347,14 @@ async function describeRooms() {
   if (desk.me !== null && desk.descriptions.size > 0) draw();
 }
 
+// What the clerks say may change while the page is open. If nothing has changed, nothing is drawn anew.
+let toldBefore = "";
+
 async function takeTold() {
-  desk.told = readTold(await toldFile());
+  const found = await toldFile(), now = JSON.stringify(found);
+  if (now === toldBefore) return;
+  toldBefore = now;
+  desk.told = readTold(found);
   draw();
 }
 

@@ -7,18 +7,26 @@ those of deploy/README.md ("The certificate"), with the trial's ports and folder
 import contextlib
 import http.client
 import json
+import os
 import shlex
+import signal
 import socket
 import ssl
 import subprocess
 import sys
 from pathlib import Path
 
-from stand import DEPLOY, HOST, Stand, check, free_ports, unchecked
+from stand import DEPLOY, HOST, Stand, check, free_ports, unchecked, until
 
 CERTIFICATE = DEPLOY / "rooms-certificate"
 CHALLENGE = "/.well-known/acme-challenge/some-token"
 NOBODY = {"Host": HOST, "Room-Key": "0000000000000000"}
+# In the place of openssl: the making of a key takes a while.
+SLOW = """#!/bin/sh
+[ "$1" = req ] || exit 1
+touch "$TMPDIR/begun"
+sleep 1
+"""
 
 
 def plain(stand, path, method="GET"):
@@ -105,6 +113,11 @@ def try_command(stand):
         done = subprocess.run([CERTIFICATE, *words], env=stand.environment, capture_output=True, text=True, check=False)
         return done.returncode, done.stdout + done.stderr
 
+    before = target.read_bytes()
+    status, said = run("--for-now", HOST)
+    check("a certificate that still holds is not replaced by one for now",
+          status == 1 and "still holds" in said and target.read_bytes() == before, said)
+    target.unlink()
     status, said = run("--for-now", HOST)
     check("a certificate for now names the host", status == 0 and f"served for {HOST} until" in said, said)
     check("only root may read it", target.stat().st_mode & 0o777 == 0o600)
@@ -115,9 +128,48 @@ def try_command(stand):
         status, said = run(*words)
         check(f"{what} is refused", status == 1 and says in said and target.read_bytes() == before, said)
     check("and so are no words", run()[0] == 2 and target.read_bytes() == before)
-    status, said = run(own, key)
-    both = own.read_bytes() + key.read_bytes()
-    check("a certificate and its key come into one file", status == 0 and target.read_bytes() == both, said)
+    for what, text in (("", own.read_text()), (" without a line's end", own.read_text().rstrip())):
+        own.write_text(text, encoding="utf-8")
+        status, said = run(own, key)
+        both = own.read_bytes() + b"\n" + key.read_bytes()
+        check(f"a certificate{what} and its key come into one file", status == 0 and target.read_bytes() == both, said)
+        again(stand)
+        check("which HAProxy takes", served(stand, unchecked())[0] == "403")
+
+
+def try_signals(stand):
+    """A signal leaves no key behind."""
+    folder = stand.folder / "temporary"
+    folder.mkdir()
+    slow = stand.folder / "slow"
+    slow.mkdir()
+    (slow / "openssl").write_text(SLOW, encoding="utf-8")
+    (slow / "openssl").chmod(0o755)
+    for number in map(signal.Signals, (signal.SIGTERM, signal.SIGINT, signal.SIGHUP)):
+        environment = {**stand.environment, "TMPDIR": str(folder), "PATH": f"{slow}:{os.environ['PATH']}"}
+        # The shell beneath takes a signal that the trial itself may ignore.
+        words = ["env", f"--default-signal={number.name.removeprefix('SIG')}", CERTIFICATE, "--for-now", HOST]
+        with subprocess.Popen(words, env=environment, stderr=subprocess.DEVNULL) as process:
+            until((folder / "begun").exists, 30, "the making of a key")
+            process.send_signal(number)
+        (folder / "begun").unlink()
+        left = list(folder.iterdir())
+        check(f"after {number.name} nothing is left", process.returncode == 128 + number and not left, (process.returncode, left))
+
+
+def try_watch(stand):
+    """The guide's line for a monitor says if the certificate that is served ends within two weeks."""
+    line = in_readme("openssl s_client").replace("NAME:443", f"127.0.0.1:{stand.port}").replace("NAME", HOST)
+    for days, status in ((13, 1), (15, 0)):
+        subprocess.run(["openssl", "req", "-x509", "-key", stand.folder / "key.pem", "-days", str(days), "-subj", "/CN=x",
+                        "-addext", f"subjectAltName=DNS:{HOST}", "-out", stand.folder / "certificate.pem"], check=True)
+        subprocess.run([CERTIFICATE, stand.folder / "certificate.pem", stand.folder / "key.pem"], env=stand.environment, check=True,
+                       stdout=subprocess.DEVNULL)
+        again(stand)
+        told = subprocess.run(["sh", "-c", line], capture_output=True, text=True, check=False)
+        check(f"with a certificate for {days} days a monitor gets status {status}", told.returncode == status, told)
+    stand.end(stand.proxy)
+    check("and without HAProxy an alarm", subprocess.run(["sh", "-c", line], capture_output=True, check=False).returncode == 1)
 
 
 def try_names(stand):
@@ -179,6 +231,8 @@ def try_certificate(program):
         try_challenge(stand)
         try_names(stand)
         try_command(stand)
+        try_signals(stand)
+        try_watch(stand)
 
 
 def try_authority(program):

@@ -6,12 +6,14 @@ This run alone: /usr/bin/python3 deploy/trial/demo.py PROGRAM
 
 import base64
 import contextlib
+import gzip
 import http.client
 import io
 import json
 import os
 import re
 import runpy
+import shutil
 import signal
 import socket
 import subprocess
@@ -25,7 +27,7 @@ from typing import Any
 from unittest import mock
 from urllib.parse import urlencode
 
-from stand import DEPLOY, PYTHON, check, command_of, fail, until
+from stand import DEPLOY, PYTHON, check, command_of, fail, free_ports, until
 
 LAST_LINE = "Ctrl-C"
 SECONDS = 120  # on a busy machine
@@ -33,20 +35,36 @@ NOBODY = 65534
 PEOPLE, NEWCOMERS = 60, 11  # of the made-up college, as its guide says
 
 
+def for_nobody(program, holder):
+    """The command and the program, where an account without rights can read them: root's folders may be closed to it."""
+    holder.chmod(0o755)
+    command, program = DEPLOY / "rooms-demo", Path(program).resolve()
+    words = ["sh", "-c", 'test -r "$0" && test -x "$1"', str(command), str(program)]
+    if os.geteuid() != 0 or subprocess.run(words, check=False, user=NOBODY, group=NOBODY, extra_groups=[]).returncode == 0:
+        return command, program
+    shutil.copytree(DEPLOY, holder / "deploy", ignore=shutil.ignore_patterns("trial", "package", "__pycache__"))
+    subprocess.run(["chmod", "-R", "a+rX", holder / "deploy"], check=True)
+    shutil.copy(program, holder / "rooms")
+    return holder / "deploy/rooms-demo", holder / "rooms"
+
+
 class Demo:
     """A run of the command, with a folder of its own for temporary files."""
 
-    def __init__(self, program, account=None):
+    def __init__(self, program, **more):
         # pylint: disable=consider-using-with  # both end with this block
         self.holder = tempfile.TemporaryDirectory(prefix="rooms-trial-")
-        self.folder = Path(self.holder.name)
-        environment = {**os.environ, "ROOMS_PROGRAM": str(Path(program).resolve()), "TMPDIR": str(self.folder)}
-        other = {"user": account, "group": account, "extra_groups": []} if account is not None else {}
-        if account is not None:
-            os.chown(self.folder, account, account)
+        self.folder = Path(self.holder.name) / "temporary"
+        self.folder.mkdir()
+        command, program = for_nobody(program, Path(self.holder.name))
+        environment = {**os.environ, "ROOMS_PROGRAM": str(program), "TMPDIR": str(self.folder), **more}
+        other: dict[str, Any] = {}
+        if os.geteuid() == 0:
+            os.chown(self.folder, NOBODY, NOBODY)
+            other = {"user": NOBODY, "group": NOBODY, "extra_groups": []}
         self.began = time.monotonic()
         # A group of its own, as a shell gives it to what is typed: a key on the terminal reaches all of the group.
-        self.process: Any = subprocess.Popen([PYTHON, str(DEPLOY / "rooms-demo")], env=environment, start_new_session=True,
+        self.process: Any = subprocess.Popen([PYTHON, str(command)], env=environment, start_new_session=True,
                                              cwd="/", text=True, stdout=subprocess.PIPE, stderr=subprocess.STDOUT, **other)
         self.said = ""
 
@@ -88,7 +106,8 @@ class Demo:
             answer = connection.getresponse()
             if answer.status == 303:
                 return self.ask("GET", answer.headers["Location"], **fields)
-            return answer.status, answer.read().decode()
+            data = answer.read()
+            return answer.status, (gzip.decompress(data) if answer.headers["Content-Encoding"] == "gzip" else data).decode()
 
     def family(self):
         """The processes of it: each has an ancestor among them."""
@@ -193,27 +212,82 @@ def runs(program):
         look_at_residents(demo, sign_in)
         look_at_slip(demo, sign_in)
         demo.finish("Ctrl-C", 0, lambda: os.killpg(demo.process.pid, signal.SIGINT))
-    with Demo(program, NOBODY if can_be_nobody(program) else None) as demo:
+    with Demo(program) as demo:
         demo.wait_for_welcome()
         look_at_office(demo)
         demo.finish("SIGTERM", 0, demo.process.terminate)
 
 
-def can_be_nobody(program):
-    """Whether an account without rights can read what the command needs."""
-    if os.geteuid() != 0:
-        return False
-    wanted = [str(DEPLOY / "rooms-demo"), str(Path(program).resolve())]
-    words = ["sh", "-c", 'test -r "$0" && test -x "$1"', *wanted]
-    is_so = subprocess.run(words, check=False, user=NOBODY, group=NOBODY, extra_groups=[]).returncode == 0
-    if not is_so:
-        print("      another account cannot read this folder, so it is tried by root alone")
-    return is_so
-
-
 def has_begun(demo, name):
     """Whether a file of the start is there."""
     return any(demo.folder.glob(f"rooms-demo-*/{name}"))
+
+
+def beside_an_office(program):
+    """On a machine with an office, whose places the environment names here: it has nothing of that office, and changes none."""
+    with tempfile.TemporaryDirectory() as holder:
+        told, mail = Path(holder) / "told", Path(holder) / "mail.conf"
+        told.mkdir()
+        (told / "told.json.gz").write_bytes(b"the real office's")
+        (told / f"{'a' * 32}.jpg").write_bytes(b"a picture of it")
+        mail.write_text("[mail]\nfrom = Housing office <housing@college.example>\n", encoding="utf-8")
+        for one in (Path(holder), told, mail, *told.iterdir()):
+            one.chmod(0o777)
+        with Demo(program, ROOMS_TOLD=str(told), ROOMS_MAIL=str(mail), ROOMS_ACCOUNT_SOCKET=f"{holder}/keys.sock") as demo:
+            demo.wait_for_welcome()
+            sign_in = look_at_office(demo)
+            keeper = next(one for one in demo.family() if any("keeper.py" in word for word in command_of(one)))
+            words = dict(word.split("=", 1) for word in Path(f"/proc/{keeper}/environ").read_text("utf-8").split("\0") if word)
+            places = {name: words.get(f"ROOMS_{name}", "") for name in ("FILE", "TOLD", "MAIL", "SOCKET", "SCRATCH")}
+            check("each place of its keeper is in its folder", all(one.startswith(str(demo.folder)) for one in places.values())
+                  and "ROOMS_ACCOUNT_SOCKET" not in words, places)
+            check("it sends no mail", 'href="/office/mail"' not in demo.ask("GET", "/office/", **sign_in)[1])
+            write_notice(demo, sign_in)
+            demo.finish("SIGTERM", 0, demo.process.terminate)
+        left = sorted(one.read_bytes() for one in told.iterdir())
+        check("what residents of the office read is as it was", left == [b"a picture of it", b"the real office's"], left)
+
+
+def write_notice(demo, sign_in):
+    """A clerk writes a notice, which residents of the made-up college read."""
+    text = demo.ask("GET", "/office/told", **sign_in)[1]
+    form = next(one for one in text.split("<form")[1:] if 'name="notice-en"' in one)
+    path = re.findall(r'action="([^"]+)"', form)[0]
+    hidden = dict(re.findall(r'<input type="hidden" name="(\w+)" value="([^"]*)"', form))
+    fields = urlencode({**hidden, "notice-en": "Mind the paint", "contact": ""})
+    demo.ask("POST", path, fields, Content_Type="application/x-www-form-urlencoded", **sign_in)
+    status, text = demo.ask("GET", "/told/told.json")
+    check("a clerk's notice is read there", status == 200 and "Mind the paint" in text, (status, text[:300]))
+
+
+def refused_names(program):
+    """Root is refused, and so is a folder whose name HAProxy does not take; nothing is left."""
+    with tempfile.TemporaryDirectory() as holder:
+        environment = {**os.environ, "ROOMS_PROGRAM": str(Path(program).resolve()), "TMPDIR": holder}
+        if os.geteuid() == 0:
+            words = [PYTHON, str(DEPLOY / "rooms-demo")]
+            done = subprocess.run(words, env=environment, capture_output=True, text=True, check=False)
+            is_clean = not list(Path(holder).iterdir())
+            check("root is refused", done.returncode == 1 and "not by root" in done.stderr and is_clean, done)
+        spaced = Path(holder) / "a folder"
+        spaced.mkdir()
+        for one in (Path(holder), spaced):
+            one.chmod(0o777)
+        with Demo(program, TMPDIR=str(spaced)) as demo:
+            said = demo.process.communicate(timeout=SECONDS)[0]
+            check("a folder with a space is refused by name", demo.process.returncode == 1 and "TMPDIR" in said
+                  and "HAProxy takes no folder" in said and not list(spaced.iterdir()), said)
+
+
+def few_ports():
+    """Where the system gives nearly all ports to connections, ports are found too."""
+    for lowest in (2000, 1024, 32768):
+        with tempfile.NamedTemporaryFile("w") as held:
+            held.write(f"{lowest}\t65535\n")
+            held.flush()
+            with mock.patch("ports.RANGE", Path(held.name)):
+                found = free_ports(4)
+        check(f"four ports, where connections have those from {lowest} on", len(set(found)) == 4 and min(found) >= 1024, found)
 
 
 def ended_early(program):
@@ -280,8 +354,11 @@ def same_college():
 def try_demo(program):
     """All of it."""
     same_college()
+    few_ports()
     refusals()
+    refused_names(program)
     runs(program)
+    beside_an_office(program)
     ended_early(program)
     part_ends(program)
     killed(program)

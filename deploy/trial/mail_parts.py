@@ -4,12 +4,15 @@ Whatever a name or a text has in it, a message has one recipient, one subject, a
 record for two rounds.
 """
 
+import contextlib
 import email
 import email.policy
+import sqlite3
 import sys
 import tempfile
 from pathlib import Path
 from typing import Any
+from unittest import mock
 
 # The repository stays as it is.
 sys.dont_write_bytecode = True
@@ -19,10 +22,14 @@ from stand import OFFICE, check
 
 sys.path.append(str(OFFICE))
 
+import mail_why
+from languages import speaking
+from mail import Post
 from mail_book import BEGUN, SENT, Book, Run
 from mail_send import message_of
-from mail_settings import MailSettings
-from mail_words import KINDS, Text, faults_of, filled, is_address
+from mail_settings import MailSettings, settings_of
+from mail_words import ALL, KINDS, Text, faults_of, filled, is_address, texts_of
+from settings import Fault
 
 SETTINGS = MailSettings(25, "Zimmerbüro <office@college.example>", "", "bounces@college.example", 60, 30)
 TO = "t01@college.example"
@@ -35,6 +42,19 @@ BAD = ["", "a", "a@b", "@b.cd", "a@", "a@b..cd", "a@.cd", "a@-b.cd", ".a@b.cd", 
        "a@b.cd\n", "a@b@c.de", "a@b.cd,e@f.gh", "a@b.cd;e@f.gh", "<a@b.cd>", "Ann <a@b.cd>", "mailto:a@b.cd", "ä@b.cd", "a@ü.de",
        "=a@b.cd", "+a@b.cd", "-a@b.cd", "a@b.cd\r\nBcc: e@f.gh", "x" * 65 + "@b.cd", "a@" + "b." * 130 + "cd", "a@[127.0.0.1]",
        '"a b"@c.de']
+
+
+# The tables of a version without languages, with a text and a run.
+EARLIER = """
+CREATE TABLE text(kind TEXT PRIMARY KEY, subject TEXT NOT NULL, body TEXT NOT NULL);
+CREATE TABLE message(kind TEXT, round INTEGER, turn INTEGER, person TEXT, state TEXT NOT NULL, at TEXT NOT NULL, why TEXT NOT NULL,
+  PRIMARY KEY(kind, round, turn, person));
+CREATE TABLE run(one INTEGER PRIMARY KEY, kind TEXT NOT NULL, round INTEGER NOT NULL, turn INTEGER NOT NULL, subject TEXT NOT NULL,
+  body TEXT NOT NULL, link TEXT NOT NULL, who TEXT NOT NULL, state TEXT NOT NULL, why TEXT NOT NULL, at TEXT NOT NULL);
+INSERT INTO text VALUES ('reminder', 'Alt', 'Text von früher');
+INSERT INTO run VALUES (1, 'reminder', 1, 1, 'Alt', 'Text von früher', 'https://x/', 'anna', 'paused', '', '2027');
+INSERT INTO message VALUES ('reminder', 1, 1, 'T1', 'waiting', '2027', '');
+"""
 
 
 def try_messages():
@@ -63,10 +83,29 @@ def try_addresses():
         check(f"{one!r:.40} is no address", not is_address(one))
 
 
+def try_settings():
+    """The sender has to be one address in a field of a message, too; and a folder that is closed to the keeper is no fault."""
+    good = ("office@college.example", "Housing office <office@college.example>", "Zimmerbüro <office@college.example>",
+            '"Haus: Nord" <office@college.example>', "<office@college.example>")
+    for one in good:
+        check(f"{one} is a sender", settings_of({"from": one}).bounces_to == "office@college.example")
+    for one in ("Wohnheim: <office@college.example>", "Wohnheim: office@college.example;",
+                "a <office@college.example> b <x@y.example>"):
+        try:
+            found = str(settings_of({"from": one}))
+        except Fault as fault:
+            found = str(fault)
+        check(f"{one} is none", found == "from is no address", found)
+    post = Post.__new__(Post)
+    post.path = mock.Mock()
+    post.path.exists.side_effect = PermissionError
+    check("an office whose settings are in a folder that is closed to the keeper has no mail, and goes on", post.is_on() is False)
+
+
 def try_texts():
     """The texts that the page proposes have no fault, and others have."""
     for name, kind in KINDS.items():
-        check(f"the text of {name} has no fault", not faults_of(name, Text(kind.subject, kind.body)))
+        check(f"the text of {name} has no fault", not faults_of(name, kind.text))
     for text, said in ((Text("a", "{result}"), "{result}"), (Text("{}", "b"), "{}"), (Text("a", "{ name }"), "{name}"),
                        (Text("a", "{name"), "stands alone"), (Text("a}", "b"), "stands alone"),
                        (Text(" ", "b"), "a subject and a text"), (Text("a", "b" * 4001), "at most"),
@@ -82,13 +121,13 @@ def try_record():
         check("a file that is not there has nothing, and stays away", not book.addresses() and not book.end_begun()
               and not book.path.exists())
         for number in (1, 2, 3):
-            book.start(Run("reminder", number, 1, "a", "b", "https://x/", "anna", "running", "", "2027"), ["T1", "T2"])
+            book.start(Run("reminder", number, 1, "a", "b", "https://x/", "anna", "running", "", "2027"), {}, ["T1", "T2"])
             book.mark("T1", SENT)
             book.mark("T2", BEGUN)
             rounds = [row[1] for row in book.has("T1")["sent"]]
             wanted = [1, 2, 3][max(0, number - 2):number]
             check(f"in round {number} the file has this round and the one before", rounds == wanted, rounds)
-        check("what was begun and has no outcome is uncertain", book.end_begun() == 2
+        check("what was begun and has no outcome is uncertain", book.end_begun() == []
               and {state for _, _, state, _ in book.has("T2")["sent"]} == {"uncertain"}, book.has("T2"))
         book.set_addresses({"T1": TO, "T2": TO})
         book.erase(["T2"])
@@ -96,10 +135,46 @@ def try_record():
               and len(book.has("T1")["sent"]) == 2 and book.addresses() == {"T1": TO})
 
 
+def try_earlier():
+    """A file that an earlier version wrote: one text of a kind for everybody, and a run that was begun with one."""
+    with tempfile.TemporaryDirectory() as folder:
+        book = Book(Path(folder) / "mail.db")
+        with contextlib.closing(sqlite3.connect(book.path)) as database:
+            database.executescript(EARLIER)
+        texts = texts_of("reminder", book.texts("reminder"), "en")
+        check("one text of before counts in each language", set(texts.each.values()) == {Text("Alt", "Text von früher")}
+              and texts.own == {ALL} and {"en", "de"} <= set(texts.each), texts)
+        other = texts_of("invitation", book.texts("invitation"), "de")
+        check("another kind has the texts of the program", other.each["de"] != other.each["en"] and not other.own, other)
+        book.set_text("reminder", "de", Text("Neu", "n"))
+        texts = texts_of("reminder", book.texts("reminder"), "en")
+        subjects = (texts.each["de"].subject, texts.each["en"].subject)
+        check("until a clerk writes one in a language", subjects == ("Neu", "Alt"), texts)
+        check("a language without a text has that of the office", {texts.language_for("xx"), texts.language_for("")} == {"en"})
+        run = book.run()
+        check("a run that was begun before has its one text", run and run.text == Text("Alt", "Text von früher")
+              and book.run_texts() == {} and book.waiting() == "T1")
+
+
+def try_why():
+    """What the file keeps in English is read in the language that is spoken, also what is within it."""
+    for kept, english, german in (
+            (mail_why.kept(mail_why.RESTARTED), "the keeper was started again", "Der Dienst wurde neu gestartet"),
+            (mail_why.kept(mail_why.AWAY, why="it answers 452 full"), "the mail server takes no mail: it answers 452 full",
+             "Der Mailserver nimmt keine Mails an: er antwortet 452 full")):
+        check(f"the file keeps: {english}", kept == english and mail_why.said(kept) == english)
+        with speaking("de"):
+            check(f"and a clerk reads: {german}", mail_why.said(kept) == german, mail_why.said(kept))
+            check("a server's own words stay as they are", mail_why.said("550 no such mailbox") == "550 no such mailbox")
+
+
 def try_mail_parts():
     """All of it."""
     try_record()
+    try_earlier()
+    try_why()
     try_addresses()
+    try_settings()
     try_texts()
     try_messages()
 

@@ -6,18 +6,24 @@ is killed. Nothing is lost, and what is uncertain is named.
 
 import contextlib
 import re
+import shutil
 import sys
+import tempfile
 import time
 from pathlib import Path
 
 # The repository stays as it is.
 sys.dont_write_bytecode = True
 
-# pylint: disable=wrong-import-position  # nothing may be written before
+# pylint: disable=wrong-import-position,wrong-import-order  # nothing may be written before
 from mail_server import MailServer
 from office_mail import FORM, NAME, PEOPLE, SENDER, kind_of, logs_of, mail_of, once_more, press, rest, settle_mail
 from office_requests import Page, hand_in
-from stand import HOST, Stand, check, key_of, until
+from stand import HOST, OFFICE, Stand, check, key_of, until
+
+sys.path.append(str(OFFICE))
+
+from mail_book import Book
 
 
 def try_invitation(stand, page, server):
@@ -121,6 +127,27 @@ def try_bad_days(stand, page, server):
     check("a further press goes to these two", server.went() == ["new.t03@college.example", mail_of("T05")], server.went())
 
 
+def try_words_of_server(stand, page, server):
+    """What the mail server says may have an address, which goes with its person."""
+    once_more(page, "invitation")
+    server.forget()
+    server.leaving = {mail_of("T01")}
+    press(page, "invitation")
+    run, shown = rest(stand), page.get(FORM)[2]
+    check("the page says what the mail server answered", run["state"] == "paused" and mail_of("T01") in run["why"]
+          and "421 4.3.2" in shown, run)
+    with tempfile.TemporaryDirectory() as folder:
+        book = Book(Path(shutil.copy(stand.data / "mail.db", folder)))
+        check("this trial finds the answer", b"421 4.3.2" in book.path.read_bytes())
+        book.erase(["T01"])
+        data = book.path.read_bytes()
+        check("but it stands with the message, and is erased with its person", mail_of("T01").encode() not in data
+              and b"421 4.3.2" not in data, book.run())
+    server.leaving = set()
+    page.form(f"{FORM}/run", {"act": "go-on"}, page=FORM)
+    check("and it goes on", rest(stand)["state"] == "ended" and mail_of("T01") in server.went(), server.went())
+
+
 def try_all_refused(stand, page, server):
     """If one after the other is refused, that is no fault of addresses."""
     once_more(page, "invitation")
@@ -189,6 +216,29 @@ def try_ended(stand, page, server):
         check("each of the others gets it once", len(server.got) == 13 == len(set(server.went())), server.went())
 
 
+def try_other_texts(stand, page, server):
+    """A run keeps to the texts with which it began, though they are written anew before it goes on after a restart."""
+    stand.ask(ask="set-languages", languages={"T05": "de", "T06": "de"})
+    once_more(page, "invitation")
+    before = kind_of(stand, "invitation")["texts"]["de"][0]
+    server.forget()
+    server.slow = 4
+    press(page, "invitation")
+    until(lambda: server.got, 20, "a message")
+    stand.kill_keeper()
+    server.slow = 0
+    stand.start()
+    for language in ("en", "de"):
+        stand.ask(ask="mail-text", kind="invitation", language=language, subject=f"Another one in {language}", body="x")
+    stand.ask(ask="set-languages", languages={"T06": ""})
+    page.form(f"{FORM}/run", {"act": "go-on"}, page=FORM)
+    rest(stand)
+    got = {recipients[0]: message["Subject"] for _, _, recipients, message in server.got}
+    wanted = {"T04": "Räume für Person T04", "T05": before, "T06": "Räume für Person T06"}
+    found = {one: got.get(mail_of(one)) for one in wanted}
+    check("the others get the texts of before, each in the language of now", found == wanted, (found, wanted))
+
+
 def exists(path):
     """Whether a process is still there."""
     with contextlib.suppress(OSError):
@@ -208,9 +258,10 @@ def try_mail_runs(program):
         stand.ask(ask="correct", person="T02", name=NAME)
         stand.ask(ask="mail-addresses", addresses={one: mail_of(one) for one in PEOPLE})
         stand.office("open")
-        stand.ask(ask="mail-text", kind="invitation", subject="Räume für {name}",
+        stand.ask(ask="mail-text", kind="invitation", language="en", subject="Räume für {name}",
                   body="Dear {name} ({person}), room {room}, round {round}:\n{link}\n\n.\nŽ\n")
-        for part in (try_invitation, try_reminder, try_bad_days, try_all_refused, try_cut, try_ended):
+        for part in (try_invitation, try_reminder, try_bad_days, try_words_of_server, try_all_refused, try_cut, try_ended,
+                     try_other_texts):
             part(stand, page, server)
         check("no address, name or key is in a log or in the journal", not logs_of(stand), logs_of(stand))
 

@@ -18,7 +18,7 @@ class MailServer:  # pylint: disable=too-many-instance-attributes  # each is a w
     def __init__(self):
         self.port = free_ports(1)[0]
         self.got = []
-        self.refused, self.not_now = set(), set()  # addresses
+        self.refused, self.not_now, self.leaving = set(), set(), set()  # addresses; at the last it goes away
         self.slow = 0.0                            # seconds before it answers to a message
         self.cut = ""                              # `before` or `after` it has kept the message
         self.full = False                          # it takes nothing from anybody
@@ -61,6 +61,8 @@ class MailServer:  # pylint: disable=too-many-instance-attributes  # each is a w
         """A recipient."""
         if address in self.refused:
             return f"550 5.1.1 <{address}>: no such mailbox"
+        if address in self.leaving:
+            return f"421 4.3.2 <{address}>: try again later"
         if address in self.not_now:
             return f"450 4.2.0 <{address}>: not now"
         envelope.rcpt_tos.append(address)

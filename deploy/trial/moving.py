@@ -5,6 +5,7 @@ It needs root and a machine without the units. This run alone, also over standin
 deploy/trial/moving.py PROGRAM
 """
 
+import base64
 import contextlib
 import json
 import os
@@ -23,11 +24,16 @@ FILES = {
     "etc/rooms/portal/index.html": ("<p id=\"notice\">Until 31 May</p>\n", 0o644),
     "etc/rooms/portal/texts.js": ("export const texts = {};\n", 0o644),
     "etc/rooms/portal/rooms.csv": ("room,house\nOLD,North\n", 0o644),
+    "etc/rooms/languages/fr.po": ('msgid ""\nmsgstr ""\n', 0o644),
     "etc/systemd/system/rooms-keeper.service.d/port.conf": ("[Service]\nEnvironment=ROOMS_PORT=291\n", 0o644),
     "etc/rsyslog.d/48-rooms.conf": ("stop\n", 0o644),
 }
 ASIDE = "etc/rooms/portal/texts.js.dpkg-dist"
+PICTURE = "0123456789abcdef0123456789abcdef.jpg"
 OWN = "var/backups/rooms"
+OF_PEOPLE = ("accounts", "mail.db")
+PAST = {"at": "2026-01-01T12:00:00+00:00", "local": "2026-01-01T12:00", "zone": "UTC", "round": 1, "closes": True, "who": "anna"}
+BESIDE = {**{name: f"{name} of the backup\n" for name in OF_PEOPLE}, "until": json.dumps(PAST)}
 RUN = [PYTHON, str(DEPLOY / "rooms-backup")]
 
 
@@ -74,12 +80,17 @@ def made_backup(stand, folder):
     (stand.data / "link").symlink_to(secret)
     check("a seed is noted", stand.ask(ask="note", line=f"seed {SEED} 50 throws of a die") == {})
     stand.ask(ask="days", days=123)
+    check("a clerk chooses a language", stand.ask(ask="language", who="anna", language="de") == {"language": "de"})
+    tell_residents(stand)
+    keep_beside(stand, BESIDE)
     told = back_up(stand)
     check("rooms-backup makes a backup while the keeper runs", told[0] == 0 and not told[2], told)
     made = Path(told[1].strip())
     check("in the machine's own folder", made.parent == folder / OWN, made)
     names = {str(one.relative_to(made)) for one in made.rglob("*") if one.is_file()}
-    wanted = {"rooms.db", "why", "about.json", "SHA256SUMS", "state/journal", "state/backups/days", "files/etc/haproxy/rooms.pem",
+    wanted = {"rooms.db", "why", "about.json", "SHA256SUMS", "state/journal", "state/languages", "state/backups/days",
+              "files/etc/haproxy/rooms.pem", *(f"state/{name}" for name in BESIDE), "told/told.json.gz",
+              *(f"told/{name}" for name in pictures_of(stand)),
               *(f"files/{name}" for name in FILES)}
     check("it has all that a new machine needs, and nothing else", names == wanted, names ^ wanted)
     modes = {oct(one.lstat().st_mode & 0o7777) for one in (made, *made.rglob("*")) if one.is_dir()}, {
@@ -90,6 +101,27 @@ def made_backup(stand, folder):
     check("the office is in it", rooms_of(made / "rooms.db") == {"OLD"})
     (stand.data / "link").unlink()
     return made
+
+
+def tell_residents(stand):
+    """What residents read of rooms: a text and a picture, and beside it what a keeper left that was killed."""
+    stand.ask(ask="tell-words", notice={"en": "Lists until May"}, contact="room 1")
+    picture = base64.b64encode(b"\xff\xd8\xff a picture").decode()
+    added = stand.ask(ask="add-picture", room="OLD", body=picture, shows="the room")
+    check("residents read a notice, and see a picture", added.get("file") in pictures_of(stand), added)
+    (stand.folder / "told" / ".part").write_bytes(b"left")
+    (stand.folder / "told" / PICTURE).symlink_to("/etc/passwd")
+
+
+def keep_beside(stand, files):
+    """What the keeper has of people beside the office's file, a date that is past, and what rooms-restore has put aside."""
+    for name, text in {**files, "mail.db.before-20270101T000000Z": "aside\n"}.items():
+        (stand.data / name).write_text(text, encoding="utf-8")
+
+
+def pictures_of(stand):
+    """The pictures that residents see."""
+    return [one.name for one in (stand.folder / "told").glob("*.jpg") if not one.is_symlink()]
 
 
 def by_another(stand, *words):
@@ -130,8 +162,8 @@ def nightly(stand, folder):
     left = [one.name for one in (folder / OWN).iterdir()]
     check("seven backups stay", len(left) == 7 and not any(name.startswith(".") for name in left), left)
     (stand.data / "backups" / "days").write_text("0\n", encoding="ascii")
-    back_up(stand, "--kept")
-    check("none stays for more days than a copy may", len(list((folder / OWN).iterdir())) == 0)
+    told, left = back_up(stand, "--kept"), list((folder / OWN).iterdir())
+    check("none but the new one stays for more days than a copy may", left == [Path(told[1].strip())], (told, left))
     (stand.data / "backups" / "days").write_text("123\n", encoding="ascii")
 
 
@@ -214,8 +246,22 @@ def moved(new, made, folder):
     for left in ("HAProxy does not take /etc/haproxy/haproxy.cfg: [ALERT]", f"until {until_when}",
                  "rooms.example.org has to lead", "restart haproxy", "passwords"):
         check(f"what is left to do by hand names: {left}", left in said.partition("left to do by hand")[2], said)
+    left = said.partition("left to do by hand")[2]
+    check("what the keeper has of people is there", [(new.data / name).read_text("utf-8") for name in OF_PEOPLE]
+          == [BESIDE[name] for name in OF_PEOPLE])
+    check("and it says what an older one lacks", all(f"{name} is as it was when the backup was made" in left for name in OF_PEOPLE)
+          and "a second time" in left, left)
+    check("no date is brought, and it says so", not (new.data / "until").exists() and "2026-01-01 12:00 (UTC)" in left, left)
+    forget_mail(new)
+    folder = new.folder / "told"
+    modes = {oct(one.stat().st_mode & 0o777) for one in folder.iterdir()}
+    check("what residents read is there, and everybody may read it", modes == {"0o644"} and len(list(folder.iterdir())) == 2, modes)
+    check("and it says so", f"in place: 1 pictures of rooms in {folder}" in said and "told.json.gz" in said, said)
     new.start()
+    shown = new.ask(ask="told")["told"]
+    check("it is the same", (shown["notice"], len(shown["pictures"]["OLD"])) == ({"en": "Lists until May"}, 1), shown)
     check("the office is there", {row[0] for row in new.ask(ask="view")["rooms"]} == {"OLD"})
+    check("the clerk reads the language of before", new.ask(ask="language", who="anna") == {"language": "de"})
     check("copies stay for as many days as before", new.ask(ask="backups")["days"] == 123)
     notes = [entry for entry in new.ask(ask="journal", last=50)["journal"] if SEED in str(entry.get("note", ""))]
     check("the journal has the seed", len(notes) == 1, notes)
@@ -223,17 +269,35 @@ def moved(new, made, folder):
     new.stop_keeper()
 
 
+def forget_mail(new):
+    """Takes away what is no such file: this trial's stand for them would be damaged ones to a keeper."""
+    for name in OF_PEOPLE:
+        (new.data / name).unlink()
+
+
 def once_more(new, made, folder):
-    """On a machine that has gone on, the journal that goes on is not lost, and what is the same is left."""
+    """On a machine that has gone on, the journal that goes on is not lost, and what is the same is left. What the keeper has of
+    people by now stays, alone, and a date that is there is forgotten."""
+    here = {name: f"{name} of this machine\n" for name in OF_PEOPLE}
+    keep_beside(new, {**here, "until": BESIDE["until"]})
+    (new.data / "mail.db.before-20270101T000000Z").unlink()
     status, said, beside = restore(new, "--with", "all", made)
     check("a second time", status == 0 and not beside, (status, said, beside))
+    found = {name: (new.data / name).read_text("utf-8") for name in OF_PEOPLE}
+    check("what there is of people stays, and it says so", found == here
+          and said.count("is another one here") == len(here) and "a second time" not in said, said)
+    check("without a second name, which would have whoever was erased", not list(new.data.glob("*.before-*")),
+          list(new.data.iterdir()))
+    check("and the date is forgotten, and named", not (new.data / "until").exists()
+          and said.count("2026-01-01 12:00 (UTC)") == 2, said)
+    forget_mail(new)
     journal = (new.data / "journal").read_text(encoding="utf-8")
     check("the journal that went on stays", "after the move" in journal and journal.count(f"seed {SEED}") == 1, journal)
     backs = [entry for entry in map(json.loads, journal.splitlines()) if str(entry.get("line", "")).startswith("back ")]
     copy = json.loads((made / "about.json").read_text(encoding="utf-8"))["copy"]
     check("it names both ways back", [entry["line"] for entry in backs] == 2 * [f"back {copy}"], backs)
     again = [one for one in folder.rglob("*.before-*") if "texts.js" not in one.name]
-    check("what is the same has no second name", not again and said.count("as it was: ") == len(FILES) + 3, (said, again))
+    check("what is the same has no second name", not again and said.count("as it was: ") == len(FILES) + 5, (said, again))
 
 
 def other_journal(new, made):

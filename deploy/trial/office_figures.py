@@ -214,6 +214,9 @@ def try_small_groups():
     check("a table that gives small groups away is left out", list(coarse(tables([4, 4, 4, 4, 4]))) == ["all"])
     # A total of 19 is shown as 15: then each group may be 3 or 4, or fewer.
     check("and no other", list(coarse(tables([4, 4, 4, 4, 3]))) == ["all", "grades"])
+    # Results that contradict each other, as after somebody wrote into the file: of 60 people with a result 25 got a room at all.
+    wrong = {"all": {"all": {"people": 60, "wishing": 60, "first": 5, "later": 5, "keep": 5, "none": 5}}}
+    check("a table that contradicts itself is left out, and soon", not coarse(wrong))
     shown = coarse(tables([4, 4, 4, 4, 3]))["all"]["all"]
     check("a total is rounded, too", shown == {"wishing": 0, "people": 65, "first": 0, "later": 0, "keep": 50, "none": 15}, shown)
 

@@ -147,7 +147,8 @@ def try_address_list(stand, page):
     kept = stand.ask(ask="mail-list")["addresses"]
     check("then it is in", kept == {one: mail_of(one) for one in PEOPLE[:11]}, kept)
     exported = page.get(f"{FORM}/addresses.csv")[2]
-    check("all can be downloaded", dict(csv.reader(io.StringIO(exported))) == {"person": "email", **kept}, exported)
+    wanted = [["person", "email", "language"], *([one, text, ""] for one, text in kept.items())]
+    check("all can be downloaded", list(csv.reader(io.StringIO(exported))) == wanted, exported)
     shown = send_file(page, exported.encode())[1]
     same = "11 stay as they are" in shown and "Bring the addresses in" not in shown
     check("and change nothing if they come in again", same, shown)
@@ -174,21 +175,62 @@ def try_one_address(stand, page):
 
 def try_texts(stand, page):
     """A clerk writes a text, and sees one message."""
-    place, old = f"{FORM}/invitation", kind_of(stand, "invitation")["text"]
-    shown = page.form(place, {"subject": "For {nmae}", "body": "Dear {name}, {result} {link", "person": "T02"}, page=place)[2]
+    place, old = f"{FORM}/invitation", kind_of(stand, "invitation")["texts"]
+    shown = page.form(place, {"language": "en", "subject": "For {nmae}", "body": "Dear {name}, {result} {link", "person": "T02"},
+                      page=place)[2]
     said = ("There is no placeholder {nmae}", "There is no placeholder {result}", "A brace { or } stands alone", "For {nmae}")
     check("a placeholder that is none is refused by name", all(one in shown for one in said), shown)
-    check("and the text stays what it was", kind_of(stand, "invitation")["text"] == old)
+    check("and the text stays what it was", kind_of(stand, "invitation")["texts"] == old)
     body = "Dear {name} ({person}), room {room}, round {round}:\r\n{link}\r\n\r\n.\r\nŽ\r\n"
-    text = {"subject": "Räume für {name}", "body": body}
+    text = {"language": "en", "subject": "Räume für {name}", "body": body}
     fields = page.form(place, {**text, "person": "t02"}, page=place)[1]
-    check("a good text leads to the message", fields.get("location") == f"{place}/to/T02", fields)
+    check("a good text leads to the message", fields.get("location") == f"{place}/in/en/to/T02", fields)
     shown = page.get(fields["location"])[2]
     parts = (f"Dear {NAME} (T02), room none, round 1:\nhttps://{HOST}/", f"Räume für {NAME}", mail_of("T02"))
     check("which is shown as that person gets it", all(one in shown for one in parts), shown)
     for subject in ("a\r\nBcc: eve@college.example", "a\nb", "a\0b", ""):
-        answer = stand.ask(ask="mail-text", kind="invitation", subject=subject, body="x")
+        answer = stand.ask(ask="mail-text", kind="invitation", language="en", subject=subject, body="x")
         check(f"the keeper takes no subject {subject!r}", "fault" in answer, answer)
+
+
+def try_languages(stand, page):
+    """Each person gets the text of their language, or of the office's."""
+    stand.ask(ask="set-languages", languages={"T02": "de", "T03": "de"})
+    place, kind = f"{FORM}/invitation", kind_of(stand, "invitation")
+    check("German has a text without a clerk", kind["texts"]["de"][0].startswith("Zimmertausch: Geben Sie"), kind["texts"])
+    check("the office says how many get which", kind["gets"] == {"en": 10, "de": 2}, kind["gets"])
+    text = {"language": "de", "subject": "Für {name}", "body": "Guten Tag {name}, Zimmer: {room}.\n"}
+    fields = page.form(place, {**text, "person": "T03"}, page=f"{place}/in/de")[1]
+    check("a clerk writes another one", fields.get("location") == f"{place}/in/de/to/T03", fields)
+    check("and the English one stays", kind_of(stand, "invitation")["texts"]["en"] == kind["texts"]["en"])
+    shown = page.get(f"{place}/in/de/to/T03")[2]
+    check("a message is shown in the language that is written", "Guten Tag Person T03, Zimmer: kein Zimmer." in shown, shown)
+    shown = page.get(f"{place}/in/en/to/T03")[2]
+    check("the page says if a person gets another one", "another language: Deutsch" in " ".join(shown.split()), shown)
+    shown = page.get(f"{place}/send")[2]
+    said = ("10 people get the text in English: “Räume für {name}”.", "2 people get the text in Deutsch: “Für {name}”.")
+    check("and the question how many get which", all(one in shown for one in said), shown)
+    old = page.hidden(f"{place}/send", f"{place}/send")
+    stand.ask(ask="mail-text", kind="invitation", language="de", subject="Andere", body="x")
+    page.post(f"{place}/send", old)
+    check("a text that was changed since is not sent", stand.ask(ask="mail")["run"] is None
+          and "Nothing was sent: look again" in page.get(place)[2])
+    stand.ask(ask="set-languages", office="de")
+    check("who has said nothing gets the office's language", kind_of(stand, "invitation")["gets"] == {"de": 12})
+    stand.ask(ask="set-languages", office="en")
+
+
+def try_language_list(stand, page):
+    """Languages come in with a list of addresses."""
+    rows = f"T09,{mail_of('T09')},Deutsch\nT10,{mail_of('T10')},\nT11,,de\nT12,{mail_of('T12')},xx\n"
+    place, shown = send_file(page, f"person,email,language\n{rows}".encode())
+    said = ("0 people get an address, and 0 get another one", "2 people get another language", "There is no such language here")
+    check("a column of languages is understood", all(one in " ".join(shown.split()) for one in said), shown)
+    page.form(f"{FORM}/addresses/bring", {"held": place.rpartition("/")[2]}, page=place)
+    spoken = stand.ask(ask="languages")["residents"]
+    check("and then they are in", (spoken.get("T09"), spoken.get("T11"), "T10" in spoken) == ("de", "de", False), spoken)
+    exported = page.get(f"{FORM}/addresses.csv")[2]
+    check("they are in the list that can be downloaded", f"T09,{mail_of('T09')},de\n" in exported, exported)
 
 
 def try_results(stand, page, server):
@@ -207,7 +249,7 @@ def try_results(stand, page, server):
     press(page, "results")
     rest(stand)
     got = {recipients[0]: message.get_content() for _, _, recipients, message in server.got}
-    for person, said in (("T01", "Your new room is A-3."), ("T02", "Your new room is A-2."),
+    for person, said in (("T01", "Your new room is A-3."), ("T02", "Ihr neues Zimmer ist A-2."),
                          ("T04", "You get no room in this round.")):
         check(f"{person} reads: {said}", said in got[mail_of(person)], got)
     server.forget()
@@ -215,7 +257,7 @@ def try_results(stand, page, server):
     rest(stand)
     got = {recipients[0]: message.get_content() for _, _, recipients, message in server.got}
     for person, said in (("T01", "You move from A-2 to A-3, as one of the first."),
-                         ("T02", "You move from A-1 to A-2, in wave 2: once the people of wave 1 have moved.")):
+                         ("T02", "Sie ziehen von A-1 nach A-2 um, in Welle 2: sobald die Personen aus Welle 1 umgezogen sind.")):
         check(f"{person}, who moves, reads when", said in got[mail_of(person)] and len(got) == 2, got)
     once_more(page, "results")
     right = dict(stand.ask(ask="view")["results"])
@@ -255,11 +297,18 @@ def try_strangers(stand, page):
     copy = stand.ask(ask="backup")["name"]
     page.form("/office/person", {"ident": "T80", "name": "Late Comer"}, page="/office/register")
     stand.ask(ask="mail-addresses", addresses={"T80": mail_of("T80")})
+    stand.ask(ask="set-accounts", rule="list", list="person,account\nT80,late-account\n")
     stand.ask(ask="back", name=copy)
     shown = page.get(FORM)[2]
     check("the page names them", "not in the register: T80" in " ".join(shown.split()), shown)
     page.form(f"{FORM}/strangers", page=FORM)
     check("and erases them", not holds(stand, "mail.db*", mail_of("T80")) and stand.ask(ask="mail")["strangers"] == [])
+    shown = page.get("/office/about/T80")[2]
+    check("all about somebody who is not in the register has the account", "late-account" in shown, shown)
+    check("and offers to forget them", "/office/forget/T80" in shown, shown)
+    page.form("/office/forget/T80", page="/office/forget/T80")
+    shown = page.get("/office/about/T80")[2]
+    check("then nothing is left", "late-account" not in shown and "/office/forget/T80" not in shown, shown)
 
 
 def try_damaged(stand, page):
@@ -298,6 +347,8 @@ def try_office_mail(program):
         try_one_address(stand, page)
         page.form("/office/step/open", page="/office/step/open")
         try_texts(stand, page)
+        try_languages(stand, page)
+        try_language_list(stand, page)
         stand.office("cancel")
         try_results(stand, page, server)
         try_gone(stand, page)

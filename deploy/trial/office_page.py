@@ -235,7 +235,7 @@ def publish_and_print(clerk, stand, page, college, results):
     clerk.put("closing", CLOSING)
     clerk.press("Put this text into the letters")
     letters = page.form("/office/letters", {"closing": CLOSING}, page="/office/copies")[2].split(
-        '<section class="sheet">'
+        '<section class="sheet"'
     )[1:]
     check("292 letters with the clerk's text", len(letters) == 292 and all(CLOSING in letter for letter in letters))
     check(

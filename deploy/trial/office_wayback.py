@@ -153,7 +153,8 @@ def try_long_way(stand, page):
     check("the next round is open, without anything", stand.ask(ask="view")["number"] == number + 1
           and away(stand) == (set(), set()) and not stand.recorded())
     check("the next step is to bring back", "Step 3 of 3" in seen_at(page, path))
-    left = "Who leaves the college (P01, P02); who has withdrawn (P03, P10); lists (P04, P09, P11)"
+    left = "Were to leave the college, and take part now (P01, P02); had withdrawn, and take part now (P03, P10); "\
+           "lists that are not back (P04, P09, P11)"
     check("the overview names who is not back", left in seen_at(page, "/office/"), seen_at(page, "/office/"))
     check("and so does the question before closing", f"w{left[1:]}" in seen_at(page, "/office/step/close"))
     bring_back(stand, page, path)
@@ -184,7 +185,7 @@ def bring_back(stand, page, path):
     check("with their lists, also that of P01, and newer lists stay", stand.recorded() == lists, stand.recorded())
     said = "Back in this round: who leaves the college: 1 of 1, withdrawals: 1 of 1, lists: 3 of 3"
     check("the page says what came in", said in shown and "It is undone" in shown, shown)
-    check("the overview has nothing more to say", "Not back yet" not in seen_at(page, "/office/"))
+    check("the overview has nothing more to say", "which was given up" not in seen_at(page, "/office/"))
     check("there is nothing to undo any more", "There is nothing to undo" in undo_of(page, "P04"))
 
 
@@ -328,6 +329,16 @@ def fill(stand):
         database.commit()
 
 
+def try_given_up_twice(stand, page):
+    """A round is given up, and the next one too, before anything came back."""
+    for line in ("open", "choose P04 A-103", "withdraw P12", "cancel", "open", "cancel", "open"):
+        stand.office(line)
+    shown, asked = seen_at(page, "/office/"), seen_at(page, "/office/step/close")
+    left = "ad withdrawn, and take part now (P12); lists that are not back (P04)"
+    check("the overview names what the round before had", f"H{left}. If that is right, nothing has to be done" in shown, shown)
+    check("and so does the question before closing", f"h{left}. The overview leads to it" in asked, asked)
+
+
 def try_office_wayback(program):
     """All of it."""
     with Stand(program) as stand:
@@ -346,6 +357,7 @@ def try_office_wayback(program):
         try_changed(stand, page)
         try_left(stand, page)
         try_second_round(stand, page)
+        try_given_up_twice(stand, page)
         check("the page has noted no fault of its own", "rooms-page:" not in stand.log("page"), stand.log("page"))
 
 

@@ -55,7 +55,7 @@ def undo(clerk, stand):
     clerk.press("Open the next round")
     clerk.reads("Step 3 of 3")
     clerk.visit("/office/")
-    clerk.reads("Not back yet from round 1, which was given up")
+    clerk.reads("From round 1, which was given up")
     clerk.shot("44-not-back")
     clerk.visit("/office/undo/P01")
     clerk.press("See what can come back")

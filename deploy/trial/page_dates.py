@@ -58,6 +58,10 @@ def resident_reads(stand, shots):
         page.open()
         check("the date is there when signed in, too", page.sign_in(key_of("T1"), "Tim Tan")
               and page.waits(lambda: "31 May" in page.text("until"), 60), page.text("until"))
+        stand.ask(ask="set-until", at="2027-03-01T12:00", closes=True, who="anna")
+        page.click("ask-again")
+        check("a new date is read once the page asks again", page.waits(lambda: "1 March 2027" in page.text("until"), 60),
+              page.text("until"))
         stand.office("close")
         until(lambda: stand.ask(ask="view")["until"]["until"] is None, 60, "the date is forgotten")
         page.click("ask-again")

@@ -4,6 +4,7 @@ No program is needed. This run alone: /usr/bin/python3 deploy/trial/parts.py
 """
 
 import contextlib
+import datetime
 import errno
 import json
 import os
@@ -20,13 +21,14 @@ from stand import OFFICE, check
 sys.path.append(str(OFFICE))
 
 # pylint: disable=wrong-import-position,wrong-import-order  # they are in the folder of the line above
+from accounts import Accounts, ClerkRequests
 from backups import ASKED_FOR, Backups
 from copies import Copies, make_whole
 from journal import NOT_NOTED, Journal, masked_line, masked_note, without_names
 from lines import only_reads, reason_to_copy, shows_a_key
 from office import Office
 from program import Answer
-from settings import Fault, Settings
+from settings import Fault, Settings, unwritten
 from worker import Change, Worker
 
 KEY = "0123456789abcdef0123456789abcdef"
@@ -202,6 +204,33 @@ def noting(settings):
     )
 
 
+def noting_beside(settings):
+    """If the journal cannot be written, nothing beside the office's file is changed; and it has what could not be changed."""
+    accounts, journal, view = Accounts(settings.accounts), Journal(settings.journal), mock.Mock()
+    view.rows.return_value = {"people": [("T1", "Ann Li", None, 0)]}
+    job = {"rule": "list", "list": "person,account\nT1,ann\n", "who": "anna"}
+    requests = ClerkRequests(accounts, view, journal)
+    with mock.patch.object(journal, "add", side_effect=unwritten("the journal", OSError(errno.ENOSPC, "No space left"))):
+        said = fault_of(lambda: requests.put(job))
+    unchanged = "Nothing was changed" in said and accounts.kept().people == {}
+    check("if the journal is full, no accounts come in, and the clerk reads so", unchanged, (said, accounts.kept()))
+    with mock.patch("accounts.to_disk", side_effect=OSError(errno.ENOSPC, "No space left on device")):
+        said = fault_of(lambda: requests.put(job))
+    last = list(journal.entries())[-1]
+    noted = "No space" in said and last["status"] == 3 and "could not be written" in last["answer"]
+    check("if their file is full, the journal says that they did not", noted, (said, last))
+    check("and then they come in", requests.put(job) == {"rule": "list", "count": 1})
+
+
+def fault_of(act):
+    """What the fault of an act says, or nothing."""
+    try:
+        act()
+    except Fault as fault:
+        return str(fault)
+    return ""
+
+
 def keeping(settings):
     """Kept copies: what is in them, how many stay, and one that is damaged."""
     copies = Copies(settings)
@@ -253,6 +282,29 @@ def keeping_ahead(settings):
     check("a copy comes behind those of times to come, and stays", backups.names()[-2:] == made == wanted, made)
 
 
+def keeping_by_age(settings):
+    """Copies that are too old go. If the clock is set far ahead, all are, and none goes before two nights were by this clock."""
+    backups, now = Backups(settings, Copies(settings)), datetime.datetime.now(datetime.timezone.utc)
+
+    def put(kind, *ages):
+        names = [f"{now - datetime.timedelta(days=age):%Y%m%dT%H%M%SZ}" for age in ages]
+        for name in names:
+            (settings.backups / name).mkdir(parents=True)
+            (settings.backups / name / "why").write_text(json.dumps({"kind": kind, "why": ""}))
+        return names
+    os.utime(settings.file, (time.time() - 3600,) * 2)
+    before = sorted(put(ASKED_FOR, 500, 501, 502) + put("close", 500.5, 700))
+    backups.clear()
+    check("with a clock that is far ahead a start deletes no copy", backups.names() == before, backups.names())
+    made = [backups.keep("close", "before close") for _ in range(2)] + [backups.keep(ASKED_FOR, "night")]
+    check("nor do lines, nor the copy of a night", backups.names() == before + made, backups.names())
+    last = backups.keep(ASKED_FOR, "the next night")
+    check("after a second night those that are too old go", backups.names() == [*made, last], backups.names())
+    old = put("close", 399, 401)
+    backups.clear()
+    check("and so does one of 401 days, and none of 399", old[0] in backups.names() and old[1] not in backups.names())
+
+
 def keeping_damaged(settings):
     """A damaged office is kept as it is, where that is asked for."""
     backups = Backups(settings, Copies(settings))
@@ -296,11 +348,14 @@ def try_parts():
         blanking(settings)
     with an_office() as settings:
         noting(settings)
+        noting_beside(settings)
         failing(settings)
     with an_office() as settings:
         keeping(settings)
     with an_office() as settings:
         keeping_ahead(settings)
+    with an_office() as settings:
+        keeping_by_age(settings)
     with an_office() as settings:
         keeping_damaged(settings)
 

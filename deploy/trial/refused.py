@@ -74,6 +74,16 @@ def try_records(record):
               re.sub(r"line \d+: (there is )?", "", said), said)
 
 
+def try_signs(record):
+    """By signs that a terminal carries out, a record cannot replace what is said of it."""
+    signs = "\x1b[1A\x1b[2K\r\u009b1A\u202e\x08".encode()
+    for what, old, new in (("the journal", b"# round 1 ran\n", b"# round 1 ran\n# journal: " + signs * 9 + b"all is right\n"),
+                           ("an identifier", b"P3", b"P3" + signs)):
+        status, said = audit(record.replace(old, new), "-", "P1", "--seed", "f" * 64)
+        check(f"{what} of a record writes no sign that a terminal carries out", status in (1, 2) and "[1A" in said and
+              all(sign.isprintable() for sign in said.replace("\n", "")), said)
+
+
 def swap(stand, results):
     """Puts other results into the office's file, while nothing runs."""
     stand.stop_keeper()
@@ -126,6 +136,7 @@ def try_refused(program):
         record = page.form("/office/record", page="/office/record")[2].encode()
         try_seeds(record)
         try_records(record)
+        try_signs(record)
         try_page(stand, page)
 
 

@@ -5,6 +5,8 @@ sign-in and sign-out, and tries to become somebody else: by fields, by other way
 tokens that the provider did not sign or signed for others, by another site's page, and by a session that is over.
 """
 
+import collections
+import http.client
 import json
 import os
 import socket
@@ -21,6 +23,9 @@ from signin_stand import APACHE, BARE, SIGN_IN, SIGN_OUT, Browser, SignInStand, 
 from stand import HOST, PYTHON, Stand, check, key_of
 
 PEOPLE = ["T1", "T2", "S1", "I1"]
+# What the module answers at its address beside the provider's answer and the sign-out.
+OTHER_ANSWERS = ["info=json", "jwks=rsa", "refresh=https://x/", "request_uri=1", "remove_at_cache=1", "revoke_session=abc",
+                 "session=check", "session=logout", "target_link_uri=https://x/"]
 
 
 def try_off(program):
@@ -223,9 +228,50 @@ def try_sign_out(stand):
 def try_redirect(browser):
     """What else the module answers at the address to which the provider leads."""
     for query in ("", "?info=json", "?iss=https://127.0.0.1&target_link_uri=https://evil.example/", "?request_uri=x", "?jwks=rsa",
-                  "?remove_at_cache=x", "?refresh=https://evil.example/&access_token=x", "?session=check"):
+                  "?remove_at_cache=x", "?refresh=https://evil.example/&access_token=x", "?session=check", "?state=x",
+                  *(f"?{one}&state=x{more}" for one in OTHER_ANSWERS for more in ("", "&error=x", "&code=x"))):
         told = browser.ask("GET", f"/account/redirect{query}", page=False)
         check(f"nothing answers at /account/redirect{query}", told.status == 404, told)
+
+
+def try_slow(stand):
+    """Slow requests of somebody without an account keep nobody out who is signed in."""
+    browser = Browser(stand)
+    browser.sign_in("t1")
+    for head, begin in (("GET /account/in", b"a"), ("POST /account/in", b"a"), ("POST /account/redirect?logout=backchannel", b"a"),
+                        ("POST /account/in", b"")):
+        length = "Content-Length: 8000" if begin else "Transfer-Encoding: chunked"
+        slow = [browser.connected() for _ in range(26)]
+        for one in slow:
+            one.sendall(f"{head} HTTP/1.1\r\nHost: {HOST}:{stand.port}\r\n{length}\r\n\r\n".encode() + begin)
+        time.sleep(1)
+        began = time.monotonic()
+        told, took = browser.whose(), time.monotonic() - began
+        check(f"26 slow requests {head} with {length} keep nobody out", told == "T1" and took < 5, (told, took))
+        for one in slow:
+            one.close()
+
+
+def try_often(stand):
+    """An address goes through the sign-in some 300 times in ten seconds; keys, and who is signed in, go on there."""
+    browser = Browser(stand)
+    browser.sign_in("t1")
+    connection = http.client.HTTPSConnection(HOST, timeout=60)
+    connection.sock = browser.connected()
+    told: collections.Counter[int] = collections.Counter()
+    for _ in range(360):
+        connection.request("GET", "/account/redirect?code=x&state=x", headers={"Host": f"{HOST}:{stand.port}"})
+        answer = connection.getresponse()
+        answer.read()
+        told[answer.status] += 1
+        if answer.status == 429:
+            break
+        if connection.sock is None:
+            connection.sock = browser.connected()
+    check("an address that goes through the sign-in too often has to wait", told[429] == 1 and told.total() > 200, told)
+    check("who is signed in there goes on", browser.whose() == "T1", browser.whose())
+    check("and so do keys", browser.get("/me", ("Room-Key", key_of("S1"))).status == 200)
+    time.sleep(12)
 
 
 def try_time(stand):
@@ -322,6 +368,8 @@ def try_signin_account(program, whole=True):
         try_person(stand)
         if whole:
             try_certificate(stand)
+            try_slow(stand)
+            try_often(stand)
             try_time(stand)
             try_away(stand)
         try_logs(stand, [key_of(person) for person in PEOPLE])

@@ -31,6 +31,10 @@ CONNECTIONS = 1_000_000
 CLERKS = {"anna": "correct horse battery", "bert": "another long phrase"}
 PYTHON = "/usr/bin/python3"
 
+sys.path.append(str(DEPLOY / "demo"))
+# pylint: disable-next=wrong-import-position  # it is in the folder of the line above
+from ports import free_ports
+
 
 # A trial that is ended from outside ends what it has started, too.
 signal.signal(signal.SIGTERM, lambda *_: sys.exit("trial: ended from outside"))
@@ -46,23 +50,6 @@ def check(what: str, holds: object, more: object = "") -> None:
     if not holds:
         fail(f"not so: {what}: {more!r}")
     print(f"ok    {what}", flush=True)
-
-
-def free_ports(count: int) -> list[int]:
-    """So many ports that nobody uses now, below those that the system gives to connections.
-
-    The system may give a port of its own range to any connection while the server is stopped. The server cannot have
-    the port back as long as that connection lasts, and for a minute after its end.
-    """
-    lowest = int(Path("/proc/sys/net/ipv4/ip_local_port_range").read_text(encoding="ascii").split()[0])
-    free = []
-    for port in random.sample(range(lowest // 2, lowest), 1000):
-        with contextlib.suppress(OSError), socket.socket() as probe:
-            probe.bind(("127.0.0.1", port))
-            free.append(port)
-        if len(free) == count:
-            return free
-    fail(f"no {count} ports are free below {lowest}")
 
 
 def until(holds: Callable[..., object], seconds: float, what: str) -> None:

@@ -3,14 +3,20 @@
 from typing import Any, NamedTuple
 
 from journal import masked
+from languages import N_, _, ngettext
+from lines import IDENTIFIER
 
 import explaining
 import plain
 from app import app, ask, drawn_order, field, go_to, office_now, saw, show, tell, text_of
 from keeper_client import KeeperFault, answers_of
 from office_view import Office
-from people_pages import IDENTIFIER
 from questions import Question, put_question
+
+
+# The words of the keeper for messages: their kinds, and what became of one.
+WORDS = (N_("invitation"), N_("reminder"), N_("receipt"), N_("results"), N_("moves"),
+         N_("waiting"), N_("begun"), N_("sent"), N_("refused"), N_("uncertain"))
 
 
 class Kept(NamedTuple):
@@ -21,6 +27,7 @@ class Kept(NamedTuple):
     copies: list[Any]
     entries: list[Any]
     mail: dict[str, Any]
+    language: dict[str, Any]
     account: str
 
     @property
@@ -37,10 +44,11 @@ class Kept(NamedTuple):
 def kept_of(ident: str) -> Kept:
     """What is kept of a person. An identifier that is none leads back."""
     if not IDENTIFIER.fullmatch(ident):
-        tell("bad", f"{masked(ident)[:12]} is no identifier. {plain.IDENTIFIER}")
+        tell("bad", f"{_('{word} is no identifier.', word=masked(ident)[:12])} {_(plain.IDENTIFIER)}")
         go_to("/office/register")
     found = ask("about", person=ident)
-    return Kept(found["lists"], found["moves"], found["copies"], found["journal"], found["mail"], found["account"])
+    return Kept(found["lists"], found["moves"], found["copies"], found["journal"], found["mail"], found["language"],
+                found["account"])
 
 
 def place_of(office: Office, ident: str) -> str:
@@ -48,7 +56,8 @@ def place_of(office: Office, ident: str) -> str:
     if office.phase not in plain.DRAWN:
         return ""
     order = drawn_order()
-    return next((f"{place} of {len(order)}, by the word {word}" for place, word, one, _ in order if one == ident), "")
+    return next((_("{place} of {count}, by the word {word}", place=place, count=len(order), word=word)
+                 for place, word, one, *_grade in order if one == ident), "")
 
 
 @app.post("/office/about")
@@ -79,20 +88,29 @@ def question_of(office: Office, ident: str, kept: Kept) -> Question:
     who = f"{person.name} ({ident})" if person else ident
     says = []
     if person:
-        says.append("At once the person goes out of the register: name, key, room and grade."
-                    + (f" {person.home} becomes free." if person.home else ""))
+        says.append(_("At once the person goes out of the register: name, key, room and grade.")
+                    + (" " + _("{room} becomes free.", room=person.home) if person.home else ""))
     if kept.labels:
-        says.append(f"At once the lists that name the person are blanked: {', '.join(kept.labels)}. This deletes what they "
-                    "say of everybody; the register stays as it is. Their labels stay taken.")
+        says.append(_("At once the lists that name the person are blanked: {lists}. This deletes what they say of everybody; the "
+                      "register stays as it is. Their labels stay taken.", lists=", ".join(kept.labels)))
     if kept.mail["address"] or kept.mail["sent"]:
-        says.append("At once the mail address is erased, and which messages were sent to the person.")
-    count = len(kept.copies)
-    older = f", and so {f'do {count} older copies' if count > 1 else 'does one older copy'}" if count else ""
-    says.append(f"The keeper makes a copy of the office first, so you can come back from this. This copy has the person{older}, "
-                "until it is too old. The page about the person says until when. You can also keep copies for fewer days (page "
-                "Copies).")
-    says.append("The moves and the journal stay. They have the identifier, and no name.")
-    return Question(f"Forget {who}?", says, "Yes: forget this person", place, saw=office.saw("all", ident).mark)
+        says.append(_("At once the mail address is erased, and which messages were sent to the person."))
+    says += [said_of_copies(len(kept.copies)), _("The moves and the journal stay. They have the identifier, and no name.")]
+    return Question(_("Forget {person}?", person=who), says, _("Yes: forget this person"), place, saw=office.saw("all", ident).mark)
+
+
+def said_of_copies(older: int) -> str:
+    """What becomes of the person in copies of the office, of which so many have them."""
+    if not older:
+        return _("The keeper makes a copy of the office first, so you can come back from this. This copy has the person, until it "
+                 "is too old. The page about the person says until when. You can also keep copies for fewer days (page Copies).")
+    return ngettext(
+        "The keeper makes a copy of the office first, so you can come back from this. This copy has the person, and so does one "
+        "older copy, until it is too old. The page about the person says until when. You can also keep copies for fewer days "
+        "(page Copies).",
+        "The keeper makes a copy of the office first, so you can come back from this. This copy has the person, and so do {count} "
+        "older copies, until it is too old. The page about the person says until when. You can also keep copies for fewer days "
+        "(page Copies).", older)
 
 
 @app.get("/office/forget/<ident>")
@@ -100,7 +118,7 @@ def ask_forget(ident: str) -> str:
     """Asks before a person is forgotten."""
     kept, office = kept_of(ident), office_now()
     if ident in office.people and office.phase != "idle":
-        tell("bad", f"{plain.PHASES[office.phase].title}. A person can be forgotten only between two rounds.")
+        tell("bad", f"{_(plain.PHASES[office.phase].title)}. {_('A person can be forgotten only between two rounds.')}")
         go_to(f"/office/about/{ident}")
     return put_question(office, question_of(office, ident, kept))
 
@@ -112,10 +130,10 @@ def forget(ident: str) -> None:
     try:
         reply = ask("forget", person=ident, seen=field("seen"), saw=saw("all", ident))
     except KeeperFault as fault:
-        tell("bad", f"This could not be done. {fault}")
+        tell("bad", _("This could not be done. {why}", why=fault))
         go_to(place)
     if reply["done"]:
-        tell("good", f"{ident} is forgotten, as far as this can be done at once. This page says what is left.")
+        tell("good", _("{person} is forgotten, as far as this can be done at once. This page says what is left.", person=ident))
     else:
-        tell("bad", f"Nothing was changed. {plain.meaning(answers_of(reply)[-1].text)}")
+        tell("bad", _("Nothing was changed. {why}", why=plain.meaning(answers_of(reply)[-1].text)))
     go_to(place)

@@ -21,6 +21,7 @@ import bottle  # type: ignore[import]  # Debian's bottle has no types
 from bottle import HTTPResponse, request
 
 import times
+from languages import ENGLISH, N_, _, accepted, first_of, languages, speak, spoken
 
 import keeper_client
 import plain
@@ -30,6 +31,7 @@ from keeper_client import Answer, KeeperFault
 from memory import Memory
 from office_view import Office
 
+HERE = Path(__file__).resolve().parent
 # As in haproxy.cfg. A list that is too long comes as far as this page, which says so: where the proxy answers before all
 # of a body is there, some clients of HTTP/2, such as curl, report a failure in place of the answer.
 LONGEST_FORM = 5_000_000
@@ -43,8 +45,10 @@ HEADERS = {
     "Cross-Origin-Opener-Policy": "same-origin",
     "Cross-Origin-Resource-Policy": "same-origin",
 }
-STALE = ("This form was made before the page was restarted, or on another page. Nothing was changed. Fill it in again. "
-         "If you printed slips for a list that is not in yet, destroy them: they do not work.")
+STALE = N_("This form was made before the page was restarted, or on another page. Nothing was changed. Fill it in again. "
+           "If you printed slips for a list that is not in yet, destroy them: they do not work.")
+
+LANGUAGE_SECONDS = 5.0  # for which a page waits for the language of its clerk
 
 # A host as a browser names it, with its port if that is another than HTTPS has.
 HOST = re.compile(r"[A-Za-z0-9.-]+(:[0-9]+)?")
@@ -71,9 +75,22 @@ def token() -> str:
     return hmac.new(SECRET, clerk().encode(), "sha256").hexdigest()
 
 
+def language_of_clerk() -> str:
+    """The language that the clerk has chosen, by the keeper, or else the first one of the browser's that there is."""
+    chosen = memory.language(clerk()) if clerk() else ""
+    if chosen is None:
+        try:
+            chosen = str(keeper_client.ask("language", clerk(), patience=LANGUAGE_SECONDS)["language"])
+            memory.language(clerk(), chosen)
+        except (KeeperFault, KeyError):  # it is asked again at the next page, which says what is wrong if it needs the keeper
+            chosen = ""
+    return chosen if chosen in languages() else first_of(accepted(str(request.get_header("Accept-Language", ""))))
+
+
 @app.hook("before_request")
 def guard() -> None:
     """Lets in named clerks, and forms of this page alone: a form of another site has no token."""
+    speak(language_of_clerk())
     if not clerk():
         bottle.abort(403, "no clerk")
     if request.method != "POST":
@@ -84,7 +101,7 @@ def guard() -> None:
         bottle.abort(400, "no form")
     site = request.get_header("Sec-Fetch-Site", "same-origin")
     if site != "same-origin" or not hmac.compare_digest(sent.encode(), token().encode()):
-        tell("bad", STALE)
+        tell("bad", _(STALE))
         go_to("/office/")
 
 
@@ -134,10 +151,12 @@ def go_to(address: str) -> NoReturn:
 
 
 def show(view: str, **values: Any) -> str:
-    """A page of a template."""
-    values = {"office": None, **values}
+    """A page of a template. `back` is where its clerk is led after choosing another language; without it there is no choice."""
+    # News is for a page that the clerk sees, and not for one that another site loads in a picture's place.
+    news = memory.news(clerk()) if request.get_header("Sec-Fetch-Dest", "document") == "document" else []
+    values = {"office": None, "back": request.path if request.method == "GET" else "", **values}
     return views.render(view, token=token(), clerk=clerk(), plain=plain, times=times, unbroken=unbroken,
-                        news=memory.news(clerk()), here=request.path, **values)
+                        news=news, here=request.path, **values)
 
 
 def download(body: str | bytes, name: str, kind: str = "text/csv; charset=utf-8") -> HTTPResponse:
@@ -179,14 +198,14 @@ def change(question: str, **fields: Any) -> bool:
     try:
         reply = ask(question, seen=field("seen"), **fields)
     except KeeperFault as fault:
-        tell("bad", f"This could not be done. {fault}")
+        tell("bad", _("This could not be done. {why}", why=fault))
         return False
     answers = keeper_client.answers_of(reply)
     last = answers[-1]
     if not reply["done"]:
         # If the file, the disk or the memory failed, the change may have been made: then `meaning` says to look.
-        unchanged = "" if last.status == UNAVAILABLE else "Nothing was changed. "
-        tell("bad", f"{unchanged}{plain.meaning(last.text)}")
+        why = plain.meaning(last.text)
+        tell("bad", str(why) if last.status == UNAVAILABLE else _("Nothing was changed. {why}", why=why))
         return False
     tell("good", plain.done(last.text))
     if reply.get("unkept"):
@@ -222,13 +241,14 @@ app.install(tell_keeper_faults)
 @app.error(400)
 def refused(error: bottle.HTTPError) -> str:
     """The page of a request that leads nowhere."""
-    texts = {404: "There is no such page.", 405: "There is no such page.", 403: "The proxy names no clerk.",
-             413: plain.TOO_LONG}
-    return down(texts.get(error.status_code, "The page does not understand this request."))
+    texts = {404: _("There is no such page."), 405: _("There is no such page."), 403: _("The proxy names no clerk."),
+             413: _(plain.TOO_LONG)}
+    return down(texts.get(error.status_code, _("The page does not understand this request.")))
 
 
 class Guarded:  # pylint: disable=too-few-public-methods  # a WSGI application is one method
-    """The app with its headers on each answer. A fault of the page leaves its place in the log, and no value."""
+    """The app with its headers on each answer. A fault of the page leaves its place in the log, and no value. No request
+    speaks the language of the one that its thread answered before."""
 
     def __init__(self, inner: Callable[..., Iterable[bytes]]) -> None:
         self.inner = inner
@@ -236,14 +256,16 @@ class Guarded:  # pylint: disable=too-few-public-methods  # a WSGI application i
     def __call__(self, environ: dict[str, Any], start_response: Callable[..., Any]) -> Iterable[bytes]:
         def start(status: str, headers: list[tuple[str, str]], exc_info: Any = None) -> Any:
             own = [(name, value) for name, value in headers if name not in HEADERS]
+            own += [("Content-Language", spoken())] if "text/html" in dict(headers).get("Content-Type", "") else []
             return start_response(status, [*own, *HEADERS.items()], exc_info)
+        speak(ENGLISH)
         try:
             return self.inner(environ, start)
         except Exception as fault:  # pylint: disable=broad-except  # the clerk gets a page whatever went wrong
             place = traceback.extract_tb(fault.__traceback__)[-1]
             where = f"{Path(place.filename).name}:{place.lineno}"
             print(f"rooms-page: {type(fault).__name__} at {where}", file=sys.stderr, flush=True)
-            body = down("The page failed at this request. Look in the journal whether anything was changed.").encode()
+            body = down(_("The page failed at this request. Look in the journal whether anything was changed.")).encode()
             start("500 Internal Server Error",
                   [("Content-Type", "text/html; charset=utf-8"), ("Content-Length", str(len(body)))])
             return [body]

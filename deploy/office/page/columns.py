@@ -3,7 +3,8 @@
 import re
 from typing import NamedTuple
 
-from journal import masked
+from journal import KEY, masked
+from languages import N_, _
 
 import plain
 from plain import Meaning
@@ -26,6 +27,7 @@ NAMES = {
     "size": "size area sizem² aream² m² m2 sqm grösse grösseinm² grössem² fläche flächeinm² flächem² qm",
     "rent": "rent price monthlyrent rentpermonth miete monatsmiete warmmiete kaltmiete gesamtmiete preis",
     "text": "text description notes note remarks comment beschreibung bemerkung bemerkungen ausstattung hinweis",
+    "language": "language lang preferredlanguage sprache",
     "email": "email mail emailaddress mailaddress studentemail studentmail emailadresse mailadresse",
 }
 KNOWN = {target: frozenset(names.split()) for target, names in NAMES.items()}
@@ -33,8 +35,11 @@ NUMBERED = re.compile(r"(choice|wish|wunsch)\d{1,2}")  # one column for each cho
 # Mail addresses are no kind of list of the program's.
 ADDRESSES = "addresses"
 # The columns that a list may be without.
-OPTIONAL = ("key", "home", "house", "floor", "size", "rent", "text")
+OPTIONAL = ("key", "home", "house", "floor", "size", "rent", "text", "language")
 LOOKED_AT = 10  # rows in which the names of the columns may be
+# What a list has, in a sentence. The program has these words too, so they are the names of kinds.
+KINDS = {"rooms": N_("rooms"), "people": N_("people"), "grades": N_("grades"), "choices": N_("choices"),
+         plain.DESCRIPTIONS: N_("descriptions"), ADDRESSES: N_("addresses")}
 
 
 class Columns(NamedTuple):
@@ -55,9 +60,14 @@ def bare(name: str) -> str:
     return "".join(sign for sign in name.casefold() if sign.isalnum())
 
 
+def kind_name(kind: str) -> str:
+    """What a kind of list has, for a sentence."""
+    return _(KINDS.get(kind, kind))
+
+
 def targets_of(kind: str) -> list[str]:
     """The columns of a kind of list, as the program has them; or those of addresses."""
-    return ["person", "email"] if kind == ADDRESSES else plain.header_of(kind).split(",")
+    return ["person", "email", "language"] if kind == ADDRESSES else plain.header_of(kind).split(",")
 
 
 def is_known_as(target: str, name: str) -> bool:
@@ -109,29 +119,31 @@ def columns_in(kind: str, at: int, fields: list[str]) -> Columns | None:
 
 def find(kind: str, rows: list[tuple[int, list[str]]]) -> Columns | Meaning:
     """The columns of a list, by the first row that names them; or why they are not known."""
-    for at, (_, fields) in enumerate(rows[:LOOKED_AT]):
+    for at, (__, fields) in enumerate(rows[:LOOKED_AT]):
         try:
             if found := columns_in(kind, at, fields):
                 return found
         except Ambiguous as target:
-            return Meaning(f"Two columns may be the column {target}: {listed(fields)}.",
-                           f"Leave the name {target} to one of them, and call the other something else.")
-    return Meaning(f"The first line does not name the columns of a list of {kind}. It has: {listed(rows[0][1])}.",
-                   to_do_for(kind))
+            return Meaning(_("Two columns may be the column {target}: {columns}.", target=target, columns=listed(fields)),
+                           _("Leave the name {target} to one of them, and call the other something else.", target=target))
+    return Meaning(_("The first line does not name the columns of a list of {kind}. It has: {columns}.", kind=kind_name(kind),
+                     columns=listed(rows[0][1])), to_do_for(kind))
 
 
 def to_do_for(kind: str) -> str:
     """How the columns have to be called."""
-    target = targets_of(kind)[0]
-    others = {"people": "The name may be in two columns, first name and last name. A list without the columns key and home "
-                        "is taken too.",
-              "choices": "The choices may be in one column for each: choice 1, choice 2, and so on.",
-              plain.DESCRIPTIONS: "Only the room is needed, and one column more."}
-    return (f"Check that you chose the right kind. Write the names of the columns into the first line: "
-            f"{', '.join(targets_of(kind))}. {others.get(kind, '')} For {target} the page also takes "
-            f"{', '.join(sorted(KNOWN[target] - {target})[:4])} and the like.").replace("  ", " ")
+    targets = targets_of(kind)
+    others = {"people": _("The name may be in two columns, first name and last name. A list without the columns key and home "
+                          "is taken too."),
+              "choices": _("The choices may be in one column for each: choice 1, choice 2, and so on."),
+              plain.DESCRIPTIONS: _("Only the room is needed, and one column more.")}
+    says = [_("Check that you chose the right kind. Write the names of the columns into the first line: {columns}.",
+              columns=", ".join(targets)), others.get(kind, ""),
+            _("For {target} the page also takes {names} and the like.", target=targets[0],
+              names=", ".join(sorted(KNOWN[targets[0]] - {targets[0]})[:4]))]
+    return " ".join(filter(None, says))
 
 
 def listed(fields: list[str]) -> str:
     """The names of columns for the screen. A row that is no first line may have keys."""
-    return masked(", ".join(field.strip()[:30] or "(empty)" for field in fields[:12]))
+    return masked(", ".join(field.strip()[:30] or _("(empty)") for field in fields[:12]), _(KEY))

@@ -4,6 +4,8 @@ and lists of choices. The keeper has them in the copy that it made before the ro
 
 from typing import NamedTuple
 
+from languages import N_, _
+
 import plain
 from app import ask
 from csv_list import line_of
@@ -78,11 +80,11 @@ def what_is_left(office: Office, had: Had) -> Back:
     for ident, wishes in had.choices.items():
         person = office.people.get(ident)
         if person is None:
-            back.never.append(f"{ident}: the list; the person is not in the register any more.")
+            back.never.append(_("{person}: the list; the person is not in the register any more.", person=ident))
         elif person.takes_part and not office.choices.get(ident):
             take_list(office, ident, wishes, back)
         elif person.takes_part:
-            back.here.append(f"{ident}: a list")
+            back.here.append(_("{person}: a list", person=ident))
     return back
 
 
@@ -100,15 +102,15 @@ def why_not(office: Office, ident: str, part: str) -> str | None:
     """Why a withdrawal, or a note that somebody leaves, cannot come back. An empty text if it can, nothing if it is here."""
     person = office.people.get(ident)
     if person is None:
-        return "the person is not in the register any more."
+        return _("the person is not in the register any more.")
     if getattr(person, part):
         return None
     if person.going:
-        return "the withdrawal; the person leaves the college in this round."
+        return _("the withdrawal; the person leaves the college in this round.")
     if person.withdrawn:
-        return "the note; the person has withdrawn from this round."
+        return _("the note; the person has withdrawn from this round.")
     if part == "going" and not person.home:
-        return "the note; the person has no room any more. Withdraw them instead."
+        return _("the note; the person has no room any more. Withdraw them instead.")
     return ""
 
 
@@ -119,7 +121,7 @@ def take_list(office: Office, ident: str, wishes: list[str], back: Back) -> None
     if usable:
         back.lists[ident] = usable
     if out:
-        back.never.append(f"{ident}: of the list {' '.join(out)}, out of use.")
+        back.never.append(_("{person}: of the list {rooms}, out of use.", person=ident, rooms=" ".join(out)))
 
 
 def has_come_again(office: Office, ident: str) -> bool:
@@ -127,17 +129,32 @@ def has_come_again(office: Office, ident: str) -> bool:
     return bool(office.choices.get(ident))
 
 
-def still_missing(office: Office, given_up: GivenUp) -> str:
-    """What of a round is not back in the round of now, but could be; or nothing. A clerk has to know it before the round is
-    closed."""
-    try:
-        back = what_is_left(office, had_in(given_up.copy))
-    except KeeperFault as fault:
-        return f"nobody knows what ({str(fault).rstrip('.')})"
-    away = {"who leaves the college": back.going, "who has withdrawn": back.withdrawn}
+def all_missing(office: Office) -> list[tuple[GivenUp, str]]:
+    """What of the rounds that were given up is not back in the round that is open, but could be, the newest round first. A clerk
+    has to know it before the round is closed. Somebody of whom a newer round has something is named with that one alone."""
+    found: list[tuple[GivenUp, str]] = []
+    newer: set[str] = set()
+    for given_up in rounds(office) if office.phase == "open" else []:
+        try:
+            had = had_in(given_up.copy)
+        except KeeperFault as fault:
+            found.append((given_up, _("nobody knows what ({fault})", fault=str(fault).rstrip("."))))
+            continue
+        if missing := missing_of(office, had, newer):
+            found.append((given_up, missing))
+        newer |= {*had.going, *had.withdrawn, *had.choices}
+    return found
+
+
+def missing_of(office: Office, had: Had, newer: set[str]) -> str:
+    """What of a round is not back in the round of now, but could be, without these people; or nothing."""
+    back = what_is_left(office, had)
+    away = {N_("were to leave the college, and take part now ({people})"): back.going,
+            N_("had withdrawn, and take part now ({people})"): back.withdrawn}
     left = {what: [one for one in idents if not has_come_again(office, one)] for what, idents in away.items()}
-    left["lists"] = list(back.lists_but(back.away))
-    return "; ".join(f"{what} ({listed(idents)})" for what, idents in left.items() if idents)
+    left[N_("lists that are not back ({people})")] = list(back.lists_but(back.away))
+    people = {what: [one for one in idents if one not in newer] for what, idents in left.items()}
+    return "; ".join(_(what, people=listed(idents)) for what, idents in people.items() if idents)
 
 
 def listed(idents: list[str]) -> str:

@@ -5,15 +5,16 @@ from typing import Any, NamedTuple
 import bottle  # type: ignore[import]  # Debian's bottle has no types
 
 from figures_counted import ALL, FEWEST, OUTCOMES, TABLES, Tables
+from languages import N_, _
 
 from app import app, ask, download, go_to, show
 from file_pages import csv_of
 
-# The names of what people get, on the page and in CSV.
-GETS = {"first": "Choice 1", "later": "A later choice", "keep": "Keep their room", "none": "No room"}
+# The names of what people get, on the page and in CSV, which has all its words in English.
+GETS = {"first": N_("Choice 1"), "later": N_("A later choice"), "keep": N_("Keep their room"), "none": N_("No room")}
 GROUPS = {"all": "all", "grades": "grade", "houses": "house", "rooms": "room"}
-FEWER = f"fewer than {FEWEST}"
-NO_HOUSE = "(no house)"
+FEWER = N_("fewer than {number}")
+NO_HOUSE = N_("(no house)")
 # Of so many rooms the page shows who wants them. The list in CSV has all.
 MOST_WANTED = 12
 # Below so many people a percentage would pretend to be exact.
@@ -57,7 +58,7 @@ class Round(NamedTuple):
 
 def said(number: int) -> str:
     """A number of people, as far as it is shown."""
-    return str(number) if number else FEWER
+    return str(number) if number else _(FEWER, number=FEWEST)
 
 
 def bar_of(counted: dict[str, int]) -> list[Part]:
@@ -90,13 +91,20 @@ def committee(number: int) -> str:
     if number and not chosen:
         go_to("/office/committee")
     return show("committee", **kept, chosen=chosen[0] if chosen else None, said=said, bar_of=bar_of,
-                gets=GETS, fewer=FEWER, no_house=NO_HOUSE)
+                gets={name: _(text) for name, text in GETS.items()}, fewer=said(0), no_house=_(NO_HOUSE))
+
+
+def cell_of(name: str, counted: dict[str, int]) -> str:
+    """A cell of the list in CSV. It is empty where the table does not count this."""
+    if name not in counted:
+        return ""
+    return str(counted[name]) if counted[name] or name == "rooms" else FEWER.format(number=FEWEST)
 
 
 def rows_of(one: Round) -> list[list[Any]]:
-    """The rows of a round in the list in CSV. A cell is empty where the table does not count this."""
+    """The rows of a round in the list in CSV."""
     return [[one.number, one.published, GROUPS[table], row or NO_HOUSE,
-             *((counted[name] if name == "rooms" else said(counted[name])) if name in counted else "" for name in COLUMNS)]
+             *(cell_of(name, counted) for name in COLUMNS)]
             for table in TABLES for row, counted in one.tables.get(table, {}).items()]
 
 

@@ -1,5 +1,7 @@
 """Until when lists are taken: the form on the overview."""
 
+from languages import _
+
 from app import app, ask, field, go_to, tell, text_of
 from keeper_client import KeeperFault
 
@@ -13,20 +15,21 @@ def set_date(at: str, closes: bool, good: str) -> None:
         return
     tell("good", good)
     if why := reply.get("untold"):
-        tell("bad", f"But residents do not read it: {why}")
+        tell("bad", _("But residents do not read it: {why}", why=why))
 
 
 @app.post("/office/until")
 def set_until() -> None:
     """Sets the date until which lists are taken."""
     closes = text_of("closes") == "yes"
-    then = "The keeper closes the round then." if closes else "The overview reminds you then; the keeper closes nothing."
-    set_date(f"{text_of('date')}T{text_of('time')}", closes, f"The date is set. {then}")
+    good = (_("The date is set. The keeper closes the round then.") if closes else
+            _("The date is set. The overview reminds you then; the keeper closes nothing."))
+    set_date(f"{text_of('date')}T{text_of('time')}", closes, good)
     go_to("/office/")
 
 
 @app.post("/office/until/drop")
 def drop_until() -> None:
     """Takes the date away."""
-    set_date("", False, "There is no date any more. The round stays open until you close it.")
+    set_date("", False, _("There is no date any more. The round stays open until you close it."))
     go_to("/office/")

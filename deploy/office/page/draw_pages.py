@@ -6,8 +6,9 @@ import secrets
 from typing import NamedTuple
 
 from journal import masked
+from languages import N_, _, ngettext
 from lines import on_one_line
-from seeds import OF_TEXT, STRUCK, Noted, Seeds, noted_seeds
+from seeds import OF_TEXT, STRUCK, UNEXPLAINED, Noted, Seeds, noted_seeds
 
 import plain
 from app import app, ask, change, clerk, drawn_order, field, go_to, memory, office_now, show, tell, text_of
@@ -22,6 +23,10 @@ SHORTEST_TEXT, LONGEST_TEXT = 8, 400
 # As much of the journal as the keeper gives.
 ALL_ENTRIES = 1_000_000
 BACK = "/office/draw"
+# How a seed came about: as the journal has it, and as the page shows it.
+BY_MACHINE, AS_IT_IS = "made by the machine", "entered as it is"
+SOURCES = {BY_MACHINE: N_("Made by the machine"), AS_IT_IS: N_("Entered as it is"),
+           UNEXPLAINED: N_("Without a word on how it came about")}
 
 
 class Pending(NamedTuple):
@@ -48,8 +53,12 @@ def throws_in(text: str) -> int | None:
 def source_of(noted: Noted) -> str:
     """How a seed came about, with the number of throws."""
     text = noted.source.removeprefix(OF_TEXT)
-    throws = throws_in(text) if text != noted.source else None
-    return noted.source[:1].upper() + noted.source[1:] + (f" ({throws} throws)" if throws else "")
+    if text == noted.source:  # it may be in a clerk's own words
+        return _(SOURCES[text]) if text in SOURCES else text[:1].upper() + text[1:]
+    throws = throws_in(text)
+    if not throws:
+        return _("SHA-256 of {source}", source=text)
+    return ngettext("SHA-256 of {source} ({count} throw)", "SHA-256 of {source} ({count} throws)", throws, source=text)
 
 
 @app.get("/office/draw")
@@ -66,18 +75,19 @@ def draw_page(name: str = "") -> str:
 def seed_of(way: str, text: str) -> tuple[str, str] | str:
     """The seed of what was entered, and how it came about; or what is wrong with it."""
     if way == "machine":
-        return secrets.token_hex(32), "made by the machine"
+        return secrets.token_hex(32), BY_MACHINE
     if way == "seed":
         seed = "".join(text.split()).lower()
         if SEED.fullmatch(seed):
-            return seed, "entered as it is"
-        return f"A seed has 64 signs out of 0 to 9 and a to f. You entered {len(seed)} signs."
+            return seed, AS_IT_IS
+        return _("A seed has 64 signs out of 0 to 9 and a to f. You entered {count} signs.", count=len(seed))
     text = " ".join(on_one_line(text).split())  # as the journal has it, or the noted text would have another hash
     if not SHORTEST_TEXT <= len(text) <= LONGEST_TEXT:
-        return f"Enter {SHORTEST_TEXT} to {LONGEST_TEXT} signs: the throws of the dice, or the public number."
+        return _("Enter {least} to {most} signs: the throws of the dice, or the public number.",
+                 least=SHORTEST_TEXT, most=LONGEST_TEXT)
     if masked(text) != text:
-        return ("Write a space between two throws or numbers. Sixteen letters and digits in a row look like a key, and "
-                "the journal takes no keys.")
+        return _("Write a space between two throws or numbers. Sixteen letters and digits in a row look like a key, and "
+                 "the journal takes no keys.")
     return hashlib.sha256(text.encode()).hexdigest(), OF_TEXT + text
 
 
@@ -85,13 +95,13 @@ def doubt_of(text: str) -> list[str]:
     """What to ask about the text of a seed before it is noted; nothing about enough throws of a die."""
     throws = throws_in(text)
     if throws is None:
-        return [f"You entered: {text}", "These are no throws of a die, which are numbers from 1 to 6. Go on if this is "
-                "a public number that the witnesses had agreed on before the round was closed, and that nobody could "
-                "know then."]
+        return [_("You entered: {source}", source=text),
+                _("These are no throws of a die, which are numbers from 1 to 6. Go on if this is a public number that the "
+                  "witnesses had agreed on before the round was closed, and that nobody could know then.")]
     if throws < ENOUGH:
-        return [f"You entered {throws} throws: {text}", f"{ENOUGH} throws are needed. With fewer, somebody can try all "
-                "orders that may come out, and know beforehand what suits them. Go back, throw on, and enter all "
-                "throws together."]
+        return [ngettext("You entered {count} throw: {source}", "You entered {count} throws: {source}", throws, source=text),
+                _("{count} throws are needed. With fewer, somebody can try all orders that may come out, and know beforehand "
+                  "what suits them. Go back, throw on, and enter all throws together.", count=ENOUGH)]
     return []
 
 
@@ -101,14 +111,14 @@ def note_seed() -> None:
     office = office_now()
     made = seed_of(field("way"), text_of("text"))
     if office.phase != "closed":
-        tell("bad", f"There is nothing to draw now. {plain.PHASES[office.phase].title}.")
+        tell("bad", _("There is nothing to draw now. {phase}.", phase=_(plain.PHASES[office.phase].title)))
     elif isinstance(made, str):
         tell("bad", made)
     else:
         seed, source = made
         doubt = doubt_of(source.removeprefix(OF_TEXT)) if source.startswith(OF_TEXT) else []
         if doubt:
-            asked = Question("Note this seed?", doubt, "Yes: note the seed of this text", BACK)
+            asked = Question(_("Note this seed?"), doubt, _("Yes: note the seed of this text"), BACK)
             put_off(Pending(f"seed {seed} {source}", asked, source.removeprefix(OF_TEXT)))
         ask("note", line=f"seed {seed} {source}")
     go_to(BACK)
@@ -125,7 +135,7 @@ def pending(name: str) -> Pending:
     """What waits for this clerk's yes."""
     found = memory.held(clerk(), name)
     if not isinstance(found, Pending):
-        tell("bad", "The page no longer holds this. Nothing was noted.")
+        tell("bad", _("The page no longer holds this. Nothing was noted."))
         go_to(BACK)
     return found
 
@@ -144,7 +154,7 @@ def note(name: str) -> None:
     memory.let_go(clerk(), name)
     phase = office_now().phase
     if phase != "closed":
-        tell("bad", f"Nothing was noted. {plain.PHASES[phase].title}.")
+        tell("bad", _("Nothing was noted. {phase}.", phase=_(plain.PHASES[phase].title)))
     else:
         ask("note", line=line)
     go_to(BACK)
@@ -156,12 +166,13 @@ def strike() -> None:
     office, seed = office_now(), text_of("seed")
     found = [noted for noted in seeds_of(office).found if noted.seed == seed and not noted.struck]
     if office.phase != "closed" or not found:
-        tell("bad", "There is no such seed to strike out.")
+        tell("bad", _("There is no such seed to strike out."))
         go_to(BACK)
-    says = [f"The seed {seed} stays in the journal and in the public record, marked as struck out. Nothing is drawn "
-            "with it.", "Strike out only what was noted by mistake, such as a typing error, and only if the witnesses "
-            "agree. It cannot be undone, but the same seed can be noted again."]
-    put_off(Pending(f"seed {seed} {STRUCK}", Question("Strike this seed out?", says, "Yes: strike it out", BACK)))
+    says = [_("The seed {seed} stays in the journal and in the public record, marked as struck out. Nothing is drawn with it.",
+              seed=seed),
+            _("Strike out only what was noted by mistake, such as a typing error, and only if the witnesses agree. It cannot be "
+              "undone, but the same seed can be noted again.")]
+    put_off(Pending(f"seed {seed} {STRUCK}", Question(_("Strike this seed out?"), says, _("Yes: strike it out"), BACK)))
 
 
 # --- the draw itself
@@ -171,7 +182,7 @@ def draw() -> None:
     """Draws with a seed that is in the journal."""
     seed = text_of("seed")
     if seed not in [noted.seed for noted in seeds_of(office_now()).found if noted.counts]:
-        tell("bad", "This seed was not noted after the round was closed, or was struck out. Enter it first.")
+        tell("bad", _("This seed was not noted after the round was closed, or was struck out. Enter it first."))
     else:
         change("draw", seed=seed)
     go_to(BACK)

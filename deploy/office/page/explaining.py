@@ -7,6 +7,9 @@ import importlib
 import threading
 from typing import Any, NamedTuple
 
+from languages import _
+
+import audit_words
 from office_view import Office
 
 
@@ -76,7 +79,7 @@ def audit_of(office: Office) -> Any | None:
 def faults_of(office: Office) -> list[str] | None:
     """What the audit finds wrong with the office's results; None if it is not installed, or if there are no results."""
     audit = audit_of(office) if office.results else None
-    return None if audit is None else list(audit.faults())
+    return None if audit is None else [audit_words.told(fault) for fault in audit.faults()]
 
 
 class Explainer:  # pylint: disable=too-few-public-methods  # what is worked out once for all people
@@ -121,51 +124,80 @@ def about(office: Office, ident: str) -> list[str]:
     facts = explainer.facts_of(ident) if explainer else None
     if facts is None:
         return []
-    said = [f"{ident} had place {facts.place} of {facts.places} in the order"
-            + (f", and lived in {facts.home}, which nobody could take away." if facts.home else ", and had no room.")]
-    said += [f"{room}, on the list, was not in the round." for room in facts.out]
-    for gone in facts.gone:
-        said.append(f"{gone.room}, choice {gone.choice}, {to_whom(gone)}.")
+    said = [in_order(facts)]
+    said += [_("{room}, on the list, was not in the round.", room=room) for room in facts.out]
+    said += [to_whom(gone) for gone in facts.gone]
     said.append(outcome_of(facts))
     other = office.results.get(ident)
-    return said + ([f"But the office has {other or 'no room'} for {ident}."] if other != facts.got else [])
+    if other == facts.got:
+        return said
+    return said + [_("But the office has {room} for {person}.", room=other, person=ident) if other else
+                   _("But the office has no room for {person}.", person=ident)]
+
+
+def in_order(facts: Facts) -> str:
+    """Somebody's place in the order and room, for the office."""
+    if not facts.home:
+        return _("{person} had place {place} of {places} in the order, and had no room.",
+                 person=facts.ident, place=facts.place, places=facts.places)
+    return _("{person} had place {place} of {places} in the order, and lived in {home}, which nobody could take away.",
+             person=facts.ident, place=facts.place, places=facts.places, home=facts.home)
 
 
 def outcome_of(facts: Facts) -> str:
     """What somebody gets, for the office."""
     if facts.choice:
-        return f"In step {facts.step}, {facts.ident} got {facts.got}, choice {facts.choice}."
-    better = "Nothing better" if facts.got else "Nothing"
-    why = f"{better} on the list was left" if facts.wishes else f"{facts.ident} handed in no list"
-    return f"{why}, so {facts.ident} " + (f"keeps {facts.got}." if facts.got else "gets no room.")
+        return _("In step {step}, {person} got {room}, choice {choice}.",
+                 step=facts.step, person=facts.ident, room=facts.got, choice=facts.choice)
+    if facts.got:
+        text = (_("Nothing better on the list was left, so {person} keeps {room}.", person=facts.ident, room=facts.got)
+                if facts.wishes else
+                _("{person} handed in no list, so {person} keeps {room}.", person=facts.ident, room=facts.got))
+    else:
+        text = (_("Nothing on the list was left, so {person} gets no room.", person=facts.ident) if facts.wishes else
+                _("{person} handed in no list, so {person} gets no room.", person=facts.ident))
+    return text
 
 
 def to_whom(gone: Gone) -> str:
     """Who got a room, for the office."""
+    values = {"room": gone.room, "choice": gone.choice, "step": gone.step, "other": gone.other}
     if gone.tenant == gone.other:
-        return f"stayed in step {gone.step} with {gone.other}, who lives there"
-    went = f"went in step {gone.step} to {gone.other}, at place {gone.place}"
-    return f"{went}, in an exchange with {gone.tenant}, who lived there" if gone.tenant else went
+        return _("{room}, choice {choice}, stayed in step {step} with {other}, who lives there.", **values)
+    if gone.tenant:
+        return _("{room}, choice {choice}, went in step {step} to {other}, at place {place}, in an exchange with {tenant}, who "
+                 "lived there.", **values, place=gone.place, tenant=gone.tenant)
+    return _("{room}, choice {choice}, went in step {step} to {other}, at place {place}.", **values, place=gone.place)
 
 
 def to_a_resident(gone: Gone) -> str:
     """Who got a room, for a letter."""
     if gone.tenant == gone.other:
-        return "stayed with the resident who lives there"
-    went = f"went to the resident at place {gone.place}"
-    return f"{went}, in an exchange with the resident who lived there" if gone.tenant else went
+        return _("{room}, your choice {choice}, stayed with the resident who lives there.", room=gone.room, choice=gone.choice)
+    if gone.tenant:
+        return _("{room}, your choice {choice}, went to the resident at place {place}, in an exchange with the resident who lived "
+                 "there.", room=gone.room, choice=gone.choice, place=gone.place)
+    return _("{room}, your choice {choice}, went to the resident at place {place}.",
+             room=gone.room, choice=gone.choice, place=gone.place)
 
 
 def to_resident(facts: Facts) -> list[str]:
     """The sentences of a letter. Other people appear by their place in the order alone."""
-    said = [f"Your place in the order was {facts.place} of {facts.places}."
-            + (f" You lived in {facts.home}, and nobody could take it from you." if facts.home else "")]
-    said += [f"{room}, on your list, was not in the exchange." for room in facts.out]
-    for gone in facts.gone:
-        said.append(f"{gone.room}, your choice {gone.choice}, {to_a_resident(gone)}.")
+    said = [_("Your place in the order was {place} of {places}. You lived in {home}, and nobody could take it from you.",
+              place=facts.place, places=facts.places, home=facts.home) if facts.home else
+            _("Your place in the order was {place} of {places}.", place=facts.place, places=facts.places)]
+    said += [_("{room}, on your list, was not in the exchange.", room=room) for room in facts.out]
+    said += [to_a_resident(gone) for gone in facts.gone]
+    return said + [your_outcome(facts)]
+
+
+def your_outcome(facts: Facts) -> str:
+    """What somebody gets, for a letter."""
     if facts.choice:
-        return said + [f"{facts.got}, your choice {facts.choice}, was the best room on your list that you could get."]
-    why = "nothing better on your list was left" if facts.wishes else "you handed in no list"
+        return _("{room}, your choice {choice}, was the best room on your list that you could get.",
+                 room=facts.got, choice=facts.choice)
     if facts.got:
-        return said + [f"You keep {facts.got}, since {why}."]
-    return said + [f"You get no room, since {why.replace('better ', '')}."]
+        return (_("You keep {room}, since nothing better on your list was left.", room=facts.got) if facts.wishes else
+                _("You keep {room}, since you handed in no list.", room=facts.got))
+    return (_("You get no room, since nothing on your list was left.") if facts.wishes else
+            _("You get no room, since you handed in no list."))

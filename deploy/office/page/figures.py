@@ -3,7 +3,9 @@
 from collections import Counter
 from typing import NamedTuple
 
-from office_view import OFF_THE_LIST, Office
+from languages import _
+
+from office_view import Office
 
 # Choices beyond this one share a bar.
 LAST_BAR = 12
@@ -37,7 +39,7 @@ def figures_of(office: Office) -> Figures:
     numbers = [office.choice_number(ident) for ident in office.results]
     choices = Counter(number for number in numbers if number)
     none = [ident for ident, room in office.results.items() if room is None]
-    off = [ident for ident in office.results if office.outcome(ident) == OFF_THE_LIST]
+    off = [ident for ident in office.results if office.is_off_the_list(ident)]
     keep = len(office.results) - choices.total() - len(none) - len(off)
     withdrawn_homes = {person.home for person in office.withdrawn}
     given = set(office.results.values()) | withdrawn_homes
@@ -51,9 +53,9 @@ def figures_of(office: Office) -> Figures:
 def bars_of(choices: Counter[int], keep: int, off: int, none: int) -> list[Bar]:
     """The bars of the picture."""
     last = min(max(choices, default=0), LAST_BAR)
-    rows = [(f"Choice {number}", choices[number]) for number in range(1, last + 1)]
+    rows = [(_("Choice {number}", number=number), choices[number]) for number in range(1, last + 1)]
     later = sum(count for number, count in choices.items() if number > LAST_BAR)
-    rows += [("A later choice", later)] if later else []
-    rows += [("Keep their room", keep), *([("A room off the list", off)] if off else []), ("No room", none)]
+    rows += [(_("A later choice"), later)] if later else []
+    rows += [(_("Keep their room"), keep), *([(_("A room off the list"), off)] if off else []), (_("No room"), none)]
     longest = max(count for _, count in rows) or 1
     return [Bar(name, count, round(100 * count / longest)) for name, count in rows]

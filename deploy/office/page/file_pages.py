@@ -10,6 +10,8 @@ from typing import Any, NamedTuple
 import bottle  # type: ignore[import]  # Debian's bottle has no types
 
 import times
+from journal import OWN_TEXTS
+from languages import N_, _, ngettext
 from seeds import merged
 
 import explaining
@@ -119,6 +121,17 @@ def check_download() -> bottle.HTTPResponse:
 
 # --- copies and the way back
 
+# What the office is after the way back, by the phase of the copy.
+THEN = {
+    "idle": N_("Then this holds again: no round is under way."),
+    "open": N_("Then this holds again: the round is open (round {number})."),
+    "closed": N_("Then this holds again: the round is closed (round {number})."),
+    "drawn": N_("Then this holds again: the order is drawn (round {number})."),
+    "ran": N_("Then this holds again: the rooms are given (round {number})."),
+    "published": N_("Then this holds again: the results are published (round {number})."),
+}
+
+
 class Copy(NamedTuple):
     """A copy of the office: its name, when it was made, its size, and why it was taken; until which day it stays at most,
     and after how many more of its kind it goes earlier."""
@@ -149,7 +162,7 @@ def look_at_days() -> None:
     """Leads to the question about a number of days."""
     days = text_of("days")
     if not re.fullmatch(r"[0-9]{1,4}", days):
-        tell("bad", "Write a number of days, such as 400. Nothing was changed.")
+        tell("bad", _("Write a number of days, such as 400. Nothing was changed."))
         go_to("/office/copies")
     go_to(f"/office/copies/days/{int(days)}")
 
@@ -158,19 +171,21 @@ def look_at_days() -> None:
 def ask_days(days: int) -> str:
     """Asks before copies stay for another number of days."""
     gone = days_gone(days, True)
-    counted = f"{gone} copies are older, and are" if gone > 1 else "One copy is older, and is"
-    says = [f"{counted} deleted at once. You cannot take this back." if gone else "No copy is older now.",
-            f"From then on each copy is deleted when it is {days} days old, or earlier if there are enough newer ones of its "
-            "kind. Copies that the administrator has taken elsewhere stay there."]
-    title = f"Keep copies for {days} days at most?"
-    return put_question(office_now(), Question(title, says, "Yes: keep them for so long", "/office/copies"))
+    says = [ngettext("One copy is older, and is deleted at once. You cannot take this back.",
+                     "{count} copies are older, and are deleted at once. You cannot take this back.", gone)
+            if gone else _("No copy is older now."),
+            _("From then on each copy is deleted when it is {days} days old, or earlier if there are enough newer ones of its "
+              "kind. Copies that the administrator has taken elsewhere stay there.", days=days)]
+    title = _("Keep copies for {days} days at most?", days=days)
+    return put_question(office_now(), Question(title, says, _("Yes: keep them for so long"), "/office/copies"))
 
 
 @app.post("/office/copies/days/<days:int>")
 def set_days(days: int) -> None:
     """Sets for how many days copies stay."""
     gone = days_gone(days, False)
-    tell("good", f"Copies stay for {days} days at most. {gone or 'No'} {'copy was' if gone == 1 else 'copies were'} deleted.")
+    deleted = ngettext("{count} copy was deleted.", "{count} copies were deleted.", gone) if gone else _("No copies were deleted.")
+    tell("good", f"{_('Copies stay for {days} days at most.', days=days)} {deleted}")
     go_to("/office/copies")
 
 
@@ -186,19 +201,20 @@ def days_gone(days: int, only_try: bool) -> int:
 @app.post("/office/copies")
 def copy() -> None:
     """Makes a copy of the office."""
-    tell("good", f"The copy of {times.of_copy(ask('backup')['name'])} is made.")
+    tell("good", _("The copy of {time} is made.", time=times.of_copy(ask("backup")["name"])))
     go_to("/office/copies")
 
 
 def facts_of(found: dict[str, Any]) -> tuple[Fact, ...]:
     """What becomes of people by going back to a copy."""
     named = {name: [f"{ident} {person}" for ident, person in found[name]] for name in ("come", "go")}
-    facts = [Fact("Old keys that work again, in place of newer ones", found["keys"]),
-             Fact("Names that become again what they were", [f"{ident}: {old}, now {new}" for ident, old, new in found["names"]]),
-             Fact("People who come back into the register", named["come"]),
-             Fact("People who go out of the register", named["go"]),
-             Fact("People whose lists of this round become again what they were", found["lists"]),
-             Fact("People whose withdrawal, or note that they leave the college, goes or comes back", found["part"])]
+    facts = [Fact(_("Old keys that work again, in place of newer ones"), found["keys"]),
+             Fact(_("Names that become again what they were"),
+                  [_("{person}: {old}, now {new}", person=ident, old=old, new=new) for ident, old, new in found["names"]]),
+             Fact(_("People who come back into the register"), named["come"]),
+             Fact(_("People who go out of the register"), named["go"]),
+             Fact(_("People whose lists of this round become again what they were"), found["lists"]),
+             Fact(_("People whose withdrawal, or note that they leave the college, goes or comes back"), found["part"])]
     return tuple(fact for fact in facts if fact.items)
 
 
@@ -208,28 +224,31 @@ def ask_back(name: str) -> str:
     office, found = office_now(), ask("compare", name=name)
     number, phase = found["round"]
     made = times.of_copy(name)
-    says = [f"The office becomes again what it was when the copy was made, on {made}. All that happened since then is "
-            "undone: lists that residents handed in, steps of the round, imports, and what you changed in the register.",
-            f"Then this holds again: {plain.PHASES[phase].title[0].lower()}{plain.PHASES[phase].title[1:]}"
-            + (f" (round {number})." if phase != "idle" else "."),
-            "The keeper makes a copy of the present office first, so you can come back from this too.",
-            "Tell the residents if they handed in lists after the copy: they have to hand them in again."]
+    says = [_("The office becomes again what it was when the copy was made, on {time}. All that happened since then is undone: "
+              "lists that residents handed in, steps of the round, imports, and what you changed in the register.", time=made),
+            _(THEN[phase], number=number),
+            _("The keeper makes a copy of the present office first, so you can come back from this too."),
+            _("Tell the residents if they handed in lists after the copy: they have to hand them in again.")]
     if found["keys"]:
-        says.append("If a key was lost, or others know it, make new keys for these people afterwards.")
-    title = f"Go back to the copy of {made}?"
-    return put_question(office, Question(title, says, "Yes: go back to this copy", "/office/copies", facts=facts_of(found)))
+        says.append(_("If a key was lost, or others know it, make new keys for these people afterwards."))
+    title = _("Go back to the copy of {time}?", time=made)
+    return put_question(office, Question(title, says, _("Yes: go back to this copy"), "/office/copies", facts=facts_of(found)))
 
 
 @app.post("/office/copies/<name>/back")
 def back(name: str) -> None:
     """Puts a copy back."""
     found = ask("back", name=name, seen=field("seen"))
-    tell("good", f"The office is back at the copy of {times.of_copy(name)}. What it was before is in the copy of "
-                 f"{times.of_copy(found['name'])}.")
+    tell("good", _("The office is back at the copy of {time}. What it was before is in the copy of {before}.",
+                   time=times.of_copy(name), before=times.of_copy(found["name"])))
+    if lost := found.get("lists"):
+        tell("bad", _("These people had another list before, which does not count now: {people}. Tell them to hand it in again.",
+                      people=", ".join(lost)))
     if keys := found.get("keys"):
-        of = f"{len(keys)} people work" if len(keys) > 1 else "one person work"
-        tell("bad", f"Old keys of {of} again, and the newer ones do not. If a key was lost, or others know it, make a new key "
-                    "now. Take out whoever needs none.")
+        tell("bad", ngettext("Old keys of one person work again, and the newer ones do not. If a key was lost, or others know "
+                             "it, make a new key now. Take out whoever needs none.",
+                             "Old keys of {count} people work again, and the newer ones do not. If a key was lost, or others "
+                             "know it, make a new key now. Take out whoever needs none.", len(keys)))
         propose_keys(keys)
     go_to("/office/")
 
@@ -240,4 +259,4 @@ def back(name: str) -> None:
 def journal() -> str:
     """What was done, the newest first."""
     entries = merged(ask("journal", last=SHOWN_ENTRIES)["journal"])
-    return show("journal", office=office_now(), entries=entries[::-1])
+    return show("journal", office=office_now(), entries=entries[::-1], own=OWN_TEXTS)

@@ -5,6 +5,8 @@ from typing import ClassVar, NamedTuple
 
 from bottle import request  # type: ignore[import]  # Debian's bottle has no types
 
+from languages import N_, _
+
 import plain
 from app import app, ask, clerk, field, go_to, memory, office_now, show, tell, ticked
 from coming_back import GivenUp, bodies, had_in, has_come_again, rounds, what_is_left
@@ -35,7 +37,7 @@ def round_of(office: Office, copy: str) -> GivenUp:
     """The round that was given up after this copy was made. If there is none, leads to the overview."""
     found = next((one for one in rounds(office) if one.copy == copy), None)
     if found is None:
-        tell("bad", "Nothing of this round can come back now.")
+        tell("bad", _("Nothing of this round can come back now."))
         go_to("/office/")
     return found
 
@@ -48,7 +50,7 @@ def out_of(idents: list[str]) -> list[str]:
     held = memory.held(clerk(), query["out"])
     if isinstance(held, TakenOut):
         return held.idents
-    tell("bad", "The page no longer knows whom you had taken out. Tick again who is to come back.")
+    tell("bad", _("The page no longer knows whom you had taken out. Tick again who is to come back."))
     return idents
 
 
@@ -57,9 +59,10 @@ def rows_of(office: Office, idents: list[str], out: list[str]) -> list[Row]:
     found = []
     for ident in idents:
         again = has_come_again(office, ident)
-        note = "taken out: this does not come back" if ident in out else "has handed in a list in this round" if again else ""
+        note = (_("Taken out: this does not come back") if ident in out else
+                _("Has handed in a list in this round") if again else "")
         person = office.people[ident]
-        found.append(Row(ident, person.name, person.home or "no room", not note, note))
+        found.append(Row(ident, person.name, person.home or _("no room"), not note, note))
     return found
 
 
@@ -86,10 +89,10 @@ def bring_back(copy: str) -> None:
     place = f"/office/given-up/{copy}?out={memory.hold(clerk(), out)}"
     must_be_sure(place)
     if office.phase != "open" or field("seen") != office.stamp:
-        tell("bad", f"Nothing was changed. {plain.PHASES[office.phase].title}. Look again.")
+        tell("bad", _("Nothing was changed. {phase}. Look again.", phase=_(plain.PHASES[office.phase].title)))
         go_to(place)
     if field("saw") != office.saw("all", *back.away).mark:
-        tell("bad", "Nothing was changed. What is on record of one of these people was changed after you looked. Look again.")
+        tell("bad", _("Nothing was changed. What is on record of one of these people was changed after you looked. Look again."))
         go_to(place)
     came = Came()
     came.take_away(office, "going", [ident for ident in back.going if ident in going])
@@ -104,7 +107,7 @@ def bring_back(copy: str) -> None:
 class Came:
     """What has come in so far, and the fault that has ended this, if any."""
 
-    WORDS: ClassVar = {"going": "who leaves the college", "withdraw": "withdrawals"}
+    WORDS: ClassVar = {"going": N_("who leaves the college: {count} of {all}"), "withdraw": N_("withdrawals: {count} of {all}")}
 
     done: list[str] = own(default_factory=list)
     fault: str = ""
@@ -118,7 +121,7 @@ class Came:
                 break
             count += len(group.saw.people)
         if count:
-            self.done.append(f"{self.WORDS[act]}: {count} of {len(idents)}")
+            self.done.append(_(self.WORDS[act], count=count, all=len(idents)))
 
     def take_lists(self, lists: dict[str, list[str]]) -> None:
         """Imports the lists of those who have handed in none meanwhile, under a label each if they are too long for one."""
@@ -131,16 +134,16 @@ class Came:
                 break
             count += len(people)
         if count:
-            self.done.append(f"lists: {count} of {len(left)}")
+            self.done.append(_("lists: {count} of {all}", count=count, all=len(left)))
 
     def report(self) -> None:
         """Tells the clerk."""
         if self.done:
-            tell("good", f"Back in this round: {', '.join(self.done)}.")
+            tell("good", _("Back in this round: {what}.", what=", ".join(self.done)))
         if self.fault:
-            tell("bad", f"Then this came: {self.fault} What is not back yet stands below: look, and go on.")
+            tell("bad", _("Then this came: {fault} What is not back yet stands below: look, and go on.", fault=self.fault))
         elif not self.done:
-            tell("bad", "You have chosen nothing. Nothing was changed.")
+            tell("bad", _("You have chosen nothing. Nothing was changed."))
 
 
 def fault_of_list(job: Job) -> str:

@@ -5,6 +5,8 @@ import os
 import socket
 from typing import Any, NamedTuple
 
+from languages import _, spoken
+
 SOCKET = os.environ.get("ROOMS_SOCKET", "/run/rooms-keeper.sock")
 # The keeper gives up earlier than this, and says so itself.
 PATIENCE = 110
@@ -21,21 +23,22 @@ class Answer(NamedTuple):
     status: int
 
 
-def ask(question: str, who: str, **fields: Any) -> dict[str, Any]:
-    """Asks in the name of a clerk, and gives the keeper's reply."""
-    line = json.dumps({"ask": question, "who": who, **fields}).encode() + b"\n"
+def ask(question: str, who: str, patience: float = PATIENCE, **fields: Any) -> dict[str, Any]:
+    """Asks in the name of a clerk, who waits for so many seconds and reads faults in the language that is spoken, and gives
+    the keeper's reply."""
+    line = json.dumps({"ask": question, "who": who, "speaks": spoken(), **fields}).encode() + b"\n"
     try:
         with socket.socket(socket.AF_UNIX) as connection:
-            connection.settimeout(PATIENCE)
+            connection.settimeout(patience)
             connection.connect(SOCKET)
             connection.sendall(line)
             reply = json.loads(connection.makefile("rb").readline() or b"null")
     except (OSError, ValueError) as fault:
-        raise KeeperFault("The keeper of the office's file does not answer. Nobody knows whether the last step was "
-                          "carried out. Wait a minute, and look before you try again.") from fault
+        raise KeeperFault(_("The keeper of the office's file does not answer. Nobody knows whether the last step was "
+                            "carried out. Wait a minute, and look before you try again.")) from fault
     if not isinstance(reply, dict):
-        raise KeeperFault("The keeper of the office's file ended during this step. Nobody knows whether it was "
-                          "carried out. Look before you try again.")
+        raise KeeperFault(_("The keeper of the office's file ended during this step. Nobody knows whether it was "
+                            "carried out. Look before you try again."))
     if "fault" in reply:
         raise KeeperFault(str(reply["fault"]))
     return reply

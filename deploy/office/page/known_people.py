@@ -2,6 +2,8 @@
 
 from typing import NamedTuple
 
+from languages import _
+
 from csv_list import CsvList
 from office_view import Office
 
@@ -44,7 +46,7 @@ def differences_of(office: Office, fields: list[str]) -> list[Difference]:
     """Where a record says something else than the register. An empty field says nothing."""
     if len(fields) != len(HEADER):
         return []
-    ident, name, _, home = fields
+    ident, name, __, home = fields
     person = office.people[ident]
-    pairs = [(name, person.name), (home, person.home or "no room")]
+    pairs = [(name, person.name), (home, person.home or _("no room"))]
     return [Difference(ident, said, kept) for said, kept in pairs if said and said != kept]

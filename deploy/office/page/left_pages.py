@@ -1,5 +1,7 @@
 """Offers to remove those who left the college in the round that was just settled."""
 
+from languages import _
+
 import plain
 from app import app, go_to, office_now, show, tell
 from many_pages import MOST_AT_ONCE
@@ -10,9 +12,9 @@ def left() -> str:
     """Who left, each with a tick. The form leads to the question of the page about many people."""
     office = office_now()
     if office.phase != "idle":
-        tell("bad", f"{plain.PHASES[office.phase].title}. People can be removed only between two rounds.")
+        tell("bad", _("{phase}. People can be removed only between two rounds.", phase=_(plain.PHASES[office.phase].title)))
         go_to("/office/")
     if not office.left:
-        tell("good", "Nobody who left the college in the last round is in the register any more.")
+        tell("good", _("Nobody who left the college in the last round is in the register any more."))
         go_to("/office/")
     return show("left", office=office, left=office.left[:MOST_AT_ONCE], more=len(office.left) - MOST_AT_ONCE)

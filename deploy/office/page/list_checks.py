@@ -7,13 +7,15 @@ is written, what the register has, and what is in the list twice. What it does n
 import re
 from collections.abc import Callable, Iterator
 
+from languages import N_, _
+from lines import IDENTIFIER
+
 import plain
 from csv_list import CsvList
 from office_view import Office
 from plain import Meaning
 
 CODE = re.compile(r"[A-Z0-9][A-Z0-9-]{0,7}")
-IDENTIFIER = re.compile(r"[A-Z0-9]{1,12}")
 KEY = re.compile(r"[a-z0-9]{16,64}")
 GRADE = re.compile(r"[0-9]")
 UNSEEN = re.compile(r"[\x00-\x1f\x7f]|^ | $|  ")
@@ -38,8 +40,10 @@ FORMS: dict[str, tuple[Form, ...]] = {
     "grades": (IDENTIFIER.fullmatch, GRADE.fullmatch),
     "choices": (IDENTIFIER.fullmatch, is_list),
 }
-# What may be in a list once, by kind: the field, and what it is.
-ONCE = {"rooms": {0: "room"}, "people": {0: "person", 2: "key", 3: "room"}}
+ROOM_AGAIN = N_("This room is in row {row} of this list already.")
+# What may be in a list once, by kind: the field, and what is said of it the second time.
+ONCE = {"rooms": {0: ROOM_AGAIN}, "people": {0: N_("This person is in row {row} of this list already."),
+                                             2: N_("This key is in row {row} of this list already."), 3: ROOM_AGAIN}}
 
 
 def badly_written(kind: str, fields: list[str]) -> Meaning | None:
@@ -54,23 +58,23 @@ def badly_written(kind: str, fields: list[str]) -> Meaning | None:
 def of_record(office: Office, kind: str, fields: list[str]) -> Meaning | None:
     """What is wrong with a record beside the register, if anything."""
     if kind == "rooms":
-        return plain.REFUSALS[4] if fields[0] in office.rooms else None
+        return plain.REFUSALS[4].translated() if fields[0] in office.rooms else None
     if kind == "people":
         return of_home(office, fields)
     if fields[0] not in office.people:
-        return plain.REFUSALS[2]
+        return plain.REFUSALS[2].translated()
     codes = fields[1].split() if kind == "choices" else []
-    return plain.REFUSALS[3] if any(code not in office.rooms for code in codes) else None
+    return plain.REFUSALS[3].translated() if any(code not in office.rooms for code in codes) else None
 
 
 def of_home(office: Office, fields: list[str]) -> Meaning | None:
     """What is wrong with a person who is to come in, or with the room where they live."""
     if fields[0] in office.people:
-        return plain.REFUSALS[5]
+        return plain.REFUSALS[5].translated()
     room = office.rooms.get(fields[3])
     if not fields[3] or (room and not room.shut and not room.tenant):
         return None
-    return plain.REFUSALS[3 if room is None else 7 if room.shut else 8]
+    return plain.REFUSALS[3 if room is None else 7 if room.shut else 8].translated()
 
 
 def find(office: Office, kind: str, table: CsvList, apart: set[int]) -> Iterator[tuple[int, Meaning]]:
@@ -81,11 +85,10 @@ def find(office: Office, kind: str, table: CsvList, apart: set[int]) -> Iterator
         if not number or number in apart:
             continue
         meaning = badly_written(kind, record.fields) or of_record(office, kind, record.fields)
-        for place, what in once.items():
+        for place, says in once.items():
             field = record.fields[place] if place < len(record.fields) else ""
             if meaning is None and field and (place, field) in rows:
-                meaning = Meaning(f"This {what} is in row {rows[place, field]} of this list already.",
-                                  "Correct one of the two lines, or take it out.")
+                meaning = Meaning(_(says, row=rows[place, field]), _("Correct one of the two lines, or take it out."))
         if meaning:
             yield number, meaning
         for place in once if len(record.fields) == len(FORMS[kind]) else ():

@@ -5,7 +5,8 @@ import time
 from collections.abc import Callable
 from typing import NamedTuple
 
-from journal import masked
+from journal import KEY, masked
+from languages import _
 
 import list_checks
 import plain
@@ -37,8 +38,9 @@ class Findings(NamedTuple):
 
 def fields_shown(fields: list[str], kind: str) -> list[str]:
     """Fields for the screen. A key is never shown, not even one that is no key yet or is in another column."""
-    fields = ["(key)" if kind == "people" and place == 2 and field else field for place, field in enumerate(fields)]
-    return [masked(field.encode("utf-8", "replace").decode()) for field in fields]
+    key = _(KEY)
+    fields = [key if kind == "people" and place == 2 and field else field for place, field in enumerate(fields)]
+    return [masked(field.encode("utf-8", "replace").decode(), key) for field in fields]
 
 
 def shown(fields: list[str], kind: str) -> str:
@@ -89,6 +91,6 @@ def find(office: Office, table: CsvList, kind: str, attempt: Callable[[bytes], A
 def refusal(answer: Answer) -> Meaning:
     """Why a list was refused as a whole."""
     if answer.text.startswith("rooms: not"):
-        return Meaning("The label is not well written.",
-                       "Write up to 32 small letters, digits and hyphens, the first no hyphen.")
+        return Meaning(_("The label is not well written."),
+                       _("Write up to 32 small letters, digits and hyphens, the first no hyphen."))
     return plain.meaning(answer.text)

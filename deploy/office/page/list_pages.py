@@ -4,6 +4,7 @@ import base64
 from typing import Any, NamedTuple
 
 from journal import masked
+from languages import _
 from seen import Saw
 
 import known_people
@@ -12,6 +13,7 @@ import mail_lists
 import plain
 import understanding
 from app import app, ask, change, clerk, field, go_to, memory, office_now, show, tell, text_of, upload_of
+from columns import kind_name
 from csv_list import CsvList
 from keeper_client import Answer, answers_of
 from known_people import Beside
@@ -56,16 +58,16 @@ def try_list(job: Job) -> Answer:
 def what_is_wrong(office: Office, kind: str, label: str, body: bytes) -> str:
     """Why a list is not even tried, or nothing."""
     if kind not in plain.kinds(office.version) or not body:
-        return "Choose a list first."
+        return _("Choose a list first.")
     if len(body) > LONGEST_FILE:
-        return plain.TOO_LONG
-    return plain.LABEL_LIKE_A_KEY if masked(label) != label else ""
+        return _(plain.TOO_LONG)
+    return _(plain.LABEL_LIKE_A_KEY) if masked(label) != label else ""
 
 
 @app.get("/office/lists")
 def lists() -> str:
     """The forms for lists, and the imported lists."""
-    return show("lists", office=office_now())
+    return show("lists", office=office_now(), kind_name=kind_name)
 
 
 @app.post("/office/lists")
@@ -81,7 +83,7 @@ def look_at_list() -> str:
         found = Findings([], fault.meaning, False)
         return show("faults", office=office, job=Job(kind, label, b""), found=found, answer="", beside=NOBODY, read=None)
     if len(read.body) > plain.LONGEST_LIST:
-        tell("bad", plain.TOO_LONG)
+        tell("bad", _(plain.TOO_LONG))
         go_to("/office/lists")
     beside, mailed = NOBODY, NO_ADDRESSES
     if kind == "people":
@@ -103,7 +105,8 @@ def looked_at(office: Office, job: Job, table: CsvList, beside: Beside, read: Un
     if read and job.kind == "people" and field("keys"):
         made = table.fill_keys(beside.known)
     if made or beside.known:
-        job = job._replace(body=table.body(without=beside.known), departed=tuple(beside.departed))
+        new = {record.fields[0] for number, record in enumerate(table.records) if number not in beside.known}
+        job = job._replace(body=table.body(without=beside.known), departed=tuple(beside.departed), mailed=job.mailed.of(new))
     answer = try_list(job)
     if answer.status == 0:
         return fitting_list(office, job, made, beside, read)
@@ -130,7 +133,8 @@ def fitting_list(office: Office, job: Job, made: list[tuple[str, str, str]], bes
     people = [record.fields[0] for record in table.records[1:]]
     others = [person for person in people if person not in replaced]
     return show("fits", office=office, job=job, count=len(people), made=made, replaced=list(replaced), beside=beside,
-                read=read, held=hold(office, job, people), held_rest=hold(office, rest, others) if replaced else "")
+                kind_name=kind_name, read=read, held=hold(office, job, people),
+                held_rest=hold(office, rest, others) if replaced else "")
 
 
 def hold(office: Office, job: Job, people: list[str]) -> str:
@@ -145,15 +149,15 @@ def bring_list() -> str:
     office, name = office_now(), text_of("held")
     job: Any = memory.held(clerk(), name)
     if not isinstance(job, Job):
-        tell("bad", "The page no longer holds this list. Nothing was imported now. If the list is not in yet, send it again, and "
-                    "destroy slips that you printed for it: they do not work.")
+        tell("bad", _("The page no longer holds this list. Nothing was imported now. If the list is not in yet, send it again, "
+                      "and destroy slips that you printed for it: they do not work."))
     elif office.has_label(job.label):
-        tell("bad", f"A list was imported under the label {job.label} meanwhile. Send yours under another label.")
+        tell("bad", _("A list was imported under the label {label} meanwhile. Send yours under another label.", label=job.label))
     elif is_stale(office, job):
         return look_again(office, job)
     elif change("import", **job.fields()):
         memory.let_go(clerk(), name)
-        mail_lists.bring(job.mailed.pairs)
+        mail_lists.bring(job.mailed)
         if job.departed:
             go_to(f"/office/departed/{memory.hold(clerk(), Departed(job.departed))}")
     elif is_stale(office := office_now(), job):
@@ -168,14 +172,14 @@ def is_stale(office: Office, job: Job) -> bool:
 
 def look_again(office: Office, job: Job) -> str:
     """The page of a list, as it is now that somebody else has changed what it replaces."""
-    tell("bad", "What this list replaces has changed since you tried it. Nothing came in: look again.")
+    tell("bad", _("What this list replaces has changed since you tried it. Nothing came in: look again."))
     table, beside = CsvList(job.body), NOBODY
     if job.kind == "people":
         beside = known_people.compare(office, table)._replace(departed=list(job.departed))
     if beside.known:
         came = ", ".join(sorted(table.records[number].fields[0] for number in beside.known))
-        tell("bad", f"Meanwhile these people came into the register: {came}. If you have printed slips for them, "
-                    "destroy these: their keys are other ones. All other slips stay good.")
+        tell("bad", _("Meanwhile these people came into the register: {people}. If you have printed slips for them, "
+                      "destroy these: their keys are other ones. All other slips stay good.", people=came))
     return looked_at(office, job, table, beside, None)
 
 
@@ -194,7 +198,7 @@ def departed(name: str) -> str:
     """People of the register who are not on the list that has come in."""
     kept: Any = memory.held(clerk(), name)
     if not isinstance(kept, Departed):
-        tell("bad", "The page no longer knows who was not on the list. Send the list again: it changes nothing.")
+        tell("bad", _("The page no longer knows who was not on the list. Send the list again: it changes nothing."))
         go_to("/office/lists")
     office = office_now()
     return show("departed", office=office, **departed_form(office, kept.idents))
@@ -203,15 +207,16 @@ def departed(name: str) -> str:
 @app.get("/office/blank/<label>")
 def ask_blank(label: str) -> str:
     """Asks before the bytes of a kept list are deleted."""
-    says = [f"The office keeps the list {label} as it was imported, with names, keys, homes or wishes. Blanking "
-            "deletes what is in it. The register does not change, and the label stays taken.",
-            "You cannot take it back. Older copies still hold the list until they are deleted."]
-    return put_question(office_now(), Question(f"Blank the list {label}?", says, "Yes: blank it", "/office/lists"))
+    says = [_("The office keeps the list {label} as it was imported, with names, keys, homes or wishes. Blanking "
+              "deletes what is in it. The register does not change, and the label stays taken.", label=label),
+            _("You cannot take it back. Older copies still hold the list until they are deleted.")]
+    title = _("Blank the list {label}?", label=label)
+    return put_question(office_now(), Question(title, says, _("Yes: blank it"), "/office/lists"))
 
 
 @app.post("/office/blank/<label>")
 def blank(label: str) -> None:
     """Deletes the bytes of a kept list."""
     ask("blank", label=label, seen=field("seen"))
-    tell("good", f"The list {label} is blank.")
+    tell("good", _("The list {label} is blank.", label=label))
     go_to("/office/lists")

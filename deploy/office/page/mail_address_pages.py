@@ -2,9 +2,11 @@
 
 from bottle import HTTPResponse  # type: ignore[import]  # Debian's bottle has no types
 
+from languages import _, ngettext
+
 import columns
 import plain
-from app import app, ask, clerk, download, field, go_to, memory, office_now, show, tell, text_of, upload_of
+from app import app, ask, clerk, download, field, go_to, memory, office_now, show, tell, text_of, ticked, upload_of
 from csv_list import line_of
 from keeper_client import KeeperFault
 from list_faults import Findings
@@ -19,7 +21,9 @@ HOME = "/office/mail"
 @app.get(f"{HOME}/addresses.csv")
 def export() -> HTTPResponse:
     """All addresses, as they can come in again."""
-    rows = [columns.targets_of(columns.ADDRESSES), *([ident, text] for ident, text in ask("mail-list")["addresses"].items())]
+    spoken = ask("languages")["residents"]
+    rows = [columns.targets_of(columns.ADDRESSES),
+            *([ident, text, spoken.get(ident, "")] for ident, text in ask("mail-list")["addresses"].items())]
     return download("".join(map(line_of, rows)), "addresses.csv")
 
 
@@ -28,12 +32,12 @@ def look_at_addresses() -> str:
     """Reads a file of addresses. Nothing is changed before the clerk says yes."""
     office, body = office_now(), upload_of("list", LONGEST_FILE)
     if not body or len(body) > LONGEST_FILE:
-        tell("bad", plain.TOO_LONG if body else "Choose a list first.")
+        tell("bad", _(plain.TOO_LONG) if body else _("Choose a list first."))
         go_to(HOME)
     try:
         found = in_file(office, body)
     except NotUnderstood as fault:
-        tell("bad", f"Nothing came in. {Findings([], fault.meaning, False).whole}")
+        tell("bad", _("Nothing came in. {why}", why=Findings([], fault.meaning, False).whole))
         go_to(HOME)
     go_to(f"{HOME}/addresses/{memory.hold(clerk(), found)}")
 
@@ -43,12 +47,14 @@ def addresses(name: str) -> str:
     """What a file of addresses would change."""
     found = memory.held(clerk(), name)
     if not isinstance(found, Addresses):
-        tell("bad", "The page no longer holds this list. Nothing came in now.")
+        tell("bad", _("The page no longer holds this list. Nothing came in now."))
         go_to(HOME)
     old = ask("mail-list")["addresses"]
-    new = [ident for ident, _ in found.pairs if ident not in old]
+    new = [ident for ident, _text in found.pairs if ident not in old]
     other = [(ident, old[ident], text) for ident, text in found.pairs if ident in old and old[ident] != text]
-    return show("mail_addresses", office=office_now(), found=found, new=new, other=other, held=name)
+    before = ask("languages")["residents"]
+    tongues = [ident for ident, code in found.languages if before.get(ident) != code]
+    return show("mail_addresses", office=office_now(), found=found, new=new, other=other, tongues=tongues, held=name)
 
 
 @app.post(f"{HOME}/addresses/bring")
@@ -57,17 +63,17 @@ def bring_addresses() -> None:
     name = text_of("held")
     found = memory.held(clerk(), name)
     if not isinstance(found, Addresses):
-        tell("bad", "The page no longer holds this list. Nothing came in now: send it again.")
-    elif bring(found.pairs):
+        tell("bad", _("The page no longer holds this list. Nothing came in now: send it again."))
+    elif bring(found):
         memory.let_go(clerk(), name)
     go_to(HOME)
 
 
 @app.post(f"{HOME}/strangers")
 def erase_strangers() -> None:
-    """Erases the addresses of people who are not in the register."""
-    strangers = ask("mail")["strangers"]
-    set_addresses({ident: "" for ident in strangers})
+    """Erases the addresses of people who are not in the register, of those whom the clerk saw alone."""
+    strangers = set(ask("mail")["strangers"])
+    set_addresses({ident: "" for ident in ticked("person") if ident in strangers})
     go_to(HOME)
 
 
@@ -84,6 +90,6 @@ def set_addresses(pairs: dict[str, str], was: str | None = None) -> None:
     try:
         changed = ask("mail-addresses", addresses=pairs, was=was)["changed"]
     except KeeperFault as fault:
-        tell("bad", f"The mail address was not changed: {fault}")
+        tell("bad", _("The mail address was not changed: {why}", why=fault))
         return
-    tell("good", "The mail address is changed." if changed == 1 else f"{changed} mail addresses are changed.")
+    tell("good", ngettext("The mail address is changed.", "{count} mail addresses are changed.", changed))

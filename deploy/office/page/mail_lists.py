@@ -1,8 +1,11 @@
-"""Mail addresses in a clerk's file: alone, or in a column of a list of people, which the program does not get."""
+"""Mail addresses in a clerk's file: alone, or in a column of a list of people, which the program does not get. Beside them may
+be the language in which a person is written to.
+"""
 
 from collections import Counter
 from typing import NamedTuple
 
+from languages import _, languages, ngettext
 from mail_words import is_address
 
 import columns
@@ -27,11 +30,20 @@ class AddressFault(NamedTuple):
 
 
 class Addresses(NamedTuple):
-    """The addresses of a file: those that can come in, the faults, and the people who share an address with another one."""
+    """The addresses of a file: those that can come in, the faults, the people who share an address with another one, and the
+    language of each person for whom the file has one."""
 
     pairs: Pairs = ()
     faults: tuple[AddressFault, ...] = ()
     shared: tuple[str, ...] = ()
+    languages: Pairs = ()
+
+
+    def of(self, people: set[str]) -> "Addresses":
+        """The addresses of these people alone. Lines with a fault stay."""
+        return self._replace(pairs=tuple(pair for pair in self.pairs if pair[0] in people),
+                             shared=tuple(ident for ident in self.shared if ident in people),
+                             languages=tuple(pair for pair in self.languages if pair[0] in people))
 
 
 NO_ADDRESSES = Addresses()
@@ -40,31 +52,47 @@ NO_ADDRESSES = Addresses()
 def of_rows(read: Understood, known: set[str]) -> Addresses:
     """The addresses in the lines of a file. An empty field says nothing."""
     found: dict[str, str] = {}
+    spoken: dict[str, str] = {}
     faults = []
     for record in read.table.records[1:]:
         if len(record.fields) != len(columns.targets_of(columns.ADDRESSES)):
-            faults.append(AddressFault(record.row, "", "", "This line has more or fewer fields than the first line."))
+            faults.append(AddressFault(record.row, "", "", _("This line has more or fewer fields than the first line.")))
             continue
-        ident, text = record.fields
-        if says := fault_of(ident, text, known, found):
-            ident, shown = list_faults.fields_shown([ident, text], "")
+        ident, text, language = record.fields
+        if says := fault_of(ident, text, known, found) or fault_of_language(language):
+            ident, shown = list_faults.fields_shown([ident, language if is_address(text) else text], "")
             faults.append(AddressFault(record.row, ident[:SHOWN], shown[:SHOWN], says))
-        elif text:
-            found[ident] = text
+            continue
+        found.update({ident: text} if text else {})
+        spoken.update({ident: code_of(language)} if language else {})
     times = Counter(text.casefold() for text in found.values())
     shared = tuple(ident for ident, text in found.items() if times[text.casefold()] > 1)
-    return Addresses(tuple(found.items()), tuple(faults), shared)
+    return Addresses(tuple(found.items()), tuple(faults), shared, tuple(spoken.items()))
 
 
 def fault_of(ident: str, text: str, known: set[str], found: dict[str, str]) -> str:
     """What is wrong with a line, or nothing."""
     if ident not in known:
-        return "Nobody has this identifier."
+        return _("Nobody has this identifier.")
     if text and not is_address(text):
-        return "This is not one mail address, as name@college.example."
+        return _("This is not one mail address, as name@college.example.")
     if text and found.get(ident, text) != text:
-        return "This person is on the list with another address already."
+        return _("This person is on the list with another address already.")
     return ""
+
+
+def code_of(language: str) -> str:
+    """The code of a language by its code or its name, or nothing."""
+    small = language.casefold()
+    return next((code for code, one in languages().items() if small in (code.casefold(), one.name.casefold())), "")
+
+
+def fault_of_language(language: str) -> str:
+    """What is wrong with a language, or nothing."""
+    if not language or code_of(language):
+        return ""
+    return _("There is no such language here. There are: {languages}.",
+             languages=", ".join(f"{code} ({one.name})" for code, one in languages().items()))
 
 
 def in_file(office: Office, body: bytes) -> Addresses:
@@ -81,21 +109,24 @@ def beside_people(office: Office, body: bytes, read: Understood) -> tuple[Addres
     except NotUnderstood:  # no column has addresses
         return NO_ADDRESSES, read
     known = set(office.people) | {record.fields[0] for record in read.table.records[1:]}
-    names = [(name, "mail address, kept beside the register" if columns.is_known_as("email", name) else taken)
+    beside = {"email": _("mail address, kept beside the register"), "language": _("language, kept beside the register")}
+    names = [(name, next((text for target, text in beside.items() if columns.is_known_as(target, name)), taken))
              for name, taken in read.names]
     return of_rows(rows, known), read._replace(names=names)
 
 
-def bring(pairs: Pairs) -> bool:
-    """Brings addresses in, if there are any, and says so. Whether they are in."""
-    if not pairs:
-        return True
+def bring(found: Addresses) -> bool:
+    """Brings addresses and languages in, if there are any, and says so. Whether they are in."""
     try:
-        changed = ask("mail-addresses", addresses=dict(pairs))["changed"]
+        if found.pairs:
+            changed = ask("mail-addresses", addresses=dict(found.pairs))["changed"]
+            tell("good", ngettext("{count} mail address is new or changed.", "{count} mail addresses are new or changed.", changed))
+        if found.languages:
+            changed = ask("set-languages", languages=dict(found.languages))["changed"]
+            tell("good", ngettext("{count} language is new or changed.", "{count} languages are new or changed.", changed))
     except KeeperFault as fault:
-        tell("bad", f"The mail addresses did not come in: {fault}")
+        tell("bad", _("Not all of the mail addresses and languages came in: {why}", why=fault))
         return False
-    tell("good", f"{changed} mail {'address is' if changed == 1 else 'addresses are'} new or changed.")
     return True
 
 

@@ -2,11 +2,12 @@
 it, and no page shows it.
 """
 
-import hashlib
-import json
+import datetime
 from typing import Any
 
-from mail_words import KINDS, Text
+import times
+from languages import N_, _, languages, ngettext, spoken
+from mail_words import KINDS, RECEIPT, Text
 
 import explaining
 from app import app, ask, field, go_to, office_now, residents_page, show, tell, text_of
@@ -16,6 +17,8 @@ from people_pages import person_of
 from questions import Fact, Question, put_question
 
 HOME = "/office/mail"
+RECEIPTS = f"{HOME}/{RECEIPT}"
+CHANGED = N_("The text was changed, or begun once more, after you looked. Nothing was changed: look again.")
 
 
 def address_of_kind(kind: str) -> str:
@@ -30,15 +33,20 @@ def done(question: str, **fields: Any) -> bool:
     try:
         ask(question, **fields)
     except KeeperFault as fault:
-        tell("bad", f"This could not be done: {fault}")
+        tell("bad", _("This could not be done: {why}", why=fault))
         return False
     return True
+
+
+def in_words(at: str) -> str:
+    """A time of the keeper's within a sentence."""
+    return times.in_words(datetime.datetime.fromisoformat(at))
 
 
 @app.get(HOME)
 def mail() -> str:
     """Who has an address, what is being sent, and the kinds of messages."""
-    return show("mail", office=office_now(), mail=ask("mail"), kinds=KINDS)
+    return show("mail", office=office_now(), mail=ask("mail"), kinds=KINDS, in_words=in_words)
 
 
 # --- a kind of message
@@ -53,17 +61,26 @@ def shown_to(state: dict[str, Any], office: Office) -> str:
     return next(iter([*state["to"], *office.people]), "")
 
 
-def kind_page(kind: str, ident: str = "", written: Text | None = None) -> str:
-    """The page of a kind of message: its text, one message, and who gets it. A text that was just written is not kept yet."""
+def name_of(language: str) -> str:
+    """What a language is called in itself."""
+    known = languages().get(language)
+    return known.name if known else language
+
+
+def kind_page(kind: str, language: str = "", ident: str = "", written: Text | None = None) -> str:
+    """The page of a kind of message: its text in a language, one message, and who gets it. A text that was just written is not
+    kept yet."""
     address_of_kind(kind)
     office, mail_now = office_now(), ask("mail")
     state = mail_now["kinds"][kind]
-    text, ident = written or Text(*state["text"]), ident or shown_to(state, office)
+    language = language if language in languages() else spoken() if spoken() in state["texts"] else state["default"]
+    text, ident = written or Text(*state["texts"].get(language, state["texts"][state["default"]])), ident or shown_to(state, office)
     shown: dict[str, Any] = {"faults": [], "to": ""}
     if ident in office.people:
-        shown = ask("mail-show", kind=kind, person=ident, link=residents_page(), subject=text.subject, body=text.body)
+        shown = ask("mail-show", kind=kind, language=language, person=ident, link=residents_page(), subject=text.subject,
+                    body=text.body)
     return show("mail_kind", office=office, mail=mail_now, kind=kind, of=KINDS[kind], state=state, text=text, chosen=ident,
-                shown=shown)
+                shown=shown, language=language, name_of=name_of, back=f"{HOME}/{kind}/in/{language}")
 
 
 @app.get(f"{HOME}/<kind>")
@@ -72,40 +89,44 @@ def one_kind(kind: str) -> str:
     return kind_page(kind)
 
 
-@app.get(f"{HOME}/<kind>/to/<ident>")
-def one_message(kind: str, ident: str) -> str:
+@app.get(f"{HOME}/<kind>/in/<language>")
+def one_text(kind: str, language: str) -> str:
+    """A kind of message in a language."""
+    return kind_page(kind, language)
+
+
+@app.get(f"{HOME}/<kind>/in/<language>/to/<ident>")
+def one_message(kind: str, language: str, ident: str) -> str:
     """A message as one person would get it."""
     person_of(office_now(), ident)
-    return kind_page(kind, ident)
+    return kind_page(kind, language, ident)
 
 
 @app.post(f"{HOME}/<kind>")
 def write(kind: str) -> str:
     """Keeps a text that has no fault, and shows the message."""
-    place, text, ident = address_of_kind(kind), text_of_form(), text_of("person").upper()
+    place, text, ident, language = address_of_kind(kind), text_of_form(), text_of("person").upper(), text_of("language")
     if ident and ident not in office_now().people:
-        tell("bad", "Nobody has this identifier. The text is not kept yet.")
-        return kind_page(kind, "", text)
+        tell("bad", _("Nobody has this identifier. The text is not kept yet."))
+        return kind_page(kind, language, "", text)
     try:
-        ask("mail-text", kind=kind, subject=text.subject, body=text.body)
+        ask("mail-text", kind=kind, language=language, subject=text.subject, body=text.body)
     except KeeperFault as fault:
-        tell("bad", f"The text is not kept. {fault}")
-        return kind_page(kind, ident, text)
-    tell("good", "The text is kept. Nothing is sent yet.")
-    go_to(f"{place}/to/{ident}" if ident else place)
+        tell("bad", _("The text is not kept. {why}", why=fault))
+        return kind_page(kind, language, ident, text)
+    tell("good", _("The text is kept. Nothing is sent yet.") if kind != RECEIPT else
+         _("The text is kept. Receipts have it from now on."))
+    go_to(f"{place}/in/{language}" + (f"/to/{ident}" if ident else ""))
 
 
 # --- sending
 
-def mark_of(state: dict[str, Any]) -> str:
-    """A mark of the text and the turn that the clerk saw."""
-    return hashlib.sha256(json.dumps([state["text"], state["turn"]]).encode()).hexdigest()[:16]
-
-
 def minutes(count: int, per_minute: int) -> str:
     """How long a run takes."""
-    return f"{per_minute} messages a minute at most, so this takes " + (
-        "less than a minute" if count <= per_minute else f"some {-(-count // per_minute)} minutes")
+    if count <= per_minute:
+        return _("The machine sends {count} messages a minute at most, so this takes less than a minute.", count=per_minute)
+    return _("The machine sends {count} messages a minute at most, so this takes some {minutes} minutes.", count=per_minute,
+             minutes=-(-count // per_minute))
 
 
 def fact_of(office: Office, title: str, idents: list[str]) -> Fact:
@@ -113,11 +134,32 @@ def fact_of(office: Office, title: str, idents: list[str]) -> Fact:
     return Fact(title, [f"{ident} {office.people[ident].name}" for ident in idents if ident in office.people])
 
 
+def subjects(state: dict[str, Any]) -> list[str]:
+    """How many get the text of which language."""
+    return [ngettext("{count} person gets the text in {language}: “{subject}”.",
+                     "{count} people get the text in {language}: “{subject}”.", count, language=name_of(language),
+                     subject=state["texts"][language][0])
+            for language, count in state["gets"].items()]
+
+
 def go_back_if_wrong(office: Office, kind: str) -> None:
     """Nobody gets results that the audit does not find."""
     if KINDS[kind].phase == "published" and explaining.faults_of(office):
-        tell("bad", "The audit finds other results. Send no messages, and call the administrator.")
+        tell("bad", _("The audit finds other results. Send no messages, and call the administrator."))
         go_to("/office/results")
+
+
+def who_else(state: dict[str, Any]) -> list[str]:
+    """Who gets nothing now."""
+    sent, absent = len(state["sent"]), len(state["no_address"])
+    says = []
+    if sent:
+        says.append(ngettext("{count} have got it already, and get nothing now.",
+                             "{count} have got it already, and get nothing now.", sent))
+    if absent:
+        says.append(ngettext("{count} have no mail address, and get nothing: tell them in another way.",
+                             "{count} have no mail address, and get nothing: tell them in another way.", absent))
+    return says
 
 
 @app.get(f"{HOME}/<kind>/send")
@@ -127,18 +169,14 @@ def ask_send(kind: str) -> str:
     state = mail_now["kinds"][kind]
     go_back_if_wrong(office, kind)
     if not state["to"]:
-        tell("bad", "Nobody is left who has an address and has not got this message.")
+        tell("bad", _("Nobody is left who has an address and has not got this message."))
         go_to(place)
     count = len(state["to"])
-    says = [f"{count} {'person gets' if count == 1 else 'people get'} the message “{state['text'][0]}”. "
-            f"The machine sends {minutes(count, mail_now['per_minute'])}. A message that was sent cannot be taken back."]
-    if state["sent"]:
-        says.append(f"{len(state['sent'])} have got it already, and get nothing now.")
-    if state["no_address"]:
-        says.append(f"{len(state['no_address'])} have no mail address, and get nothing: tell them in another way.")
-    title = f"Send {KINDS[kind].title.lower()} to {count} {'person' if count == 1 else 'people'}?"
-    return put_question(office, Question(title, says, "Yes: send the messages", place, saw=mark_of(state), facts=(
-        fact_of(office, "Who gets it", state["to"]),)))
+    says = [" ".join([*subjects(state), minutes(count, mail_now["per_minute"]),
+                      _("A message that was sent cannot be taken back.")]), *who_else(state)]
+    title = ngettext("Send {kind} to {count} person?", "Send {kind} to {count} people?", count, kind=_(KINDS[kind].name))
+    return put_question(office, Question(title, says, _("Yes: send the messages"), place, saw=state["mark"], facts=(
+        fact_of(office, _("Who gets it"), state["to"]),)))
 
 
 @app.post(f"{HOME}/<kind>/send")
@@ -146,12 +184,11 @@ def send(kind: str) -> None:
     """Begins to send, if text and turn are those that the clerk saw."""
     place, state = address_of_kind(kind), ask("mail")["kinds"][kind]
     go_back_if_wrong(office_now(), kind)
-    if mark_of(state) != field("saw"):
-        tell("bad", "The text was changed, or begun once more, after you looked. Nothing was sent: look again.")
+    if state["mark"] != field("saw"):
+        tell("bad", _("The text was changed, or begun once more, after you looked. Nothing was sent: look again."))
         go_to(place)
-    subject, body = state["text"]
-    if done("mail-send", kind=kind, turn=state["turn"], subject=subject, body=body, link=residents_page(), seen=field("seen")):
-        tell("good", "The messages are being sent. This page shows how far that is: load it again.")
+    if done("mail-send", kind=kind, mark=state["mark"], link=residents_page(), seen=field("seen")):
+        tell("good", _("The messages are being sent. This page shows how far that is: load it again."))
         go_to(HOME)
     go_to(place)
 
@@ -163,27 +200,65 @@ def steer() -> None:
     go_to(HOME)
 
 
+# --- receipts
+
+@app.get(f"{RECEIPTS}/begin")
+def ask_begin() -> str:
+    """Asks before receipts go out by themselves."""
+    state = ask("mail")["kinds"][RECEIPT]
+    says = [_("Whoever has a mail address gets a message some minutes after their list on record has changed, by themselves or by "
+              "you. Several changes in a row make one message. It names no room. This goes on in later rounds, until you end it."),
+            _("Lists that are on record already bring no message. If the office goes back to a copy, everybody gets one whose list "
+              "is another one then."),
+            " ".join(subjects(state)), *who_else({**state, "sent": []})]
+    return put_question(office_now(), Question(_("Send receipts of lists?"), list(filter(None, says)), _("Yes: send receipts"),
+                                               RECEIPTS, saw=state["mark"]))
+
+
+@app.post(f"{RECEIPTS}/begin")
+def begin() -> None:
+    """Begins with receipts, if the texts are those that the clerk saw."""
+    if ask("mail")["kinds"][RECEIPT]["mark"] != field("saw"):
+        tell("bad", _(CHANGED))
+    elif done("mail-receipts", act="on", mark=field("saw"), link=residents_page()):
+        tell("good", _("From now on residents get receipts of their lists."))
+    go_to(RECEIPTS)
+
+
+@app.post(f"{RECEIPTS}/steer")
+def steer_receipts() -> None:
+    """Ends with receipts, or lets them go on."""
+    act = text_of("act")
+    if done("mail-receipts", act=act) and act == "off":
+        tell("good", _("No more receipts are sent."))
+    go_to(RECEIPTS)
+
+
 # --- once more
 
 @app.get(f"{HOME}/<kind>/again")
 def ask_again(kind: str) -> str:
     """Asks before everybody can get a message of this kind once more."""
-    place, state, title = address_of_kind(kind), ask("mail")["kinds"][kind], KINDS[kind].title
-    says = [f"{len(state['sent'])} have got this message. If you go on, they can get another one: a second reminder, for "
-            "example, or results that have changed. Nothing is sent yet: write the text first."]
-    return put_question(office_now(), Question(f"{title}: begin another message?", says, "Yes: begin another message", place,
-                                               saw=mark_of(state)))
+    place, state = address_of_kind(kind), ask("mail")["kinds"][kind]
+    says = [ngettext("{count} have got this message. If you go on, they can get another one: a second reminder, for example, or "
+                     "results that have changed. Nothing is sent yet: write the text first.",
+                     "{count} have got this message. If you go on, they can get another one: a second reminder, for example, or "
+                     "results that have changed. Nothing is sent yet: write the text first.", len(state["sent"]))]
+    return put_question(office_now(), Question(_("{kind}: begin another message?", kind=_(KINDS[kind].title)), says,
+                                               _("Yes: begin another message"), place, saw=state["mark"]))
 
 
 @app.get(f"{HOME}/<kind>/uncertain")
 def ask_uncertain(kind: str) -> str:
     """Asks before messages count as not sent of which nobody knows whether they were sent."""
     place, office, state = address_of_kind(kind), office_now(), ask("mail")["kinds"][kind]
-    says = ["Nobody knows whether these messages were sent. If you go on, they count as not sent, and these people may get the "
-            "message twice. Nothing is sent yet."]
-    fact = fact_of(office, "These people", [one for one, *_ in state["uncertain"]])
-    return put_question(office, Question("Count these messages as not sent?", says, "Yes: they may come twice", place,
-                                         saw=mark_of(state), facts=(fact,)))
+    says = [_("Nobody knows whether these messages were sent. If you go on, they count as not sent, and these people may get the "
+              "message twice. Nothing is sent yet.") if kind != RECEIPT else
+            _("Nobody knows whether these receipts were sent. If you go on, they are sent again, and these people may get them "
+              "twice.")]
+    fact = fact_of(office, _("These people"), [one for one, *_rest in state["uncertain"]])
+    return put_question(office, Question(_("Count these messages as not sent?"), says, _("Yes: they may come twice"), place,
+                                         saw=state["mark"], facts=(fact,)))
 
 
 @app.post(f"{HOME}/<kind>/again")
@@ -201,8 +276,9 @@ def count_uncertain(kind: str) -> None:
 def once_more(kind: str, only: str) -> None:
     """Lets people get a message once more, if the message is the one that the clerk saw."""
     place, state = address_of_kind(kind), ask("mail")["kinds"][kind]
-    if mark_of(state) != field("saw"):
-        tell("bad", "The text was changed, or begun once more, after you looked. Nothing was changed: look again.")
+    if state["mark"] != field("saw"):
+        tell("bad", _(CHANGED))
     elif done("mail-again", kind=kind, turn=state["turn"], only=only):
-        tell("good", "Nothing is sent yet. Look at the message, and send it.")
+        tell("good", _("Nothing is sent yet. Look at the message, and send it.") if kind != RECEIPT else
+             _("They count as not sent."))
     go_to(place)

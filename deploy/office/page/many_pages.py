@@ -4,7 +4,8 @@ import re
 import secrets
 from typing import Any, NamedTuple, NoReturn
 
-from journal import masked
+from journal import KEY, masked
+from languages import N_, _, ngettext
 from seen import Saw
 
 import plain
@@ -45,12 +46,14 @@ class Proposed(NamedTuple):
 KEYS = "keys"
 # What cannot be taken back within the round.
 AWAY = ("withdraw", "going")
+# When it can be done, what it is called, and the clerk's yes to it.
 ACTS = {
-    "withdraw": (("open",), "Withdraw them from the round"),
-    "going": (("open",), "Note that they leave the college at the end of the round"),
-    "leave": (("idle",), "Let them leave their rooms"),
-    "remove": (("idle",), "Remove them from the register"),
-    KEYS: (tuple(plain.PHASES), "Make new keys for them"),
+    "withdraw": (("open",), N_("Withdraw them from the round"), N_("Yes: withdraw them from the round")),
+    "going": (("open",), N_("Note that they leave the college at the end of the round"),
+              N_("Yes: note that they leave the college at the end of the round")),
+    "leave": (("idle",), N_("Let them leave their rooms"), N_("Yes: let them leave their rooms")),
+    "remove": (("idle",), N_("Remove them from the register"), N_("Yes: remove them from the register")),
+    KEYS: (tuple(plain.PHASES), N_("Make new keys for them"), N_("Yes: make new keys for them")),
 }
 
 
@@ -74,14 +77,20 @@ def groups_of(office: Office, act: str, idents: list[str]) -> list[Group]:
 
 def acts_for(office: Office) -> dict[str, str]:
     """What can be done to many people now."""
-    return {act: text for act, (phases, text) in ACTS.items() if office.phase in phases}
+    return {act: _(text) for act, (phases, text, __) in ACTS.items() if office.phase in phases}
+
+
+def show_many(office: Office, acts: dict[str, str], text: str, faults: list[str], job: Many | None = None) -> str:
+    """The form; or, if the identifiers were tried, whom they name, and the question."""
+    held, yes = (memory.hold(clerk(), job), _(ACTS[job.act][2])) if job else ("", "")
+    return show("many", office=office, acts=acts, text=text, faults=faults, job=job, held=held, yes=yes)
 
 
 @app.get("/office/many")
 def many() -> str:
     """The form for a list of identifiers."""
     office = office_now()
-    return show("many", office=office, acts=acts_for(office), text="", faults=[], job=None, held="")
+    return show_many(office, acts_for(office), "", [])
 
 
 def propose_keys(idents: list[str]) -> NoReturn:
@@ -95,30 +104,18 @@ def many_proposed(name: str) -> str:
     office, found = office_now(), memory.held(clerk(), name)
     if not isinstance(found, Proposed):
         go_to("/office/many")
-    return show("many", office=office, acts={KEYS: ACTS[KEYS][1]}, text="\n".join(found.idents), faults=[], job=None, held="")
+    return show_many(office, {KEYS: _(ACTS[KEYS][1])}, "\n".join(found.idents), [])
 
 
 @app.post("/office/many")
 def look_at_many() -> str:
     """Shows whom the identifiers name, and tries the change on a copy."""
-    office, act, text = office_now(), text_of("act"), masked(field("text") or " ".join(ticked("person")))
+    office, act, text = office_now(), text_of("act"), masked(field("text") or " ".join(ticked("person")), _(KEY))
     acts, everybody = acts_for(office), bool(field("everybody")) and act == KEYS
     idents = list(dict.fromkeys(filter(None, re.split(r"[\s,;]+", text.upper()))))
     if everybody:
         idents, text = list(office.people), ""
-    faults = [f"No person has the identifier {ident[:20]}." for ident in idents if ident not in office.people]
-    if act not in acts:
-        faults = ["This cannot be done now."]
-    elif not idents:
-        faults = ["You have named nobody."]
-    elif len(idents) > MOST_AT_ONCE and act != KEYS:
-        faults = [f"These are {len(idents)} identifiers: send at most {MOST_AT_ONCE} at once."]
-    known = [office.people[ident] for ident in idents if ident in office.people]
-    if act in AWAY:
-        faults += [f"{person.ident} has withdrawn already." for person in known if person.withdrawn]
-        faults += [f"{person.ident} leaves the college already." for person in known if person.going]
-    if act == "going":
-        faults += [f"{person.ident} has no room." for person in known if not person.home]
+    faults = wrong_with(office, act, idents, act in acts)
     job = None
     if not faults:
         job = Many(act, idents, groups_of(office, act, idents))
@@ -126,8 +123,25 @@ def look_at_many() -> str:
         refused = [last for last in tried if last.status]
         if refused:
             faults, job = [str(plain.meaning(refused[0].text))], None
-    held = memory.hold(clerk(), job) if job else ""
-    return show("many", office=office, acts=acts, text=text, faults=faults[:20], job=job, held=held)
+    return show_many(office, acts, text, faults[:20], job)
+
+
+def wrong_with(office: Office, act: str, idents: list[str], can_be_done: bool) -> list[str]:
+    """What is wrong with identifiers to which something is to be done."""
+    faults = [_("No person has the identifier {person}.", person=ident[:20]) for ident in idents if ident not in office.people]
+    if not can_be_done:
+        faults = [_("This cannot be done now.")]
+    elif not idents:
+        faults = [_("You have named nobody.")]
+    elif len(idents) > MOST_AT_ONCE and act != KEYS:
+        faults = [_("These are {count} identifiers: send at most {most} at once.", count=len(idents), most=MOST_AT_ONCE)]
+    known = [office.people[ident] for ident in idents if ident in office.people]
+    if act in AWAY:
+        faults += [_("{person} has withdrawn already.", person=person.ident) for person in known if person.withdrawn]
+        faults += [_("{person} leaves the college already.", person=person.ident) for person in known if person.going]
+    if act == "going":
+        faults += [_("{person} has no room.", person=person.ident) for person in known if not person.home]
+    return faults
 
 
 @app.post("/office/many/do")
@@ -136,7 +150,7 @@ def do_many() -> None:
     name = text_of("held")
     job: Any = memory.held(clerk(), name)
     if not isinstance(job, Many):
-        tell("bad", "The page no longer holds these identifiers. Nothing was changed: send them again.")
+        tell("bad", _("The page no longer holds these identifiers. Nothing was changed: send them again."))
         go_to("/office/many")
     if job.act in AWAY:
         must_be_sure("/office/many")
@@ -145,10 +159,11 @@ def do_many() -> None:
         make_keys(job)
     for number, group in enumerate(job.groups):
         if fault := fault_of(group):
-            tell("bad", f"{number} of {len(job.groups)} groups of up to {GROUP} people were carried out, and then this "
-                        f"came: {fault} Look how far it came before you go on.")
+            tell("bad", _("{number} of {groups} groups of up to {size} people were carried out, and then this came: {fault} "
+                          "Look how far it came before you go on.", number=number, groups=len(job.groups), size=GROUP,
+                          fault=fault))
             go_to("/office/register")
-    tell("good", f"Done for {plain.people(len(job.idents))}.")
+    tell("good", ngettext("Done for one person.", "Done for {count} people.", len(job.idents)))
     go_to("/office/register")
 
 
@@ -158,7 +173,7 @@ def make_keys(job: Many) -> None:
     try:
         ask("keys", keys=keys, seen=field("seen"), saw=job.groups[0].saw)
     except KeeperFault as fault:
-        tell("bad", f"This could not be done. {fault}")
+        tell("bad", _("This could not be done. {fault}", fault=fault))
         go_to("/office/many")
     show_once([(ident, office.people[ident].name, key) for ident, key in keys.items()], "/office/register")
 

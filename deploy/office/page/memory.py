@@ -33,6 +33,7 @@ class Memory:
         self._news: dict[str, list[News]] = defaultdict(list)
         self._held: dict[str, dict[str, Held]] = defaultdict(dict)
         self._searches: dict[str, str] = {}
+        self._languages: dict[str, str] = {}
 
     def tell(self, clerk: str, kind: str, text: str) -> None:
         """Keeps a piece of news for the clerk's next page, and the four before it."""
@@ -50,6 +51,13 @@ class Memory:
             if text is not None:
                 self._searches[clerk] = text
             return self._searches.get(clerk, "")
+
+    def language(self, clerk: str, code: str | None = None) -> str | None:
+        """Keeps the code of a clerk's language, which is empty if none was chosen, or gives it; nothing if it is not known yet."""
+        with self._lock:
+            if code is not None:
+                self._languages[clerk] = code
+            return self._languages.get(clerk)
 
     def hold(self, clerk: str, what: Any) -> str:
         """Holds something for an hour, and gives the name under which it can be had. The clerk's oldest go first."""

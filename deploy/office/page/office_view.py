@@ -2,11 +2,10 @@
 
 from typing import Any, NamedTuple
 
+from languages import _
 from seen import Saw, saw, stamp
 
 import plain
-
-OFF_THE_LIST = "a room off the list"
 
 
 class Person(NamedTuple):
@@ -60,6 +59,11 @@ class Office:  # pylint: disable=too-many-instance-attributes  # each is a part 
         # Whether the residents' server runs, and the status with which it ended.
         self.serves: bool = view.get("server", True)
         self.ended: int | None = view.get("status")
+
+    @property
+    def has_date(self) -> bool:
+        """Whether a date is set until which lists are taken."""
+        return bool((self.view.get("until") or {}).get("until"))
 
     @property
     def stamp(self) -> str:
@@ -136,11 +140,16 @@ class Office:  # pylint: disable=too-many-instance-attributes  # each is a part 
             return None
         return wishes.index(room) + 1
 
+    def is_off_the_list(self, ident: str) -> bool:
+        """Whether this person gets a room that they did not list. Right results have none."""
+        room = self.results.get(ident)
+        return room not in (None, self.people[ident].home) and self.choice_number(ident) is None
+
     def outcome(self, ident: str) -> str:
-        """What this person gets, in a word or two. Right results have no room off the list."""
+        """What this person gets, in a word or two."""
         room, number = self.results.get(ident), self.choice_number(ident)
         if room is None:
-            return "no room"
+            return _("no room")
         if room == self.people[ident].home:
-            return "keeps the room"
-        return f"choice {number}" if number else OFF_THE_LIST
+            return _("keeps the room")
+        return _("choice {number}", number=number) if number else _("a room off the list")

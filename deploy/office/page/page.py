@@ -21,6 +21,7 @@ import date_pages  # noqa: F401  # pylint: disable=unused-import
 import draw_pages  # noqa: F401  # pylint: disable=unused-import
 import file_pages  # noqa: F401  # pylint: disable=unused-import
 import given_up_pages  # noqa: F401  # pylint: disable=unused-import
+import language_pages  # noqa: F401  # pylint: disable=unused-import
 import left_pages  # noqa: F401  # pylint: disable=unused-import
 import list_pages  # noqa: F401  # pylint: disable=unused-import
 import mail_address_pages  # noqa: F401  # pylint: disable=unused-import

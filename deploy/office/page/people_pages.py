@@ -1,21 +1,24 @@
 """The people of the register: search, one person, and what can be done to one person."""
 
-import re
 import secrets
 
 from journal import masked
+from languages import _
+from lines import IDENTIFIER
 
 import explaining
 import plain
 from app import app, ask, attempt, change, clerk, field, go_to, memory, office_now, saw, show, tell, text_of
 from keeper_client import KeeperFault
+from list_checks import IDENTIFIER
 from mail_lists import address_of
 from office_view import Office, Person
+from resident_languages import own_of
 from questions import Question, must_be_sure, put_question
 from slips import show_once
 
 MOST_SHOWN = 200
-IDENTIFIER = re.compile(r"[A-Z0-9]{1,12}")
+NO_ROOM = "none"  # as the program calls it
 
 
 @app.get("/office/register")
@@ -37,7 +40,7 @@ def search() -> None:
 def person_of(office: Office, ident: str) -> str:
     """The address of a person's page, or the register with the news that there is no such person."""
     if ident not in office.people:
-        tell("bad", f"No person has the identifier {masked(ident)[:12]}.")
+        tell("bad", _("No person has the identifier {person}.", person=masked(ident)[:12]))
         go_to("/office/register")
     return f"/office/person/{ident}"
 
@@ -48,7 +51,8 @@ def person_page(ident: str) -> str:
     office = office_now()
     person_of(office, ident)
     told = explaining.about(office, ident) if office.results else []
-    return show("person", office=office, person=office.people[ident], told=told, address=address_of(office, ident))
+    return show("person", office=office, person=office.people[ident], told=told, address=address_of(office, ident),
+                language=own_of(ident))
 
 
 @app.post("/office/person/<ident>/whatif")
@@ -57,10 +61,12 @@ def what_if(ident: str) -> None:
     place = person_of(office_now(), ident)
     wishes = text_of("text").upper()
     answer = attempt(f"whatif {ident} {wishes}".strip())[0]
-    if answer.status == 0:
-        tell("good", f"By the list {wishes or '(empty)'} this person {answer.text.strip()}.")
-    else:
+    if answer.status:
         tell("bad", str(plain.meaning(answer.text)))
+        go_to(place)
+    listed, room = wishes or _("(empty)"), answer.text.split()[-1]  # it answers `would get ROOM`, or `would get none`
+    tell("good", _("By the list {wishes} this person would get none.", wishes=listed) if room == NO_ROOM else
+         _("By the list {wishes} this person would get {room}.", wishes=listed, room=room))
     go_to(place)
 
 
@@ -76,7 +82,7 @@ def choose(ident: str) -> None:
     """Puts a person's list on record. If that is not done, the clerk reads both lists: the page shows the other one."""
     wishes = text_of("text").upper()
     if not change("do", lines=[f"choose {ident} {wishes}".strip()], saw=saw("list", ident)):
-        tell("bad", f"You had entered: {masked(wishes) or 'an empty list'}.")
+        tell("bad", _("You had entered: {wishes}.", wishes=masked(wishes)) if wishes else _("You had entered: an empty list."))
     go_to(person_of(office_now(), ident))
 
 
@@ -92,7 +98,7 @@ def correct_name(ident: str) -> None:
     """Corrects a person's name."""
     place = person_of(office_now(), ident)
     if correct("name", ident, text_of("name")):
-        tell("good", "The name is corrected.")
+        tell("good", _("The name is corrected."))
     go_to(place)
 
 
@@ -101,7 +107,7 @@ def correct(part: str, ident: str, value: str) -> bool:
     try:
         ask("correct", person=ident, seen=field("seen"), saw=saw(part, ident), **{part: value})
     except KeeperFault as fault:
-        tell("bad", f"This could not be done. {fault}")
+        tell("bad", _("This could not be done. {fault}", fault=fault))
         return False
     return True
 
@@ -111,35 +117,42 @@ def question_of(office: Office, ident: str, act: str) -> Question | None:
     person = office.people[ident]
     who, place = f"{person.name} ({ident})", f"/office/person/{ident}"
     if act == "leave" and person.home:
-        says = [f"{person.home} becomes free. The person stays in the register.",
-                "To take it back, let the person move in again, as long as nobody else lives there."]
-        return Question(f"Does {who} leave {person.home}?", says, "Yes: leave the room", place)
+        says = [_("{room} becomes free. The person stays in the register.", room=person.home),
+                _("To take it back, let the person move in again, as long as nobody else lives there.")]
+        title = _("Does {who} leave {room}?", who=who, room=person.home)
+        return Question(title, says, _("Yes: leave the room"), place)
     if act == "remove":
-        mail = " The mail address is erased." if office.view.get("mail") else ""
-        says = [f"The room becomes free, and the program forgets name and key.{mail} Recorded moves stay.", plain.COPY_FIRST,
-                "Kept lists and copies still hold the name and the key. Blank the lists on the page Lists in."]
-        return Question(f"Remove {who} from the register?", says, "Yes: remove this person", place)
+        says = [_("The room becomes free, and the program forgets name and key. The mail address is erased. Recorded moves stay.")
+                if office.view.get("mail") else
+                _("The room becomes free, and the program forgets name and key. Recorded moves stay."), _(plain.COPY_FIRST),
+                _("Kept lists and copies still hold the name and the key. Blank the lists on the page Lists in.")]
+        return Question(_("Remove {who} from the register?", who=who), says, _("Yes: remove this person"), place)
     if act == "withdraw":
-        keeps = f"keeps {person.home}, and nobody else can get it" if person.home else "gets no room in it"
-        says = [f"The person takes no part in this round and {keeps}.", plain.NOT_WITHIN, plain.COPY_FIRST]
-        return Question(f"Does {who} withdraw from the round?", says, "Yes: withdraw from the round", place,
+        says = [_("The person takes no part in this round and keeps {room}, and nobody else can get it.", room=person.home)
+                if person.home else _("The person takes no part in this round and gets no room in it."),
+                _(plain.NOT_WITHIN), _(plain.COPY_FIRST)]
+        return Question(_("Does {who} withdraw from the round?", who=who), says, _("Yes: withdraw from the round"), place,
                         tick=right_person(person))
     if act == "going" and person.home:
-        says = [f"The person takes no part in this round. {person.home} is given out in it, and the person moves out "
-                "when the round is settled.", "A list that this person handed in counts no more.",
-                plain.NOT_WITHIN, plain.COPY_FIRST]
-        return Question(f"Does {who} leave the college?", says, "Yes: leaves the college", place, tick=right_person(person))
+        says = [_("The person takes no part in this round. {room} is given out in it, and the person moves out when the round is "
+                  "settled.", room=person.home), _("A list that this person handed in counts no more."),
+                _(plain.NOT_WITHIN), _(plain.COPY_FIRST)]
+        return Question(_("Does {who} leave the college?", who=who), says, _("Yes: leaves the college"), place,
+                        tick=right_person(person))
     if act == "key":
-        says = ["The old key stops working. The next page shows the new key, once.",
-                "Identifier, name, room, grade and list stay as they are."]
-        return Question(f"Make a new key for {who}?", says, "Yes: make a new key", place)
+        says = [_("The old key stops working. The next page shows the new key, once."),
+                _("Identifier, name, room, grade and list stay as they are.")]
+        return Question(_("Make a new key for {who}?", who=who), says, _("Yes: make a new key"), place)
     return None
 
 
 def right_person(person: Person) -> str:
     """What a clerk ticks before a step that cannot be taken back within the round."""
-    home = f"lives in {person.home}" if person.home else "has no room"
-    return f"I have checked that this is the right person: {person.name}, identifier {person.ident}, who {home}."
+    if person.home:
+        return _("I have checked that this is the right person: {name}, identifier {person}, who lives in {room}.",
+                 name=person.name, person=person.ident, room=person.home)
+    return _("I have checked that this is the right person: {name}, identifier {person}, who has no room.",
+             name=person.name, person=person.ident)
 
 
 @app.get("/office/person/<ident>/<act>")
@@ -179,7 +192,7 @@ def new_person() -> None:
     """Adds a person, and shows the key."""
     ident = text_of("ident").upper()
     if not IDENTIFIER.fullmatch(ident):
-        tell("bad", f"Nothing was changed. {plain.IDENTIFIER}")
+        tell("bad", _("Nothing was changed. {what_to_do}", what_to_do=_(plain.IDENTIFIER)))
         go_to("/office/register")
     name, home, key = text_of("name"), text_of("room").upper(), secrets.token_hex(16)
     if not change("do", lines=[f"person {ident} {key} {name}", *([f"home {ident} {home}"] if home else [])]):

@@ -9,6 +9,7 @@ import io
 import warnings
 from typing import Any
 
+from languages import N_, _
 from told import LONGEST
 
 from sheet_books import one_at_a_time
@@ -20,11 +21,15 @@ MOST_PIXELS = 40_000_000
 STEPS = ((1280, 82), (1280, 68), (1024, 68), (800, 68), (640, 60), (480, 50))
 WHITE = (255, 255, 255)
 
-NOT_INSTALLED = Unreadable("this machine cannot read pictures, since a package is missing. Ask the administrator.")
-NO_PICTURE = Unreadable("this is no picture as JPEG, PNG or WebP, or it is damaged. Save it as JPEG.")
-TOO_BIG = Unreadable(f"this picture has more than {MOST_PIXELS // 1_000_000} million pixels. Make it smaller, and send it "
-                     "again.")
-TOO_DETAILED = Unreadable("this picture does not become small enough. Make it smaller, and send it again.")
+NOT_INSTALLED = N_("this machine cannot read pictures, since a package is missing. Ask the administrator.")
+NO_PICTURE = N_("this is no picture as JPEG, PNG or WebP, or it is damaged. Save it as JPEG.")
+TOO_BIG = N_("this picture has more than {millions} million pixels. Make it smaller, and send it again.")
+TOO_DETAILED = N_("this picture does not become small enough. Make it smaller, and send it again.")
+
+
+def too_big() -> Unreadable:
+    """The fault of a picture with too many pixels."""
+    return Unreadable(_(TOO_BIG, millions=MOST_PIXELS // 1_000_000))
 
 
 def small(data: bytes) -> bytes:
@@ -32,20 +37,20 @@ def small(data: bytes) -> bytes:
     try:
         from PIL import Image  # pylint: disable=import-outside-toplevel  # it takes a while, and memory
     except ImportError as fault:
-        raise NOT_INSTALLED from fault
+        raise Unreadable(_(NOT_INSTALLED)) from fault
     with one_at_a_time, warnings.catch_warnings():
         warnings.simplefilter("ignore")  # a warning would be a line of the log
         try:
             opened = Image.open(io.BytesIO(data), formats=FORMATS)
             if opened.width * opened.height > MOST_PIXELS:
-                raise TOO_BIG
+                raise too_big()
             clean = on_white(opened)
         except Unreadable:
             raise
         except Image.DecompressionBombError as fault:
-            raise TOO_BIG from fault
+            raise too_big() from fault
         except Exception as fault:  # pylint: disable=broad-except  # a broken picture has faults of all kinds
-            raise NO_PICTURE from fault
+            raise Unreadable(_(NO_PICTURE)) from fault
         return packed(clean)
 
 
@@ -78,4 +83,4 @@ def packed(clean: Any) -> bytes:
         smaller.save(held, "JPEG", quality=quality, optimize=True, progressive=True)
         if held.tell() <= LONGEST:
             return held.getvalue()
-    raise TOO_DETAILED
+    raise Unreadable(_(TOO_DETAILED))

@@ -2,6 +2,8 @@
 
 from typing import NamedTuple
 
+from languages import _
+
 from app import field, go_to, show, tell
 from office_view import Office, Person
 
@@ -34,17 +36,17 @@ def put_question(office: Office, question: Question) -> str:
 
 def away_facts(office: Office) -> tuple[Fact, ...]:
     """Who takes no part in the round, by name."""
-    facts = [Fact("Have withdrawn", named(office.withdrawn)), Fact("Leave the college", named(office.going))]
+    facts = [Fact(_("Have withdrawn"), named(office.withdrawn)), Fact(_("Leave the college"), named(office.going))]
     return tuple(fact for fact in facts if fact.items)
 
 
 def named(people: list[Person]) -> list[str]:
     """People with identifier, name and room."""
-    return [f"{person.ident} {person.name}, {person.home or 'no room'}" for person in people]
+    return [f"{person.ident} {person.name}, {person.home or _('no room')}" for person in people]
 
 
 def must_be_sure(back: str) -> None:
     """Leads back if the clerk has not ticked the box of a question: a browser sends no such form by itself."""
     if not field("sure"):
-        tell("bad", "Nothing was changed. First tick the box that says what you have checked.")
+        tell("bad", _("Nothing was changed. First tick the box that says what you have checked."))
         go_to(back)

@@ -3,34 +3,42 @@
 import re
 
 import times
+from languages import N_, _, ngettext
 
-# What a line did, by its verb; {} is the person, the room or the copy that it names.
+# What a line did, by its verb; {what} is the person, the room or the copy that it names.
 LINES = {
-    "open": "round opened", "close": "round closed", "cancel": "round given up", "draw": "order drawn", "run": "rooms given",
-    "publish": "results published", "settle": "round settled", "room": "room {} added", "reopen": "room {} brought back",
-    "shut": "room {} taken out of use", "person": "{} added", "home": "{} moved in", "leave": "{} left a room",
-    "remove": "{} removed", "grade": "grade of {} set", "choose": "list of {} put on record", "withdraw": "{} withdrawn",
-    "going": "{} noted as leaving the college", "forget": "{} forgotten", "back": "way back to the copy of {}",
+    "open": N_("round opened"), "close": N_("round closed"), "cancel": N_("round given up"), "draw": N_("order drawn"),
+    "run": N_("rooms given"), "publish": N_("results published"), "settle": N_("round settled"), "room": N_("room {what} added"),
+    "reopen": N_("room {what} brought back"), "shut": N_("room {what} taken out of use"), "person": N_("{what} added"),
+    "home": N_("{what} moved in"), "leave": N_("{what} left a room"), "remove": N_("{what} removed"),
+    "grade": N_("grade of {what} set"), "choose": N_("list of {what} put on record"), "withdraw": N_("{what} withdrawn"),
+    "going": N_("{what} noted as leaving the college"), "forget": N_("{what} forgotten"),
+    "back": N_("way back to the copy of {what}"),
 }
 # What several lines of one verb did.
 MANY = {
-    "room": "rooms added", "reopen": "rooms brought back", "shut": "rooms taken out of use", "person": "people added",
-    "home": "people moved in", "leave": "people left their rooms", "remove": "people removed", "grade": "grades set",
-    "choose": "lists put on record", "withdraw": "people withdrawn", "going": "people noted as leaving the college",
+    "room": N_("rooms added"), "reopen": N_("rooms brought back"), "shut": N_("rooms taken out of use"),
+    "person": N_("people added"), "home": N_("people moved in"), "leave": N_("people left their rooms"),
+    "remove": N_("people removed"), "grade": N_("grades set"), "choose": N_("lists put on record"),
+    "withdraw": N_("people withdrawn"), "going": N_("people noted as leaving the college"),
 }
-CORRECTED = {"name": "name of {} corrected", "key": "new key for {}", "name and key": "name and key of {} corrected"}
+CORRECTED = {"name": N_("name of {what} corrected"), "key": N_("new key for {what}"),
+             "name and key": N_("name and key of {what} corrected")}
 ASKED_FOR = re.compile(r"asked for by (.*)")
 BEFORE = re.compile(r"before (.*), by ([^,]*)")
+DATED = re.compile(r"the date that (.*) set")  # by which the keeper has closed the round
 COUNTED = re.compile(r"([a-z]+) \((\d+)\)")
 
 
 def of_copy(why: str) -> str:
     """Why a copy was made, by what the keeper says."""
     if asked := ASKED_FOR.fullmatch(why):
-        return f"Asked for by {asked[1]}"
+        return _("Asked for by {who}", who=asked[1])
     if before := BEFORE.fullmatch(why):
-        return f"Before: {of_lines(before[1])}, by {before[2]}"
-    return why or "Put there by hand"
+        dated = DATED.fullmatch(before[2])
+        who = _("the date that {who} set", who=dated[1]) if dated else before[2]
+        return _("Before: {what}, by {who}", what=of_lines(before[1]), who=who)
+    return why or _("Put there by hand")
 
 
 def of_lines(said: str) -> str:
@@ -46,7 +54,7 @@ def of_lines(said: str) -> str:
 
 def of_several(verb: str, count: int) -> str:
     """What several lines of one verb did; their number may not be known, which is 0."""
-    text = MANY.get(verb, LINES.get(verb, verb))
+    text = _(MANY.get(verb, LINES.get(verb, verb)))
     return f"{text} ({count})" if verb in MANY and count else text
 
 
@@ -54,10 +62,10 @@ def of_line(said: str) -> str:
     """What one line did."""
     verb, *words = said.split()
     if verb == "import" and len(words) >= 2:
-        return f"list {words[1]} of {words[0]} brought in"
+        return _("list {label} of {kind} brought in", label=words[1], kind=words[0])
     if verb == "correct" and len(words) >= 2 and (text := CORRECTED.get(" ".join(words[1:]))):
-        return text.format(words[0].rstrip(":"))
+        return _(text, what=words[0].rstrip(":"))
     if counted := re.fullmatch(r"new keys \((\d+)\)", said):
-        return f"new keys for {counted[1]} {'person' if counted[1] == '1' else 'people'}"
+        return ngettext("new keys for {count} person", "new keys for {count} people", int(counted[1]))
     what = words[0] if words else ""
-    return LINES.get(verb, said).format(times.of_copy(what) if verb == "back" else what)
+    return _(LINES[verb], what=times.of_copy(what) if verb == "back" else what) if verb in LINES else said

@@ -2,14 +2,26 @@
 
 from typing import NamedTuple
 
+from languages import N_, _, ngettext, speaking, spoken
+
 import explaining
 import figures
 import plain
+import views
 from app import app, attempt, field, go_to, office_now, show, tell
+from codes import unbroken
 from office_view import Office
+from people_pages import NO_ROOM
+from resident_languages import residents
 
 LONGEST_CLOSING = 1000
-LEAVING = "They move out first, and into no other room."
+LEAVING = N_("They move out first, and into no other room.")
+ROUND = N_("They move at the same time: each one goes where the next one in the list comes from, and the last one goes where the "
+           "first one comes from.")
+ADVICE = N_("A wave says only who has to wait for whom: each person can move as soon as their own new room is empty. It is "
+            "simplest if everybody who moves brings their things to a store in the morning, and moves in after noon. Then all "
+            "these rooms are empty at noon, and neither waves nor circles matter. Without a store, spread the waves over several "
+            "days.")
 
 
 @app.get("/office/results")
@@ -37,35 +49,46 @@ def letter_of(office: Office, ident: str, told: list[str]) -> Letter:
     """The letter with one person's result and how it came about."""
     room = office.results[ident]
     if room is None:
-        result = "You get no room in this round."
+        result = _("You get no room in this round.")
     elif room == office.people[ident].home:
-        result = "You keep your room"
+        result = _("You keep your room")
     else:
-        result = "Your new room is"
+        result = _("Your new room is")
     return Letter(ident, office.people[ident].name, result, room or "", told)
 
 
 @app.get("/office/letters")
 @app.post("/office/letters")
 def letters() -> str:
-    """A letter for each participant, one a sheet, with the clerk's own text at its end."""
+    """A letter for each participant in their own language, one a sheet, with the clerk's own text for it at its end."""
     office = office_now()
     if office.phase != "published":
-        tell("bad", "Letters can be printed while the results are published, until the round is settled.")
+        tell("bad", _("Letters can be printed while the results are published, until the round is settled."))
         go_to("/office/print")
     if explaining.faults_of(office):
-        tell("bad", "The audit finds other results. Send no letters, and call the administrator.")
+        tell("bad", _("The audit finds other results. Send no letters, and call the administrator."))
         go_to("/office/results")
-    written, explainer = [], explaining.explainer_of(office)
-    for ident in office.results:
+    written, explainer, spoken_by = [], explaining.explainer_of(office), residents()
+    codes = dict.fromkeys(spoken_by.of(ident) for ident in office.results)
+    closings = {code: lines_of(f"closing-{code}") or lines_of("closing") for code in codes}
+    for ident in sorted(office.results, key=lambda one: office.people[one].name):
         facts = explainer.facts_of(ident) if explainer else None
-        written.append(letter_of(office, ident, explaining.to_resident(facts) if facts else []))
-    written.sort(key=lambda letter: letter.name)
-    closing = [line for line in field("closing")[:LONGEST_CLOSING].splitlines() if line.strip()]
-    return show("letters", office=office, letters=written, closing=closing)
+        with speaking(spoken_by.of(ident)):
+            letter = letter_of(office, ident, explaining.to_resident(facts) if facts else [])
+            written.append(views.render("letter", letter=letter, number=office.number, closing=closings[spoken()],
+                                        unbroken=unbroken))
+    return show("letters", office=office, letters=written, codes=list(codes), lines_of=lines_of, fault=spoken_by.fault)
+
+
+def lines_of(name: str) -> list[str]:
+    """The lines of a field, but for empty ones."""
+    return [line for line in field(name)[:LONGEST_CLOSING].splitlines() if line.strip()]
 
 
 # --- the day of moving
+
+LEAVE, WAVE, CIRCLE = "leave", "wave", "circle"
+
 
 class Move(NamedTuple):
     """One move: who, and from where to where."""
@@ -77,8 +100,9 @@ class Move(NamedTuple):
 
 
 class Group(NamedTuple):
-    """Moves that belong together: a wave, or a circle of people who pass their rooms round."""
+    """Moves that belong together, by their kind: LEAVE, WAVE, or CIRCLE of people who pass their rooms round."""
 
+    kind: str
     title: str
     note: str
     moves: list[Move]
@@ -104,39 +128,37 @@ def groups_of(office: Office, table: str) -> list[Group]:
     for line in table.splitlines()[1:]:
         wave, ident, old, new = line.split()
         name = office.people[ident].name if ident in office.people else ""
-        waves.setdefault(wave, []).append(Move(ident, name, old, new))
+        waves.setdefault(wave, []).append(Move(ident, name, *(_("no room") if room == NO_ROOM else room for room in (old, new))))
     circles = circles_of(waves.pop("swap", []))
-    groups = [Group("Leave the college", LEAVING, waves.pop("0"))] if "0" in waves else []
-    first = "They move into rooms that nobody leaves" + (", or whose tenants leave the college." if groups else ".")
-    groups += [Group(f"Wave {wave}", first if wave == "1" else f"They move once wave {int(wave) - 1} has left.", moves)
+    groups = [Group(LEAVE, _("Leave the college"), _(LEAVING), waves.pop("0"))] if "0" in waves else []
+    first = (_("They move into rooms that nobody leaves, or whose tenants leave the college.") if groups else
+             _("They move into rooms that nobody leaves."))
+    groups += [Group(WAVE, _("Wave {number}", number=wave),
+                     first if wave == "1" else _("They move once wave {number} has left.", number=int(wave) - 1), moves)
                for wave, moves in waves.items()]
-    note = ("They move at the same time: each one goes where the next one in the list comes from, and the last one "
-            "goes where the first one comes from.")
-    return groups + [Group(f"Circle {number}", note, circle) for number, circle in enumerate(circles, 1)]
-
-
-def counted(count: int, one: str, many: str) -> str:
-    """A number with its noun."""
-    return f"{count} {one if count == 1 else many}"
+    return groups + [Group(CIRCLE, _("Circle {number}", number=number), _(ROUND), circle)
+                     for number, circle in enumerate(circles, 1)]
 
 
 def advice_on(groups: list[Group]) -> str:
     """How many people move, and how a college gets through the day, if some have to wait for others."""
-    sizes = {word: [len(group.moves) for group in groups if group.title.startswith(word)]
-             for word in ("Leave", "Wave", "Circle")}
-    waves, circles = len(sizes["Wave"]), len(sizes["Circle"])
-    parts = [counted(waves, "wave", "waves")] if waves else []
-    parts += [counted(circles, "circle", "circles")] if circles else []
-    said = f"{counted(sum(sizes['Wave'] + sizes['Circle']), 'person moves', 'people move')}"
-    said += f", in {' and '.join(parts)}." if parts else "."
-    if sizes["Leave"]:
-        said += f" {counted(sum(sizes['Leave']), 'person leaves', 'people leave')} the college."
-    if waves < 2 and not circles:
-        return said
-    return (f"{said} A wave says only who has to wait for whom: each person can move as soon as their own new room is empty. "
-            "It is simplest if everybody who moves brings their things to a store in the morning, and moves in after noon. Then "
-            "all these rooms are empty at noon, and neither waves nor circles matter. Without a store, spread the waves over "
-            "several days.")
+    counts = {kind: [len(group.moves) for group in groups if group.kind == kind] for kind in (LEAVE, WAVE, CIRCLE)}
+    leaving, moving = sum(counts[LEAVE]), sum(counts[WAVE] + counts[CIRCLE])
+    waves, circles = len(counts[WAVE]), len(counts[CIRCLE])
+    said = [ngettext("{count} person moves, in {groups}.", "{count} people move, in {groups}.", moving,
+                     groups=parts_of(waves, circles)) if waves or circles else
+            ngettext("{count} person moves.", "{count} people move.", moving)]
+    if leaving:
+        said.append(ngettext("{count} person leaves the college.", "{count} people leave the college.", leaving))
+    return " ".join([*said, _(ADVICE)] if waves > 1 or circles else said)
+
+
+def parts_of(waves: int, circles: int) -> str:
+    """So many waves and circles."""
+    of_waves, of_circles = ngettext("{count} wave", "{count} waves", waves), ngettext("{count} circle", "{count} circles", circles)
+    if waves and circles:
+        return _("{waves} and {circles}", waves=of_waves, circles=of_circles)
+    return of_waves if waves else of_circles
 
 
 @app.get("/office/moves/<number:int>")

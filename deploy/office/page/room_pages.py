@@ -1,5 +1,7 @@
 """The rooms of the register."""
 
+from languages import _
+
 import plain
 from app import app, change, go_to, office_now, saw, show, text_of
 from office_view import Office
@@ -37,12 +39,12 @@ def ask_shut(code: str) -> str:
     if not tenant:
         go_to("/office/rooms")
     name = f"{office.people[tenant].name} ({tenant})"
-    says = [f"{name} lives in {code} and loses the room at once. In a round this person takes part like somebody "
-            "without a room, and may end without one.",
-            "While a round is open nobody can be given the room back, not even by bringing it back into use.",
-            plain.COPY_FIRST]
-    title = f"Take {code} out of use?"
-    yes, mark = f"Yes: take {code} out of use", office.saw("home", tenant).mark
+    says = [_("{who} lives in {room} and loses the room at once. In a round this person takes part like somebody without a room, "
+              "and may end without one.", who=name, room=code),
+            _("While a round is open nobody can be given the room back, not even by bringing it back into use."),
+            _(plain.COPY_FIRST)]
+    title = _("Take {room} out of use?", room=code)
+    yes, mark = _("Yes: take {room} out of use", room=code), office.saw("home", tenant).mark
     return put_question(office, Question(title, says, yes, "/office/rooms", saw=mark))
 
 

@@ -6,6 +6,8 @@ from typing import Any
 
 from bottle import HTTPResponse, abort  # type: ignore[import]  # Debian's bottle has no types
 
+from languages import N_, _
+
 import columns
 import plain
 import sheet_books
@@ -17,8 +19,9 @@ ROWS = {
     "people": [["24001", "Ann Ash", "", "N-101"], ["24002", "Bo Li", "", ""]],
     "grades": [["24001", "0"], ["24002", "1"]],
     "choices": [["24001", "N-102 S-201"], ["24002", "N-101"]],
-    plain.DESCRIPTIONS: [["N-101", "North", "1", "14 m²", "412.50 €", "Balcony to the garden"],
-                         ["N-102", "North", "1", "18 m²", "455 €", ""], ["S-201", "South", "2", "12 m²", "380 €", "Quiet"]],
+    plain.DESCRIPTIONS: [["N-101", N_("North"), "1", "14 m²", "412.50 €", N_("Balcony to the garden")],
+                         ["N-102", N_("North"), "1", "18 m²", "455 €", ""],
+                         ["S-201", N_("South"), "2", "12 m²", "380 €", N_("Quiet")]],
 }
 WORKBOOK = "application/vnd.openxmlformats-officedocument.spreadsheetml.sheet"
 AS_TEXT = "@"
@@ -54,7 +57,7 @@ def sample_workbook(kind: str) -> HTTPResponse:
     try:
         return download(workbook(rows), f"sample-{kind}.xlsx", WORKBOOK)
     except ImportError:
-        tell("bad", str(sheet_books.NOT_INSTALLED))
+        tell("bad", str(plain.Meaning(sheet_books.NOT_INSTALLED.says, sheet_books.NOT_INSTALLED.to_do).translated()))
         return go_to("/office/lists")
 
 
@@ -62,4 +65,4 @@ def rows_of(kind: str) -> list[list[str]]:
     """The rows of a sample, with its first line."""
     if kind not in ROWS:
         abort(404, "no such kind")
-    return [columns.targets_of(kind), *ROWS[kind]]
+    return [columns.targets_of(kind), *([_(text) for text in row] for row in ROWS[kind])]

@@ -14,13 +14,16 @@ from collections.abc import Iterator
 from typing import Any
 from xml.etree.ElementTree import Element
 
+from languages import N_, _
+
 from sheet_limits import DAMAGED, TOO_BIG, Unreadable, parts_of
 
 Rows = list[tuple[int, list[str]]]  # each with its number in the spreadsheet
 
 MOST_ROWS, MOST_COLUMNS, LAST_ROW = 10_001, 200, 1_048_576
-NOT_INSTALLED = Unreadable("This machine cannot read workbooks: a package is missing. Ask the administrator, or save the "
-                           "list as CSV.")
+NOT_INSTALLED = Unreadable(N_("This machine cannot read workbooks: a package is missing."),
+                           N_("Ask the administrator, or save the list as CSV."))
+OLD = Unreadable(N_("This is an old Excel workbook (.xls), or one with a password."), N_("Save it as .xlsx without a password."))
 # Old Excel files, and all Excel files with a password.
 OLD_EXCEL = b"\xd0\xcf\x11\xe0"
 OFFICE = "{urn:oasis:names:tc:opendocument:xmlns:office:1.0}"
@@ -41,15 +44,14 @@ def is_book(data: bytes) -> bool:
 def read(data: bytes) -> tuple[Rows, str]:
     """The rows of the first sheet, and what the file is."""
     if data.startswith(OLD_EXCEL):
-        raise Unreadable("This is an old Excel workbook (.xls), or one with a password. Save it as .xlsx without a "
-                         "password.")
+        raise OLD
     with one_at_a_time:
         parts = parts_of(data)
         try:
             if "content.xml" in parts:
-                return bounded(rows_of_ods(data)), "a workbook of LibreOffice (.ods)"
+                return bounded(rows_of_ods(data)), _("a workbook of LibreOffice (.ods)")
             if "[Content_Types].xml" in parts:
-                return bounded(rows_of_xlsx(data)), "a workbook of Excel (.xlsx)"
+                return bounded(rows_of_xlsx(data)), _("a workbook of Excel (.xlsx)")
         except Unreadable:
             raise
         except ImportError as fault:
@@ -108,7 +110,7 @@ def rows_of_ods(data: bytes) -> Iterator[tuple[int, int, list[str]]]:
     from defusedxml.ElementTree import iterparse  # type: ignore[import]  # pylint: disable=import-outside-toplevel
     number = 1
     with zipfile.ZipFile(io.BytesIO(data)) as archive, archive.open("content.xml") as content:
-        for _, element in iterparse(content, events=("end",), forbid_dtd=True):
+        for __, element in iterparse(content, events=("end",), forbid_dtd=True):
             if element.tag == f"{TABLE}table":
                 return
             if element.tag == f"{TABLE}table-row":

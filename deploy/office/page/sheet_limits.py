@@ -9,19 +9,25 @@ import zipfile
 from typing import IO, Any
 from xml.parsers import expat
 
+from languages import N_
+
 LONGEST_FILE = 1_000_000
 MOST_PARTS, MOST_BYTES, MOST_NODES, DEEPEST = 500, 8_000_000, 150_000, 60
 LIKE_XML = (".xml", ".rels")
 
 
 class Unreadable(Exception):
-    """A file that cannot be read as a list. The text says why, and what to do."""
+    """A file that cannot be read as a list: why, and what to do. Both are translated where they are shown."""
+
+    def __init__(self, says: str, to_do: str = "") -> None:
+        super().__init__(f"{says} {to_do}".strip())
+        self.says, self.to_do = says, to_do
 
 
-TOO_BIG = Unreadable("This workbook is too large to be read here. Copy the rows of the list alone into a new workbook, or "
-                     "save the list as CSV.")
-DAMAGED = Unreadable("This workbook is damaged, or it has a password. Save it again without a password, or save the list "
-                     "as CSV.")
+TOO_BIG = Unreadable(N_("This workbook is too large to be read here."),
+                     N_("Copy the rows of the list alone into a new workbook, or save the list as CSV."))
+DAMAGED = Unreadable(N_("This workbook is damaged, or it has a password."),
+                     N_("Save it again without a password, or save the list as CSV."))
 
 
 class Counter:

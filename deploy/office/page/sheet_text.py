@@ -6,9 +6,11 @@ import io
 from collections.abc import Callable
 from typing import NamedTuple
 
+from languages import N_, _
+
 from sheet_limits import Unreadable
 
-SEPARATORS = {",": "commas", ";": "semicolons", "\t": "tabs"}
+SEPARATORS = {",": N_("commas"), ";": N_("semicolons"), "\t": N_("tabs")}
 UTF_16 = (codecs.BOM_UTF16_LE, codecs.BOM_UTF16_BE)
 LOOKED_AT = 10  # the lines in which the names of the columns may be
 
@@ -38,8 +40,8 @@ def decoded(data: bytes) -> tuple[str, str]:
             return data.decode(name), name
         except UnicodeDecodeError:
             continue
-    raise Unreadable("The page does not know the character set of this file. Save the list as a workbook (.xlsx or .ods), "
-                     "or as CSV with the character set UTF-8.")
+    raise Unreadable(N_("The page does not know the character set of this file."),
+                     N_("Save the list as a workbook (.xlsx or .ods), or as CSV with the character set UTF-8."))
 
 
 def rows_by(text: str, separator: str, most: int | None = None) -> list[tuple[int, list[str]]]:
@@ -62,13 +64,14 @@ def read(data: bytes, knows: Callable[[str], bool]) -> Text:
 
     def worth(separator: str) -> tuple[int, int]:
         first = rows_by(text, separator, LOOKED_AT)
-        names = max((sum(map(knows, fields)) for _, fields in first), default=0)
+        names = max((sum(map(knows, fields)) for __, fields in first), default=0)
         return names, len(first[0][1]) if first else 0
     try:
         separator = max(SEPARATORS, key=worth)
         rows = rows_by(text, separator)
     except csv.Error as fault:
-        raise Unreadable("This file is no list in CSV. Save the list as a workbook (.xlsx or .ods), or as CSV.") from fault
-    names = {"utf-8-sig": "UTF-8", "cp1252": "the character set of Windows (cp1252)"}
-    what = f"CSV with {SEPARATORS[separator]}, in {names.get(charset, 'UTF-16')}"
+        raise Unreadable(N_("This file is no list in CSV."),
+                         N_("Save the list as a workbook (.xlsx or .ods), or as CSV.")) from fault
+    names = {"utf-8-sig": "UTF-8", "cp1252": _("the character set of Windows (cp1252)")}
+    what = _("CSV with {separator}, in {charset}", separator=_(SEPARATORS[separator]), charset=names.get(charset, "UTF-16"))
     return Text(rows, what, charset == "cp1252", charset == "utf-8-sig" and separator == "," and not told)

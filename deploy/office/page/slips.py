@@ -1,4 +1,5 @@
-"""Slips: the keys that residents get on paper, each with a link and its picture, and the page that shows them once.
+"""Slips: the keys that residents get on paper, each with a link and its picture, and in the language of its resident; and the
+page that shows them once.
 
 The link has the key behind `#`. A browser sends nothing of that to a server, so the key is in no request and in no log.
 """
@@ -7,7 +8,12 @@ import datetime
 from dataclasses import dataclass
 from typing import NamedTuple, NoReturn
 
+import times
+from languages import _, speaking
+
+import views
 from app import app, clerk, go_to, memory, office_now, residents_page, show, tell
+from resident_languages import residents
 
 try:
     import segno
@@ -30,11 +36,10 @@ class Slip(NamedTuple):
 
 
 class Sheet(NamedTuple):
-    """Slips, with the address of the residents' page, and when they were made: it tells one print from another."""
+    """Slips as HTML, and why their languages are not known, if so."""
 
-    address: str
-    made: str
-    slips: list[Slip]
+    slips: list[str]
+    fault: str
 
 
 @dataclass
@@ -58,11 +63,15 @@ def picture_of(link: str) -> str:
 
 
 def sheet_of(keys: list[Key]) -> Sheet:
-    """The slips of these keys."""
-    address, made = residents_page(), datetime.datetime.now().astimezone()
-    slips = [Slip(ident, name, " ".join(key[at:at + 4] for at in range(0, len(key), 4)),
-                  picture_of(f"{address}#{key}") if address else "") for ident, name, key in keys]
-    return Sheet(address, f"{made:%Y-%m-%d} at {made:%H:%M:%S %Z}", slips)
+    """The slips of these keys. They say when they were made: it tells one print from another."""
+    address, made, spoken_by = residents_page(), datetime.datetime.now(datetime.timezone.utc), residents()
+    slips = []
+    for ident, name, key in keys:
+        slip = Slip(ident, name, " ".join(key[at:at + 4] for at in range(0, len(key), 4)),
+                    picture_of(f"{address}#{key}") if address else "")
+        with speaking(spoken_by.of(ident)):
+            slips.append(views.render("slip", slip=slip, address=address, made=times.in_words(made)))
+    return Sheet(slips, spoken_by.fault)
 
 
 def show_once(keys: list[Key], onward: str) -> NoReturn:
@@ -75,11 +84,11 @@ def waiting_slips(name: str) -> str:
     """The slips that were made last, once."""
     waiting = memory.held(clerk(), name)
     if not isinstance(waiting, Waiting):
-        tell("bad", "The page no longer has these slips. No key was changed now. If a slip is lost, make a new key.")
+        tell("bad", _("The page no longer has these slips. No key was changed now. If a slip is lost, make a new key."))
         go_to("/office/register")
     keys = waiting.take()
     if not keys:
-        tell("bad", "These slips were shown already, and the page no longer has them. Their keys work. If a slip was not "
-                    "printed, make a new key.")
+        tell("bad", _("These slips were shown already, and the page no longer has them. Their keys work. If a slip was not "
+                      "printed, make a new key."))
         go_to(waiting.onward)
-    return show("key", office=office_now(), keys=keys, onward=waiting.onward)
+    return show("key", office=office_now(), keys=keys, onward=waiting.onward, back="")

@@ -7,7 +7,8 @@ import base64
 import re
 from typing import Any, NamedTuple
 
-from told import FIELDS, LONGEST_CAPTION, LONGEST_CONTACT, LONGEST_NOTICE, MOST_OF_ROOM
+from languages import N_, _, languages, ngettext
+from told import FIELDS, LONGEST_CAPTION, LONGEST_CONTACT, LONGEST_NOTICE, MOST_OF_ROOM, PICTURE
 
 import pictures
 import plain
@@ -23,9 +24,8 @@ from told_rooms import Rooms
 from understanding import NotUnderstood
 
 PLACE = "/office/told"
-# The languages of the residents' page, and what a clerk reads of each.
-LANGUAGES = {"en": "English", "de": "German"}
-PICTURE = re.compile(r"[0-9a-f]{32}\.jpg")
+# The languages of the residents' page as it comes, and what a clerk reads of each. Any other has its name in itself.
+LANGUAGES = {"en": N_("English"), "de": N_("German")}
 SHOWN = 20  # rooms of a list that are shown before it is on the page
 
 
@@ -40,6 +40,12 @@ def told_now() -> tuple[dict[str, Any], dict[str, str]]:
     """What residents read now, and its marks."""
     found = ask("told")
     return found["told"], found["marks"]
+
+
+def languages_of(notice: dict[str, str]) -> dict[str, str]:
+    """The languages in which there can be a notice, or is one, with their names."""
+    others = {code: one.name for code, one in languages().items()}
+    return {**{code: code for code in notice}, **others, **{code: _(name) for code, name in LANGUAGES.items()}}
 
 
 def tell_keeper(question: str, good: str, **fields: Any) -> bool:
@@ -59,8 +65,8 @@ def told_page() -> str:
     office, (told, marks) = office_now(), told_now()
     without = [code for code, room in office.rooms.items() if code not in told["rooms"] and not room.shut]
     unknown = [code for code in {**told["rooms"], **told["pictures"]} if code not in office.rooms]
-    return show("told", office=office, told=told, marks=marks, languages=LANGUAGES, without=without, unknown=unknown,
-                most_notice=LONGEST_NOTICE, most_contact=LONGEST_CONTACT, most_caption=LONGEST_CAPTION,
+    return show("told", office=office, told=told, marks=marks, noticed=languages_of(told["notice"]), without=without,
+                unknown=unknown, most_notice=LONGEST_NOTICE, most_contact=LONGEST_CONTACT, most_caption=LONGEST_CAPTION,
                 most_pictures=MOST_OF_ROOM, address=residents_page())
 
 
@@ -74,11 +80,12 @@ def lines_of(name: str) -> str:
 @app.post(f"{PLACE}/words")
 def tell_words() -> str:
     """Puts the notice and the contact on the residents' page. What cannot be put there stays in the form."""
-    notice, contact = {language: lines_of(f"notice-{language}") for language in LANGUAGES}, text_of("contact")
-    if tell_keeper("tell-words", "The notice and the contact are on the residents' page.", notice=notice, contact=contact,
+    known = languages_of(told_now()[0]["notice"])
+    notice, contact = {language: lines_of(f"notice-{language}") for language in known}, text_of("contact")
+    if tell_keeper("tell-words", _("The notice and the contact are on the residents' page."), notice=notice, contact=contact,
                    saw=field("saw")):
         go_to(PLACE)
-    return show("told_words", office=office_now(), notice=notice, contact=contact, languages=LANGUAGES,
+    return show("told_words", office=office_now(), notice=notice, contact=contact, noticed=known,
                 marks=told_now()[1], most_notice=LONGEST_NOTICE, most_contact=LONGEST_CONTACT)
 
 
@@ -89,23 +96,23 @@ def look_at_rooms() -> str:
     """Reads a list of descriptions. Nothing is on the residents' page before the clerk says so."""
     office, body = office_now(), upload_of("list", LONGEST_FILE)
     if not body or len(body) > LONGEST_FILE:
-        tell("bad", plain.TOO_LONG if body else "Choose a list first.")
+        tell("bad", _(plain.TOO_LONG) if body else _("Choose a list first."))
         go_to(PLACE)
     try:
         read = understanding.read(plain.DESCRIPTIONS, body)
     except NotUnderstood as fault:
         return show("told_faults", office=office, whole=fault.meaning, faults=list[Fault]())
     if len(read.body) > plain.LONGEST_LIST:
-        tell("bad", plain.TOO_LONG)
+        tell("bad", _(plain.TOO_LONG))
         go_to(PLACE)
     said = told_rooms.described(read.table)
     if said.faults or not said.rooms:
-        whole = None if said.faults else plain.Meaning("This list says nothing of any room.",
-                                                       f"Fill in one of the columns {', '.join(FIELDS)}.")
+        whole = None if said.faults else plain.Meaning(_("This list says nothing of any room."),
+                                                       _("Fill in one of the columns {columns}.", columns=", ".join(FIELDS)))
         return show("told_faults", office=office, whole=whole, faults=said.faults)
     told, marks = told_now()
     return show("told_rooms", office=office, read=read, rooms=said.rooms, shown=list(said.rooms.items())[:SHOWN],
-                beside=told_rooms.beside(office, told["rooms"], said.rooms), now=told["rooms"], fields=FIELDS,
+                beside=told_rooms.beside(office, told["rooms"], said.rooms), now=told["rooms"], fields=told_rooms.NAMES,
                 held=memory.hold(clerk(), Job(said.rooms, marks["rooms"])))
 
 
@@ -115,8 +122,9 @@ def bring_rooms() -> None:
     name = text_of("held")
     job: Any = memory.held(clerk(), name)
     if not isinstance(job, Job):
-        tell("bad", "The page no longer holds this list. Nothing was changed now: send it again.")
-    elif tell_keeper("tell-rooms", f"The descriptions of {len(job.rooms)} rooms are on the residents' page.",
+        tell("bad", _("The page no longer holds this list. Nothing was changed now: send it again."))
+    elif tell_keeper("tell-rooms", ngettext("The descriptions of {count} rooms are on the residents' page.",
+                                            "The descriptions of {count} rooms are on the residents' page.", len(job.rooms)),
                      rooms=job.rooms, saw=job.mark):
         memory.let_go(clerk(), name)
     go_to(PLACE)
@@ -126,16 +134,17 @@ def bring_rooms() -> None:
 def ask_drop_rooms() -> str:
     """Asks before all descriptions go."""
     told, marks = told_now()
-    says = [f"The residents' page no longer says anything of {len(told['rooms'])} rooms. Pictures stay.",
-            "You cannot take it back here: to have the descriptions again, send your list again."]
-    return put_question(office_now(), Question("Take all descriptions away?", says, "Yes: take them away", PLACE,
+    says = [ngettext("The residents' page no longer says anything of {count} rooms. Pictures stay.",
+                     "The residents' page no longer says anything of {count} rooms. Pictures stay.", len(told["rooms"])),
+            _("You cannot take it back here: to have the descriptions again, send your list again.")]
+    return put_question(office_now(), Question(_("Take all descriptions away?"), says, _("Yes: take them away"), PLACE,
                                                saw=marks["rooms"]))
 
 
 @app.post(f"{PLACE}/rooms/drop")
 def drop_rooms() -> None:
     """Takes all descriptions away."""
-    tell_keeper("tell-rooms", "The descriptions are gone.", rooms={}, saw=field("saw"))
+    tell_keeper("tell-rooms", _("The descriptions are gone."), rooms={}, saw=field("saw"))
     go_to(PLACE)
 
 
@@ -152,7 +161,8 @@ def add_picture(office: Office, code: str, name: str, data: bytes) -> str:
     """Adds one picture. Gives why it could not be added, or nothing."""
     room = code or room_of(office, name)
     if room not in office.rooms:
-        return f"no room {code} is in the register." if code else "its name begins with no room code of the register."
+        return (_("no room {room} is in the register.", room=code) if code else
+                _("its name begins with no room code of the register."))
     try:
         body = base64.b64encode(pictures.small(data)).decode()
         ask("add-picture", room=room, body=body, shows=text_of("shows")[:LONGEST_CAPTION])
@@ -167,25 +177,25 @@ def add_pictures() -> None:
     office, code, count = office_now(), text_of("room").upper(), 0
     files = [(name, data) for name, data in uploads_of("pictures") if data]
     if not files:
-        tell("bad", "Choose a picture first.")
+        tell("bad", _("Choose a picture first."))
     for name, data in files:
         why = add_picture(office, code, name, data)
         count += not why
         if why:
-            tell("bad", f"{name} was not added: {why}")
+            tell("bad", _("{name} was not added: {why}", name=name, why=why))
     if count:
-        tell("good", f"{count} {'picture is' if count == 1 else 'pictures are'} on the residents' page.")
+        tell("good", ngettext("{count} picture is on the residents' page.", "{count} pictures are on the residents' page.", count))
     go_to(PLACE)
 
 
 @app.get(f"{PLACE}/room/<code>")
 def room_page(code: str) -> str:
     """What residents read of one room, with its pictures."""
-    told, _ = told_now()
+    told = told_now()[0]
     if code not in told["rooms"] and code not in told["pictures"]:
-        tell("bad", "Residents read nothing of this room.")
+        tell("bad", _("Residents read nothing of this room."))
         go_to(PLACE)
-    return show("told_room", office=office_now(), code=code, said=told["rooms"].get(code, {}), fields=FIELDS,
+    return show("told_room", office=office_now(), code=code, said=told["rooms"].get(code, {}), fields=told_rooms.NAMES,
                 pictures=told["pictures"].get(code, []))
 
 
@@ -194,14 +204,14 @@ def ask_drop_picture(code: str, file: str) -> str:
     """Asks before a picture goes."""
     if not PICTURE.fullmatch(file):
         go_to(PLACE)
-    says = [f"Residents no longer see this picture of {code}. Browsers that have shown it may keep it for a day.",
-            "You cannot take it back here: to have it again, send its file again."]
-    return put_question(office_now(), Question(f"Take a picture of {code} away?", says, "Yes: take it away",
+    says = [_("Residents no longer see this picture of {room}. Browsers that have shown it may keep it for a day.", room=code),
+            _("You cannot take it back here: to have it again, send its file again.")]
+    return put_question(office_now(), Question(_("Take a picture of {room} away?", room=code), says, _("Yes: take it away"),
                                                f"{PLACE}/room/{code}"))
 
 
 @app.post(f"{PLACE}/room/<code>/<file>/drop")
 def drop_picture(code: str, file: str) -> None:
     """Takes a picture away."""
-    tell_keeper("drop-picture", f"The picture of {code} is gone.", room=code, file=file)
+    tell_keeper("drop-picture", _("The picture of {room} is gone.", room=code), room=code, file=file)
     go_to(PLACE)

@@ -3,6 +3,7 @@
 import re
 from typing import Any, NamedTuple
 
+from languages import N_, _
 from lines import name_shows_a_key
 from told import AMOUNT, FIELDS
 
@@ -16,6 +17,8 @@ from plain import Meaning
 # A number with or without signs between its thousands: 412, 412.50, 412,50, 1.234,50, 1 234.50, 1'234.
 NUMBER = re.compile(r"(?<![\d.,])(?:\d{1,3}(?:[ .,'’]\d{3})+|\d+)(?:[.,]\d{1,2})?(?!\d|[.,]\d)")
 ENDS_IN_CENTS = re.compile(r"[.,](\d{1,2})$")
+# What a clerk reads of the fields of a description.
+NAMES = {"house": N_("House"), "floor": N_("Floor"), "size": N_("Size"), "rent": N_("Rent"), "text": N_("Text")}
 LEAST_WORDS = 2  # of a name: one word alone may be the name of a house
 
 Rooms = dict[str, dict[str, Any]]
@@ -55,12 +58,12 @@ def rent_shown(text: str) -> str:
 def fault_of(fields: list[str], rows: dict[str, int]) -> Meaning | None:
     """What is wrong with a line, if anything. `rows` has the rooms of the lines before it."""
     if len(fields) != 1 + len(FIELDS):
-        return plain.CAUSES["fields"]
+        return plain.CAUSES["fields"].translated()
     if not CODE.fullmatch(fields[0]):
-        return Meaning("The field room is not well written.", plain.CODE)
+        return Meaning(_("The field room is not well written."), _(plain.CODE))
     if fields[0] in rows:
-        return Meaning(f"This room is in row {rows[fields[0]]} of this list already.",
-                       "Correct one of the two lines, or take it out.")
+        return Meaning(_("This room is in row {row} of this list already.", row=rows[fields[0]]),
+                       _("Correct one of the two lines, or take it out."))
     return next(filter(None, map(fault_of_field, FIELDS.items(), fields[1:])), None)
 
 
@@ -68,13 +71,14 @@ def fault_of_field(field: tuple[str, int], text: str) -> Meaning | None:
     """What is wrong with what a list says of a room, if anything."""
     name, longest = field
     if len(text) > longest:
-        return Meaning(f"The field {name} has {len(text)} signs, and may have {longest}.", "Shorten it.")
+        said = _("The field {name} has {count} signs, and may have {longest}.", name=name, count=len(text), longest=longest)
+        return Meaning(said, _("Shorten it."))
     if UNSEEN.search(text):
-        return Meaning(f"The field {name} has a sign that nobody sees.", "Write the field again.")
+        return Meaning(_("The field {name} has a sign that nobody sees.", name=name), _("Write the field again."))
     if name_shows_a_key(text):
-        return Meaning(f"The field {name} has a word that may be a key.", "Anybody can read it: take the word out.")
+        return Meaning(_("The field {name} has a word that may be a key.", name=name), _("Anybody can read it: take the word out."))
     if name == "rent" and text and amount_of(text) is None:
-        return Meaning("The rent is no amount.", "Write one number, such as 412.50 or 412,50 €, or leave the field empty.")
+        return Meaning(_("The rent is no amount."), _("Write one number, such as 412.50 or 412,50 €, or leave the field empty."))
     return None
 
 

@@ -9,6 +9,8 @@ import unicodedata
 from collections.abc import Callable
 from typing import NamedTuple
 
+from languages import N_, _
+
 import columns
 import list_faults
 import sheet_books
@@ -21,9 +23,9 @@ from sheet_limits import Unreadable
 ENDS = " \t\r\n\u00a0\u200b\u200c\u200d\ufeff"
 SPACES, CAPITALS, SEPARATED = "spaces", "capitals", "separated"
 CHANGES = {
-    SPACES: "Spaces at the ends, and of several in a row all but one, were taken away",
-    CAPITALS: "Small letters became capitals: the program has only capitals in identifiers and room codes",
-    SEPARATED: "Commas, semicolons and line ends between room codes became spaces",
+    SPACES: N_("Spaces at the ends, and of several in a row all but one, were taken away"),
+    CAPITALS: N_("Small letters became capitals: the program has only capitals in identifiers and room codes"),
+    SEPARATED: N_("Commas, semicolons and line ends between room codes became spaces"),
 }
 EXAMPLES = 3
 
@@ -75,7 +77,7 @@ Step = tuple[str, Callable[[str], str]]
 CODE: list[Step] = [(SPACES, stripped), (CAPITALS, capitals)]
 STEPS: dict[str, list[Step]] = {
     "person": CODE, "room": CODE, "home": CODE, "name": [(SPACES, squeezed)], "key": [(SPACES, stripped)],
-    "grade": [(SPACES, stripped)], "email": [(SPACES, stripped)],
+    "grade": [(SPACES, stripped)], "email": [(SPACES, stripped)], "language": [(SPACES, stripped)],
     "choices": [(SPACES, stripped), (SEPARATED, separated), (CAPITALS, capitals)],
     **{target: [(SPACES, squeezed)] for target in ("house", "floor", "size", "rent", "text")},
 }
@@ -113,7 +115,7 @@ class Cleaner:
 
     def changes(self) -> list[Change]:
         """What it changed."""
-        return [Change(text, self.counts[what], self.examples.get(what, [])) for what, text in CHANGES.items()
+        return [Change(_(text), self.counts[what], self.examples.get(what, [])) for what, text in CHANGES.items()
                 if what in self.counts]
 
 
@@ -137,16 +139,15 @@ def read(kind: str, data: bytes) -> Understood:
             return understood(kind, data, sheet_text.Text(rows, what, False, False))
         return understood(kind, data, sheet_text.read(data, lambda name: columns.is_known(kind, name)))
     except Unreadable as fault:
-        says, _, to_do = str(fault).partition(". ")
-        raise NotUnderstood(Meaning(f"{says}.", to_do)) from fault
+        raise NotUnderstood(Meaning(_(fault.says), _(fault.to_do))) from fault
 
 
 def understood(kind: str, data: bytes, text: sheet_text.Text) -> Understood:
     """What the page understands of these rows."""
     if len(text.rows) > sheet_books.MOST_ROWS + columns.LOOKED_AT:
-        raise NotUnderstood(CAUSES["many"])
+        raise NotUnderstood(CAUSES["many"].translated())
     if not text.rows:
-        raise NotUnderstood(Meaning("This file is empty.", "Choose another one."))
+        raise NotUnderstood(Meaning(_("This file is empty."), _("Choose another one.")))
     found = columns.find(kind, text.rows)
     if isinstance(found, Meaning):
         raise NotUnderstood(found)
@@ -158,7 +159,7 @@ def understood(kind: str, data: bytes, text: sheet_text.Text) -> Understood:
     if text.plain and [record.fields for record in CsvList(data).records] == [record.fields for record in table.records]:
         return Understood(CsvList(data), data, text.what, [], [], [], [], False)
     # The page shows descriptions whole, and not as it shows what may have keys.
-    first = [] if kind == DESCRIPTIONS else [list_faults.fields_shown(fields, kind) for _, fields in records[:5]]
+    first = [] if kind == DESCRIPTIONS else [list_faults.fields_shown(fields, kind) for __, fields in records[:5]]
     return Understood(table, table.body(), text.what, names_of(header, found), notes_on(kind, text, found, records),
                       cleaner.changes(), first, True)
 
@@ -166,7 +167,7 @@ def understood(kind: str, data: bytes, text: sheet_text.Text) -> Understood:
 def names_of(header: list[str], found: Columns) -> list[tuple[str, str]]:
     """Each column of the file with what it was taken for."""
     taken = {place: target for target, places in found.places.items() for place in places}
-    return [(columns.listed([header[place]]), taken.get(place, "left out")) for place in range(len(header))
+    return [(columns.listed([header[place]]), taken.get(place, _("left out"))) for place in range(len(header))
             if place in taken or place in found.left_out]
 
 
@@ -174,13 +175,16 @@ def notes_on(kind: str, text: sheet_text.Text, found: Columns, records: list[tup
     """What the clerk has to know besides."""
     notes = []
     if found.at:
-        notes.append(f"The columns have their names in row {text.rows[found.at][0]}. What is above is left out.")
+        notes.append(_("The columns have their names in row {row}. What is above is left out.", row=text.rows[found.at][0]))
     if kind == "people":
-        absent = {"key": "No column has keys.", "home": "No column has rooms: nobody who is new gets one by this list."}
+        absent = {"key": _("No column has keys."),
+                  "home": _("No column has rooms: nobody who is new gets one by this list.")}
         notes += [note for target, note in absent.items() if not found.places[target]]
-    letters = [fields[place] for _, fields in records for place in LETTERS.get(kind, ())
+    letters = [fields[place] for __, fields in records for place in LETTERS.get(kind, ())
                if len(fields) == len(found.places) and not fields[place].isascii()]
     if text.guessed and letters:
-        notes.append(f"The page guessed the character set. Look whether {'these names' if kind == 'people' else 'this'} "
-                     f"{'are' if kind == 'people' else 'is'} right: {list_faults.shown([', '.join(letters[:6])], '')}.")
+        some = list_faults.shown([", ".join(letters[:6])], "")
+        notes.append(_("The page guessed the character set. Look whether these names are right: {names}.", names=some)
+                     if kind == "people" else
+                     _("The page guessed the character set. Look whether this is right: {words}.", words=some))
     return notes

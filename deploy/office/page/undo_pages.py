@@ -7,6 +7,8 @@ the office, so it can be left and opened again.
 import re
 from typing import Any, NamedTuple
 
+from languages import N_, _, ngettext
+
 import plain
 from app import app, ask, change, field, go_to, office_now, show, tell
 from coming_back import GivenUp, had_in, has_come_again, rounds, what_is_left
@@ -15,14 +17,14 @@ from office_view import Office
 from people_pages import person_of
 from questions import away_facts, must_be_sure
 
-WITHDRAWN, GOING = "has withdrawn", "leaves the college"
+WITHDRAWN, GOING = "withdrawn", "going"  # why somebody takes no part
 # How the person can be helped without undoing it.
 LATER = {
-    WITHDRAWN: "Somebody who has withdrawn keeps the room that they have. After the round is settled, somebody without a room can "
-               "move into a free one (page People), or take part in a second round.",
-    GOING: "Somebody who leaves the college has no room once the round is settled, and the old room may be another person's by "
-           "then. Do not remove the person from the register. After the round is settled you can let them move into a free room "
-           "(page People), or they can take part in a second round.",
+    WITHDRAWN: N_("Somebody who has withdrawn keeps the room that they have. After the round is settled, somebody without a room "
+                  "can move into a free one (page People), or take part in a second round."),
+    GOING: N_("Somebody who leaves the college has no room once the round is settled, and the old room may be another person's by "
+              "then. Do not remove the person from the register. After the round is settled you can let them move into a free room "
+              "(page People), or they can take part in a second round."),
 }
 # The steps of the long way, which the page takes itself.
 STEPS = {"cancel": plain.CANCELLABLE, "open": ("idle",)}
@@ -53,10 +55,17 @@ def given_up_with(office: Office, ident: str) -> tuple[GivenUp, str] | None:
 
 def others_in(found: dict[str, Any], ident: str) -> list[str]:
     """What else would become of people by going back to a copy, in a few words each."""
-    counts = {"with another list": found["lists"], "with another part in the round": [one for one in found["part"] if one != ident],
-              "with another key": found["keys"], "with another name": found["names"],
-              "who come back into the register": found["come"], "who go out of the register": found["go"]}
-    return [f"{plain.people(len(people))} {what}" for what, people in counts.items() if people]
+    lists, names, keys, come, gone = (len(found[part]) for part in ("lists", "names", "keys", "come", "go"))
+    part = sum(1 for one in found["part"] if one != ident)
+    said = [
+        lists and ngettext("one person with another list", "{count} people with another list", lists),
+        part and ngettext("one person with another part in the round", "{count} people with another part in the round", part),
+        keys and ngettext("one person with another key", "{count} people with another key", keys),
+        names and ngettext("one person with another name", "{count} people with another name", names),
+        come and ngettext("one person who comes back into the register", "{count} people who come back into the register", come),
+        gone and ngettext("one person who goes out of the register", "{count} people who go out of the register", gone),
+    ]
+    return [text for text in said if text]
 
 
 def copy_before(office: Office, ident: str) -> Before | None:
@@ -81,12 +90,13 @@ def undo(ident: str) -> str:
     place, part = person_of(office, ident), part_of(office, ident)
     if part and office.phase in STEPS["cancel"]:
         before = copy_before(office, ident) if office.phase == "open" else None
-        return show("undo", office=office, person=office.people[ident], part=part, step="cancel", before=before, copy="",
-                    facts=away_facts(office), later=LATER[part])
+        return show("undo", office=office, person=office.people[ident], left=part == GOING, step="cancel", before=before, copy="",
+                    facts=away_facts(office), later=_(LATER[part]))
     if not part and (found := given_up_with(office, ident)):
         return next_step(office, ident, *found)
-    tell("bad", f"{plain.PHASES[office.phase].title}. It can no longer be undone. {LATER[part]}" if part else
-         "There is nothing to undo: this person takes part, and took part in the last round that was given up.")
+    tell("bad", _("{phase}. It can no longer be undone. {later}", phase=_(plain.PHASES[office.phase].title), later=_(LATER[part]))
+         if part else
+         _("There is nothing to undo: this person takes part, and took part in the last round that was given up."))
     return go_to(place)
 
 
@@ -95,8 +105,8 @@ def next_step(office: Office, ident: str, given_up: GivenUp, part: str) -> str:
     left = what_is_left(office, had_in(given_up.copy))
     rest = [one for one in left.away if one != ident and not has_come_again(office, one)]
     step = "open" if office.phase == "idle" else "back" if rest or left.lists_but(rest) else "done"
-    return show("undo", office=office, person=office.people[ident], part=part, step=step, before=None, copy=given_up.copy,
-                facts=(), later="")
+    return show("undo", office=office, person=office.people[ident], left=part == GOING, step=step, before=None,
+                copy=given_up.copy, facts=(), later="")
 
 
 @app.post("/office/undo/<ident>")
@@ -106,7 +116,7 @@ def take_step(ident: str) -> None:
     person_of(office, ident)
     place = f"/office/undo/{ident}"
     if step not in STEPS or office.phase not in STEPS[step]:
-        tell("bad", f"This step does not come now. {plain.PHASES[office.phase].title}.")
+        tell("bad", _("This step does not come now. {phase}.", phase=_(plain.PHASES[office.phase].title)))
         go_to(place)
     if step == "cancel":
         must_be_sure(place)

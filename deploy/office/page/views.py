@@ -14,7 +14,7 @@ from typing import Any, NamedTuple
 
 import bottle  # type: ignore[import]  # Debian's bottle has no types
 
-from languages import ENGLISH, _, ngettext, spoken
+from languages import ENGLISH, _, languages, ngettext, spoken
 
 FOLDER = Path(__file__).resolve().parent / "views"
 # Lines and blocks of code, as bottle's own parser finds them.
@@ -54,13 +54,16 @@ class Text(NamedTuple):
         return "".join([*parts, quoted(translation[at:])])
 
 
+PutText = Callable[[Text, str], str]
+
+
 def quoted(text: str) -> str:
     """A text as HTML in which a template finds no code."""
     return html.escape(" ".join(text.split("\n"))).replace("{", "&#123;").replace("%", "&#37;")
 
 
-def text_of(source: str, values: list[str]) -> Text:
-    """The text of a piece of HTML in which stand-ins are in the place of values."""
+def text_of(source: str, values: list[str], tag_of: Callable[[str], str]) -> Text:
+    """The text of a piece of HTML in which stand-ins are in the place of values. `tag_of` gives a tag as it is shown."""
     stands: dict[str, str] = {}
     opened: list[int] = []
     count = 0
@@ -84,7 +87,7 @@ def text_of(source: str, values: list[str]) -> Text:
             count += 1
             opened.append(count)
             name = f"<{count}>"
-        stands[name] = STAND_IN.sub(lambda sign: values[ord(sign[0]) - FIRST_STAND_IN], found[0])
+        stands[name] = tag_of(found[0])
         return name
 
     marked = re.sub(f"{TAG.pattern}|{STAND_IN.pattern}", label, source, flags=re.S)
@@ -130,40 +133,52 @@ def cut(run: str) -> Iterator[str]:
         yield from re.split(f"({TAG.pattern})", run, flags=re.S)
 
 
-def put(source: str, put_text: Callable[[Text, str], str]) -> str:
+def put(source: str, put_text: PutText) -> str:
     """A template, with each of its texts as `put_text` gives it: it gets the text and its HTML."""
     parts, at = [], 0
     for code in [*CODE.finditer(source), None]:
-        values: list[str] = []
-
-        def stand_in(found: re.Match[str], values: list[str] = values) -> str:
-            values.append(found[0])
-            return chr(FIRST_STAND_IN + len(values) - 1)
-
-        def back(text: str, values: list[str] = values) -> str:
-            return STAND_IN.sub(lambda sign: values[ord(sign[0]) - FIRST_STAND_IN], text)
-
-        for piece in pieces(VALUE.sub(stand_in, source[at:code.start() if code else len(source)])):
-            if TAG.fullmatch(piece):
-                parts.append(ATTRIBUTE.sub(lambda found: back(found[1]) + put_piece(found[2], values, back, put_text)
-                                           + back(found[3]), piece))
-                parts[-1] = back(parts[-1])
-            else:
-                parts.append(put_piece(piece, values, back, put_text))
+        part = Part(put_text)
+        pieces_of = pieces(VALUE.sub(part.stand_in, source[at:code.start() if code else len(source)]))
+        parts += [part.tag_of(piece) if TAG.fullmatch(piece) else part.put(piece) for piece in pieces_of]
         if code:
             parts.append(code[0])
             at = code.end()
     return "".join(parts)
 
 
-def put_piece(piece: str, values: list[str], back: Callable[[str], str], put_text: Callable[[Text, str], str]) -> str:
-    """A piece of a template with its text as `put_text` gives it, if it has one."""
-    inner = piece.strip()
-    if not LETTER.search(html.unescape(TAG.sub("", inner))):
-        return back(piece)
-    inner = bare(inner)
-    begin = piece.index(inner)
-    return back(piece[:begin]) + put_text(text_of(inner, values), back(inner)) + back(piece[begin + len(inner):])
+class Part:
+    """A part of a template without lines of code. While its HTML is looked at, stand-ins are in the place of its values."""
+
+    def __init__(self, put_text: PutText) -> None:
+        self.put_text = put_text
+        self.values: list[str] = []
+
+    def stand_in(self, found: re.Match[str]) -> str:
+        """What is in the place of a value."""
+        self.values.append(found[0])
+        return chr(FIRST_STAND_IN + len(self.values) - 1)
+
+    def back(self, text: str) -> str:
+        """A piece with its values."""
+        return STAND_IN.sub(lambda sign: self.values[ord(sign[0]) - FIRST_STAND_IN], text)
+
+    def tag_of(self, tag: str) -> str:
+        """A tag, with those of its attributes that people read."""
+        return self.back(ATTRIBUTE.sub(lambda found: found[1] + self.put(found[2]) + found[3], tag))
+
+    def tags_in(self, piece: str) -> str:
+        """A piece whose text stays as it is."""
+        return self.back(TAG.sub(lambda found: self.tag_of(found[0]), piece))
+
+    def put(self, piece: str) -> str:
+        """A piece with its text as it is put, if it has one."""
+        inner = piece.strip()
+        if not LETTER.search(html.unescape(TAG.sub("", inner))):
+            return self.tags_in(piece)
+        inner = bare(inner)
+        begin = piece.index(inner)
+        text = text_of(inner, self.values, self.tag_of)
+        return self.tags_in(piece[:begin]) + self.put_text(text, self.tags_in(inner)) + self.tags_in(piece[begin + len(inner):])
 
 
 def texts_of(source: str) -> list[str]:
@@ -202,4 +217,4 @@ def view(name: str, language: str) -> View:
 
 def render(name: str, **values: Any) -> str:
     """The page of a template in the language that is spoken."""
-    return str(view(name, spoken()).render(_=_, ngettext=ngettext, spoken=spoken, **values))
+    return str(view(name, spoken()).render(_=_, ngettext=ngettext, spoken=spoken, languages=languages, **values))

@@ -5,7 +5,8 @@
 
 # Debian's packages that the machine needs, besides what the package needs and recommends.
 around=(systemd-sysv linux-image-cloud-amd64 initramfs-tools dbus rsyslog iproute2 curl openssl procps sudo
-    haproxy python3 python3-bottle python3-defusedxml python3-openpyxl python3-pil python3-segno python3-waitress sqlite3)
+    haproxy python3 python3-bottle python3-defusedxml python3-openpyxl python3-pil python3-polib python3-segno python3-waitress
+    sqlite3)
 
 # Makes the machine's disk, folder/disk: a Debian 12 with systemd and HAProxy, which at each start runs the script INSIDE
 # as root. The further files are next to it, in /trial. folder/machine keeps the Debian that was fetched, and is made

@@ -1,0 +1,97 @@
+"""What the keeper has of people beside the register, under their identifiers: mail addresses and what was sent, languages, and the
+college's accounts. Whoever gets an identifier later is somebody else, and gets nothing of it.
+
+So before new people come into the register, what is there under their identifiers is erased: of somebody who was removed by hand,
+or who is in the register no more since the office went back to a copy. Before people go, their identifiers are written down in a
+file beside the office's; once they are out of the register, all that is under them is erased, by the next keeper if this one is
+ended. After a way back it stays, since the office may come forth again, and no copy has it.
+"""
+
+import contextlib
+import json
+import sqlite3
+import threading
+from collections.abc import Callable, Iterable
+from pathlib import Path
+
+from accounts import Accounts
+from languages import N_, _
+from languages_kept import Languages
+from mail import Post
+from placing import beside, to_disk
+from settings import Fault, unwritten
+
+
+class BesideRegister:
+    """What the keeper has of people beside the register."""
+
+    def __init__(self, file: Path, post: Post, languages: Languages, accounts: Accounts) -> None:
+        self.post, self.languages, self.accounts = post, languages, accounts
+        self.path, self.lock = beside(file, ".leaving"), threading.Lock()
+
+    def prepare(self, come: set[str], gone: set[str]) -> None:
+        """Before people come into the register, and go out of it. If it fails, they do not."""
+        if come:
+            self.erase_before(come)
+        if gone:
+            with self.lock:
+                self.write(self.leaving() | gone)
+
+    def erase_before(self, come: set[str]) -> None:
+        """Erases what was somebody else's under these identifiers."""
+        try:
+            self.post.book.erase(come)
+            self.languages.set_residents(dict.fromkeys(come, ""))
+            self.accounts.erase(come)
+        except Fault as fault:
+            raise Fault(_("{why} Before that nobody new comes into the register: what is kept there may be of somebody else who "
+                          "had the same identifier. Nothing was changed in the register.", why=fault)) from fault
+
+    def let_go(self, gone: Iterable[str]) -> None:
+        """Erases all of people who are out of the register. If one file fails, the others are changed all the same, and the next
+        keeper tries again."""
+        people, failed = sorted(gone), []
+        erasures: list[Callable[[list[str]], None]] = [self.post.erase, self.languages.erase, self.accounts.forget]
+        for erase in erasures if people else []:
+            try:
+                erase(people)
+            except Fault as fault:
+                failed.append(str(fault))
+        if failed:
+            raise Fault(" ".join(failed))
+        with self.lock:
+            if left := self.leaving():
+                self.write(left - set(people))
+
+    def finish(self, register: Callable[[], set[str]]) -> None:
+        """Erases what a keeper has left that was ended. Whoever is in the register did not go after all, or is somebody else,
+        before whom all was erased."""
+        beside(self.path, ".part").unlink(missing_ok=True)
+        with contextlib.suppress(Fault, OSError, sqlite3.Error):  # of a file that is damaged: the next start tries again
+            if left := self.leaving():
+                self.let_go(left - register())
+                self.path.unlink()
+
+    # --- the file
+
+    def leaving(self) -> set[str]:
+        """Who goes out of the register, or is out of it and not erased yet."""
+        try:
+            return set(map(str, json.loads(self.path.read_bytes())))
+        except (FileNotFoundError, ValueError, TypeError):  # it is renamed once it is whole
+            return set()
+
+    def write(self, people: set[str]) -> None:
+        """Puts another file in the place of this one, or takes it away if nobody is left."""
+        part = beside(self.path, ".part")
+        try:
+            if people:
+                part.write_text(json.dumps(sorted(people)) + "\n", encoding="ascii")
+                to_disk(part)
+                part.rename(self.path)
+            else:
+                self.path.unlink(missing_ok=True)
+            to_disk(self.path.parent)
+        except OSError as fault:
+            part.unlink(missing_ok=True)
+            raise unwritten(N_("who goes out of the register"), fault) from fault

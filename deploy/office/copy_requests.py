@@ -1,0 +1,101 @@
+"""What the keeper can be asked of the kept copies of the office, and of the way back to one.
+
+| ask | fields | answer |
+|---|---|---|
+| backup, backups | | name; backups: name, bytes and reason of each; days: how long one stays at most; stays: of each |
+| days | days, only_try | gone: how many copies are older than so many days, and are deleted |
+| compare | name | what becomes of people by going back to a copy (differences.py) |
+| given-up | name of a copy, or none | rounds: copy, number, phase of each that was given up; or what the one in the copy had |
+| back | name, seen | name: of the copy of the present office that was taken before; and as `compare`, if that could be read |
+"""
+
+import contextlib
+import sqlite3
+from collections.abc import Callable
+from pathlib import Path
+
+from backups import ASKED_FOR, MOST_DAYS
+from dates import Dates
+from differences import differences
+from given_up import given_up
+from job import Job, seen_in, text
+from languages import _
+from office import Office
+from program import Answer, is_of_earlier_version, is_refused
+from rows import rows_of
+from seen import Rows
+from settings import Fault
+from worker import Change, Worker
+
+
+class CopyRequests:
+    """Answers what is asked of copies."""
+
+    def __init__(self, office: Office, worker: Worker, dates: Dates) -> None:
+        self.office, self.worker, self.dates = office, worker, dates
+        self.program, self.copies, self.backups, self.journal = office.program, office.copies, office.backups, office.journal
+
+    def requests(self) -> dict[str, Callable[[Job], Job]]:
+        """What can be asked."""
+        return {"backup": self.backup, "backups": self.list_backups, "days": self.set_days, "compare": self.compare,
+                "given-up": self.given_up, "back": self.put_back}
+
+    def backup(self, job: Job) -> Job:
+        """Keeps a copy of the office while the server runs."""
+        name = self.backups.keep(ASKED_FOR, f"asked for by {job['who']}")
+        self.journal.note(who=job["who"], line="backup", answer=name)
+        return {"name": name}
+
+    def list_backups(self, _job: Job) -> Job:
+        """The kept copies."""
+        days = self.backups.days()
+        return {"backups": self.backups.listed(), "days": days, "stays": self.backups.stays(days)}
+
+    def set_days(self, job: Job) -> Job:
+        """For how many days a copy stays at most. With `only_try` only says how many copies go."""
+        days = job["days"]
+        if not isinstance(days, int) or isinstance(days, bool) or not 1 <= days <= MOST_DAYS:
+            raise Fault(_("a copy stays for 1 to {days:,} days. Nothing was changed.", days=MOST_DAYS))
+        gone = len(self.backups.old(days))
+        if not job.get("only_try"):
+            with self.journal.change(job["who"], f"copies stay for {days} days: {gone} are deleted"):
+                self.backups.set_days(days)
+        return {"gone": gone}
+
+    def compare(self, job: Job) -> Job:
+        """What becomes of people, if the office goes back to a kept copy."""
+        now = self.worker.view.rows()
+        with self.copies.copied() as copy:
+            self.backups.take(text(job, "name"), copy)
+            return differences(rows_of(copy), now)
+
+    def given_up(self, job: Job) -> Job:
+        """The rounds that were given up, or what one of them had."""
+        return given_up(self.office, self.worker.view, text(job, "name") if "name" in job else None)
+
+    def put_back(self, job: Job) -> Job:
+        """Puts a kept copy in the office's place. The present office is copied before, even if it is damaged.
+
+        A copy from before an upgrade of the program is brought to the program's version.
+        """
+        name, then, found = text(job, "name"), Rows(), Job()
+
+        def carry_out(copy: Path) -> list[Answer]:
+            now = None
+            with contextlib.suppress(sqlite3.Error):  # of an office that is damaged
+                now = rows_of(copy)
+            self.backups.take(name, copy)
+            answer = self.program.look(copy)
+            if is_of_earlier_version(answer):
+                answer = self.program.migrate(copy)
+            if answer.status == 0:
+                then.update(rows_of(copy))
+                found.update(differences(then, now) if now else {})
+            return [answer]
+        change = self.worker.change(Change(job["who"], f"back {name}", carry_out, whole=True, kind="back",
+                                         why=f"before back {name}, by {job['who']}", damaged=True, seen=seen_in(job)))
+        if is_refused(change.answers):
+            said = change.answers[-1].text.strip()
+            raise Fault(_("the program does not take this copy ({said}). Nothing was changed.", said=said))
+        self.dates.went_back(then)
+        return {"name": change.copy, **found}

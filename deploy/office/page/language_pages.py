@@ -1,0 +1,86 @@
+"""The languages: which one each clerk reads, and in which one each resident is written to."""
+
+import re
+from collections import Counter
+
+from languages import _, ngettext
+
+from app import app, ask, clerk, field, go_to, memory, office_now, show, tell, text_of
+from keeper_client import KeeperFault
+from people_pages import person_of
+from resident_languages import residents
+
+HOME = "/office/languages"
+# A page of this office, as an address may name it.
+OWN = re.compile(r"/office/(?:[A-Za-z0-9_.~%-]+/)*[A-Za-z0-9_.~%-]*")
+
+
+# --- clerks
+
+@app.post("/office/language")
+def choose_language() -> None:
+    """Keeps the language that the clerk chooses, and leads back to the page."""
+    code, back = field("language"), field("back")
+    try:
+        memory.language(clerk(), str(ask("language", language=code)["language"]))
+    except KeeperFault as fault:
+        tell("bad", _("This could not be done. {why}", why=fault))
+    go_to(back if OWN.fullmatch(back) else "/office/")
+
+
+# --- residents
+
+@app.get(HOME)
+def languages_page() -> str:
+    """In which languages residents are written to."""
+    office, found = office_now(), residents()
+    counts = Counter(found.of(ident) for ident in office.people)
+    strangers = [ident for ident in found.own if ident not in office.people]
+    return show("languages", office=office, found=found, counts=counts, strangers=strangers)
+
+
+@app.post(f"{HOME}/office")
+def set_office() -> None:
+    """Sets the language of residents without one."""
+    if done(office=field("language")):
+        tell("good", _("The language of everybody without one is set."))
+    go_to(HOME)
+
+
+@app.post(f"{HOME}/many")
+def set_many() -> None:
+    """Sets the language of many people, by their identifiers."""
+    idents = list(dict.fromkeys(filter(None, re.split(r"[\s,;]+", field("text").upper()))))
+    if not idents:
+        tell("bad", _("You have named nobody. Nothing was changed."))
+    elif done(languages={ident: field("language") for ident in idents}):
+        tell("good", ngettext("The language of one person is set.", "The language of {count} people is set.", len(idents)))
+    go_to(HOME)
+
+
+@app.post(f"{HOME}/strangers")
+def erase_strangers() -> None:
+    """Erases the languages of people who are not in the register."""
+    known = office_now().people
+    if done(languages={ident: "" for ident in residents().own if ident not in known}):
+        tell("good", _("They are erased."))
+    go_to(HOME)
+
+
+@app.post(f"{HOME}/person/<ident>")
+def set_language(ident: str) -> None:
+    """Sets the language of one person."""
+    place = person_of(office_now(), ident)
+    if done(languages={ident: text_of("language")}, was=field("was")):
+        tell("good", _("The language is set."))
+    go_to(place)
+
+
+def done(**fields: object) -> bool:
+    """Whether the keeper has set languages; else the clerk reads why not."""
+    try:
+        ask("set-languages", **fields)
+    except KeeperFault as fault:
+        tell("bad", _("This could not be done. {why}", why=fault))
+        return False
+    return True

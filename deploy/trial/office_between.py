@@ -1,0 +1,128 @@
+"""What comes in between a page and its form, and what goes with a step: /usr/bin/python3 deploy/trial/office_between.py PROGRAM.
+
+A list of people again leaves the addresses of known people. A question names the lists and the mails that are lost by a yes.
+"""
+
+import datetime
+import html
+import re
+import sys
+from pathlib import Path
+
+# The repository stays as it is.
+sys.dont_write_bytecode = True
+
+# pylint: disable=wrong-import-position  # nothing may be written before
+from mail_server import MailServer
+from office_mail import FORM, mail_of, press, rest, settle_mail
+from office_requests import Page, hand_in
+from office_sheets import bring_in
+from stand import Stand, check, key_of
+
+ROOMS = ["A-1", "A-2", "A-3"]
+PEOPLE = ["T01", "T02", "T03"]
+NEWER = "newer@college.example"
+
+
+def flat(text):
+    """A page as a reader has it."""
+    return " ".join(html.unescape(re.sub(r"<[^>]*>", " ", text)).split())
+
+
+def addresses(stand):
+    """The addresses that the keeper has."""
+    return stand.ask(ask="mail-list")["addresses"]
+
+
+def try_known_people(stand, page):
+    """A list of people again, with older addresses, and one new person."""
+    stand.ask(ask="mail-addresses", addresses={"T01": NEWER})
+    rows = [["T01", "Person T01", "", mail_of("T01")], ["T04", "Person T04", key_of("T04"), mail_of("T04")]]
+    shown = flat(bring_in(page, "people", "people-again", ["person", "name", "key", "email"], rows))
+    check("of a list of people again only new people's addresses come in", "1 mail address comes in with the list" in shown, shown)
+    kept = addresses(stand)
+    check("and who is known keeps theirs", kept.get("T01") == NEWER and kept.get("T04") == mail_of("T04"), kept)
+
+
+def try_many(stand, page):
+    """Somebody hands in a list after the clerk has named who is to withdraw."""
+    form = {**page.hidden("/office/many"), "act": "withdraw", "text": "T01 T02"}
+    hand_in(stand, key_of("T01"), ["A-2"])
+    shown = flat(page.post("/office/many", form)[2])
+    check("the question about many people names their lists", "T01 Person T01 A-1 A-2 T02 Person T02 none none" in shown, shown)
+
+
+def try_way_back(stand, page):
+    """Somebody hands in a list after the clerk has read the question about a copy."""
+    name = stand.ask(ask="backup")["name"]
+    place = f"/office/copies/{name}/back"
+    form = page.hidden(place, place)
+    hand_in(stand, key_of("T03"), ["A-3"])
+    page.post(place, form)
+    shown = flat(page.get("/office/")[2])
+    check("going back names whose list is lost", "had another list before, which does not count now: T03" in shown, shown)
+
+
+def try_giving_up(stand, page):
+    """The date goes with the round."""
+    said = "The date until which lists are taken goes with the round"
+    check("without a date the question says nothing of one", said not in flat(page.get("/office/step/cancel")[2]))
+    soon = datetime.datetime.now() + datetime.timedelta(days=7)
+    answer = stand.ask(ask="set-until", at=f"{soon:%Y-%m-%dT%H:%M}", closes=False, who="anna")
+    check("a date is set", "fault" not in answer, answer)
+    for path in ("/office/step/cancel", "/office/undo/T02"):
+        if "undo" in path:
+            stand.office("withdraw T02")
+        check(f"{path} says that the date goes", said in flat(page.get(path)[2]), flat(page.get(path)[2]))
+
+
+def try_settling(stand, page, server):
+    """Results wait for the mail server when the round is to be settled."""
+    for line in ("close", f"draw {' '.join(['0123456789abcdef'] * 3)}", "run", "publish"):
+        stand.office(line)
+    server.stop()
+    press(page, "results")
+    run = rest(stand)
+    check("without a mail server the results wait", run["state"] == "paused" and run["waiting"] == 3, run)
+    shown = flat(page.get("/office/step/settle")[2])
+    check("the question before settling says so", "3 mails are not sent yet" in shown and "cannot be sent any more" in shown, shown)
+    stand.office("settle")
+    shown = flat(page.get(FORM)[2])
+    check("once it is settled the page says that they cannot be sent", "what waits cannot be sent any more" in shown
+          and "Nothing is lost" not in shown, shown)
+
+
+def try_strangers(stand, page):
+    """Addresses of people whom the clerk has not seen stay."""
+    check("nobody is a stranger, so there is no form", f'action="{FORM}/strangers"' not in page.get(FORM)[2])
+    token = page.hidden("/office/rooms")
+    page.post(f"{FORM}/strangers", [*token.items(), ("person", "T01")])
+    check("a form erases no address of somebody in the register", addresses(stand).get("T01") == NEWER, addresses(stand))
+
+
+def try_office_between(program):
+    """All of it."""
+    with MailServer() as server, Stand(program) as stand:
+        for line in [*(f"room {code}" for code in ROOMS), *(f"person {one} {key_of(one)} Person {one}" for one in PEOPLE),
+                     "home T01 A-1"]:
+            stand.tell(line)
+        settle_mail(stand, server)
+        stand.start()
+        stand.start_page()
+        stand.start_proxy()
+        page = Page(stand)
+        try_known_people(stand, page)
+        stand.ask(ask="mail-addresses", addresses={one: mail_of(one) for one in PEOPLE[1:]})
+        try_strangers(stand, page)
+        stand.office("open")
+        try_many(stand, page)
+        try_way_back(stand, page)
+        try_giving_up(stand, page)
+        try_settling(stand, page, server)
+        check("the page has noted no fault of its own", "rooms-page:" not in stand.log("page"), stand.log("page"))
+
+
+if __name__ == "__main__":
+    if len(sys.argv) != 2 or not Path(sys.argv[1]).exists():
+        sys.exit("usage: /usr/bin/python3 deploy/trial/office_between.py PROGRAM")
+    try_office_between(sys.argv[1])
