@@ -60,7 +60,8 @@ class Backups:
             if make_whole(copy, look=damaged or not still):
                 return self.store([copy], {"kind": kind, "why": why, "whole": True})
         if not damaged:
-            raise Fault(_("the office's file is damaged, so nothing was done. Put a copy back: rooms-office back NAME"))
+            raise Fault(_("the office's file is damaged, so nothing was done. Put a copy back: {command}",
+                          command=self.settings.place.command("rooms-office back NAME")))
         with self.copies.copied(still) as copy:  # anew: to look at the first one may have changed it
             return self.store([one for end in ENDS if (one := beside(copy, end)).exists()],
                               {"kind": kind, "why": why, "whole": False})
@@ -168,7 +169,8 @@ class Backups:
         """Puts a kept copy over another copy, as one file."""
         source = self.folder / name / target.name
         if not NAME.fullmatch(name) or not source.is_file():
-            raise Fault(_("there is no copy {name}. See them all: rooms-office backups", name=repr(name)))
+            raise Fault(_("there is no copy {name}. See them all: {command}", name=repr(name),
+                          command=self.settings.place.command("rooms-office backups")))
         for end in (*ENDS, "-shm"):
             beside(target, end).unlink(missing_ok=True)
         for end in ENDS:

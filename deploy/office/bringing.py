@@ -18,10 +18,12 @@ from contextlib import AbstractContextManager
 from pathlib import Path
 from typing import NamedTuple
 
+import house_list
 import told
+from house_places import Place
 from journal import Journal
 from machine_backup import FILES, STATE, TOLD, About, Kept
-from machine_files import CERTIFICATE, MACHINE, PROXY, version
+from machine_files import MACHINE, on_machine, version
 from placing import to_disk
 from settings import Fault
 
@@ -36,6 +38,7 @@ WARNINGS = {
     "languages": "set the languages again that were changed since",
 }
 OF_PEOPLE = set(WARNINGS)
+OF_MACHINE = {"portal", "proxy", "units"}  # parts that name places of one office
 
 
 class Goal(NamedTuple):
@@ -131,9 +134,14 @@ def date_in(until: Path) -> str:
 class Rest:
     """What is to be brought beside the office's file."""
 
-    def __init__(self, folder: Path, about: About, sums: dict[str, str], parts: set[str]) -> None:
-        self.folder, self.about, self.sums, self.parts = folder, about, sums, parts
+    def __init__(self, folder: Path, about: About, sums: dict[str, str], parts: set[str], place: Place) -> None:
+        self.folder, self.about, self.sums, self.parts, self.place = folder, about, sums, parts, place
         self.brought: set[str] = set()  # the files of people, in which somebody may be who was erased since
+        if parts & OF_MACHINE and about.house != place.house:
+            whose = Place(about.house)
+            name = whose.of("the plain office", "the house {}")
+            raise Fault(f"the backup is that of {name}, and {', '.join(sorted(OF_MACHINE))} have their places there: "
+                        f"{whose.command('rooms-restore')}. Without these parts it may come here")
 
     def goals(self, top: str, target: Path, folder_mode: int) -> list[Goal]:
         """What is to be brought out of one folder of the backup."""
@@ -197,7 +205,8 @@ class Rest:
             left.append(f"the backup also has {', '.join(sorted(has - self.parts))}: rooms-restore --with all brings these too")
         if "proxy" in self.parts:
             left += [f"the backup lacks {one}: set it up by hand" for one in self.about.absent]
-            left += [*proxy_faults(), *certificate_words(), "run systemctl restart haproxy",
+            left += [*proxy_faults(self.place), *port_words(self.place), *certificate_words(self.place),
+                     f"run systemctl restart {self.place.proxy_unit.removesuffix('.service')}",
                      "clerks sign in with the passwords of the backup: take out those who have left since"]
         if "portal" in self.parts and any(name.startswith(f"{FILES}/etc/rooms/sign-in/") for name in self.about.files):
             left.append("residents sign in by the college's accounts: sign-in/README.md, \"On a new machine\"")
@@ -206,7 +215,8 @@ class Rest:
         if self.parts & {"portal", "proxy"} and self.about.version != version():
             left.append(f"the backup is of {self.about.version}, and here is {version()}: compare haproxy.cfg and the texts with "
                         "those of the package, as docs/upgrading.md says")
-        left += [f"{one} was in the group of the clerks' command: usermod -aG rooms-office {one}" for one in self.about.clerks]
+        left += [f"{one} was in the group of the clerks' command: usermod -aG {self.place.clerks} {one}"
+                 for one in self.about.clerks]
         return left
 
 
@@ -218,17 +228,28 @@ def said_by(*words: str) -> tuple[int, str]:
     return -1, ""
 
 
-def proxy_faults() -> list[str]:
+def proxy_faults(place: Place) -> list[str]:
     """What HAProxy first says against its configuration."""
-    status, said = said_by("haproxy", "-c", "-f", str(MACHINE / PROXY))
+    status, said = said_by("haproxy", "-c", "-f", str(on_machine(place.proxy)))
     alert = next((line for line in said.splitlines() if "[ALERT]" in line), "")
-    return [] if status in (0, -1) else [f"HAProxy does not take /{PROXY}: {alert}"]
+    return [] if status in (0, -1) else [f"HAProxy does not take {place.proxy}: {alert}"]
 
 
-def certificate_words() -> list[str]:
+def port_words(place: Place) -> list[str]:
+    """Whether HAProxy's configuration of a house has another port than the house has on this machine."""
+    with contextlib.suppress(OSError):
+        port = house_list.read(on_machine(place.settings)).port
+        text = on_machine(place.proxy).read_text(encoding="utf-8", errors="replace")
+        if place.house and (found := re.search(r"server one 127\.0\.0\.1:(\d+)", text)) and int(found[1]) != port:
+            return [f"{place.proxy} has the port {found[1]} of another machine: write {port} into its line `server one`"]
+    return []
+
+
+def certificate_words(place: Place) -> list[str]:
     """Whose the certificate is, and until when: the names have to lead here, and somebody has to renew it."""
-    status, said = said_by(*OPENSSL, str(MACHINE / CERTIFICATE))
+    certificate = on_machine(place.certificate)
+    status, said = said_by(*OPENSSL, str(certificate))
     until, names = re.search("notAfter=(.*)", said), re.findall("DNS:([^,\\s]+)", said)
     held = f"until {until[1]}" if status == 0 and until else "for a time that could not be read"
-    left = [f"the certificate holds {held}: have it renewed on this machine"] if (MACHINE / CERTIFICATE).exists() else []
+    left = [f"the certificate holds {held}: have it renewed on this machine"] if certificate.exists() else []
     return [*left, f"{' and '.join(names) or 'the name of the site'} has to lead to this machine"]

@@ -163,10 +163,7 @@ class Requests:
                 with speaking(ENGLISH):
                     told_before = history(list(self.journal.entries()), self.journal.is_whole(), rows["number"], rows["settled"])
                     body = record.record(copy, self.journal.seeds(), told_before)
-            except record.NoResults as why:  # record.py has its texts in English, since it also works without the keeper
-                raise Fault(_("there is no record: round {number} is {phase}: a round has results from `run` until `settle`",
-                              number=why.number, phase=why.phase)) from why
-            except record.Refused as why:
+            except record.Refused as why:  # record.py has its texts in English, since it also works without the keeper
                 raise Fault(_("there is no record: {why}", why=_(why.text, **why.values))) from why
         self.journal.note(who=job["who"], line="the public record was taken")
         return {"body": body}

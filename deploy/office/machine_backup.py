@@ -59,6 +59,7 @@ class About:
     clerks: list[str] = field(default_factory=list)     # who is in the group of the clerks' command
     absent: list[str] = field(default_factory=list)     # what the machine does not have, of what others have
     files: dict[str, Kept] = field(default_factory=dict)
+    house: str = ""  # of which house the office is, if it is of one
 
 
 def checksum(path: Path) -> str:
@@ -71,7 +72,8 @@ def checksum(path: Path) -> str:
 
 def write_list(folder: Path, about: About) -> None:
     """Writes what the backup says of itself, and then the checksums of all its files."""
-    text = json.dumps({"format": FORMAT, **asdict(about)}, ensure_ascii=False, indent=1)
+    said = {name: value for name, value in asdict(about).items() if name != "house" or value}  # 3.1.0 knows no house
+    text = json.dumps({"format": FORMAT, **said}, ensure_ascii=False, indent=1)
     (folder / ABOUT).write_text(text + "\n", encoding="utf-8")
     names = sorted(str(one.relative_to(folder)) for one in folder.rglob("*") if one.is_file())
     lines = [f"{checksum(folder / name)}  {name}\n" for name in names]

@@ -11,24 +11,34 @@ from collections.abc import Callable, Iterator
 from pathlib import Path
 
 import told
+from house_places import Place
 from machine_backup import FILES, PLACES, STATE, TOLD, Kept
 from placing import beside
 from settings import Fault, Settings
 
 MACHINE = Path(os.environ.get("ROOMS_MACHINE", "/"))  # the trial has a machine of its own
-PROXY = "etc/haproxy/haproxy.cfg"
-CERTIFICATE = "etc/haproxy/rooms.pem"
-# The files of each part, as patterns.
+# The files of each part of the plain office, as patterns.
 WANTED = {
     "portal": ["etc/rooms/**/*", "srv/rooms/portal/index.html", "srv/rooms/portal/texts.js", "srv/rooms/portal/rooms.csv"],
-    "proxy": [PROXY],
     "units": ["etc/systemd/system/rooms-*.d/*.conf", "etc/systemd/system/haproxy.service.d/*.conf",
               "etc/rsyslog.d/48-rooms.conf"],
 }
-# What dpkg, an editor or rooms-restore has put aside.
-ASIDE = re.compile(r".*(\.dpkg-\w+|~|\.before-.*)")
+# The same of a house, by its name. What `rooms-house` writes is none of it: a new machine has that already.
+OF_HOUSE = {
+    "portal": ["etc/rooms/houses/{}/portal/**/*", "etc/rooms/houses/{}/mail.conf"],
+    "units": ["etc/systemd/system/rooms-*@{}.*.d/*.conf", "etc/systemd/system/rooms-*@.*.d/*.conf", "etc/rsyslog.d/48-rooms.conf"],
+}
+# What is a house's, and in no backup of the plain office.
+HOUSES = re.compile(r"etc/rooms/houses/|.*@")
+# What dpkg, an editor or rooms-restore has put aside, and the port of a house, which rooms-house writes.
+ASIDE = re.compile(r".*(\.dpkg-\w+|~|\.before-.*)|house-port\.conf")
 CERTIFICATES = re.compile(r"""(?<!\S)(crt|crt-list|crt-base)\s+["']?([^\s"']+)""")
 TRIES, PAUSE = 50, 0.1  # until nobody changes a file while it is copied
+
+
+def on_machine(path: Path) -> Path:
+    """A path on this machine, or on that of the trial."""
+    return MACHINE / path.relative_to("/")
 
 
 def save(source: str | Path, target: Path, folder: int | None = None) -> None:
@@ -126,10 +136,10 @@ def named_in(text: str) -> list[str]:
     return [one.lstrip("/") for one in dict.fromkeys(named)]
 
 
-def certificates() -> list[str]:
+def certificates(proxy: str) -> list[str]:
     """The certificates that HAProxy's configuration names, as patterns: it may name a folder."""
     with contextlib.suppress(OSError):
-        found = named_in((MACHINE / PROXY).read_text(encoding="utf-8", errors="replace"))
+        found = named_in((MACHINE / proxy).read_text(encoding="utf-8", errors="replace"))
         return [f"{one.rstrip('/')}/*" if (MACHINE / one).is_dir() else one for one in found]
     return []
 
@@ -139,15 +149,24 @@ def has_place(path: str) -> bool:
     return path.startswith(tuple(f"{place}/" for place in PLACES)) and ".." not in path.split("/")
 
 
-def save_machine(folder: Path) -> tuple[dict[str, Kept], list[str]]:
+def wanted(place: Place, pattern: str) -> Iterator[Path]:
+    """The files of an office that a pattern names, but for those of other offices."""
+    for found in MACHINE.glob(pattern.format(place.house)):
+        if found.is_file() and not ASIDE.fullmatch(found.name):
+            if place.house or not HOUSES.match(str(found.relative_to(MACHINE))):
+                yield found
+
+
+def save_machine(place: Place, folder: Path) -> tuple[dict[str, Kept], list[str]]:
     """Copies the files of the machine, and names what is absent."""
     kept: dict[str, Kept] = {}
-    named = certificates() or [CERTIFICATE]
-    for part, patterns in {**WANTED, "proxy": [*WANTED["proxy"], *filter(has_place, named)]}.items():
-        for source in sorted({one for pattern in patterns for one in MACHINE.glob(pattern)}):
+    proxy = str(place.proxy.relative_to("/"))
+    named = certificates(proxy) or [str(place.certificate.relative_to("/"))]
+    for part, patterns in {**(OF_HOUSE if place.house else WANTED), "proxy": [proxy, *filter(has_place, named)]}.items():
+        for source in sorted({one for pattern in patterns for one in wanted(place, pattern)}):
             path = f"{FILES}/{source.relative_to(MACHINE)}"
-            if source.is_file() and not ASIDE.fullmatch(source.name) and path not in kept:
+            if path not in kept:
                 found = source.stat()
                 save(source, folder / path)
                 kept[path] = Kept(part, stat.S_IMODE(found.st_mode) & 0o755, found.st_mtime)
-    return kept, [f"/{one}" for one in (PROXY, *named) if not (has_place(one) and any(MACHINE.glob(one)))]
+    return kept, [f"/{one}" for one in (proxy, *named) if not (has_place(one) and any(MACHINE.glob(one)))]

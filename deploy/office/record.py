@@ -109,7 +109,8 @@ def read_office(file: Path) -> Office:
                               file=file, version=VERSION)
             _, number, phase = found[0]
             if phase not in ("ran", "published"):
-                raise NoResults(number, phase)
+                raise NoResults(N_("round {number} is {phase}: a round has results from `run` until `settle`"),
+                                number=number, phase=phase)
             grades = dict(database.execute("SELECT person, value FROM grade"))
             going = {person for person, in database.execute("SELECT person FROM going")}
             choices: dict[str, list[str]] = {}

@@ -7,6 +7,7 @@ import shutil
 from dataclasses import dataclass
 from pathlib import Path
 
+from house_places import NoHouse, Place, here
 from languages import _
 
 
@@ -42,6 +43,7 @@ class Settings:  # pylint: disable=too-many-instance-attributes  # each is a set
     told: Path = Path("/var/lib/rooms-told")  # the folder of what residents read of rooms, which is public
     mail: Path = Path("/etc/rooms/mail.conf")  # the settings of mail; without this file there is none
     account_socket: Path | None = None  # for the keys of accounts (accounts.py), if systemd does not open it
+    place: Place = Place()  # of which house the office is, if it is of one
 
     @property
     def journal(self) -> Path:
@@ -80,19 +82,24 @@ class Settings:  # pylint: disable=too-many-instance-attributes  # each is a set
 
 
 def from_environment() -> Settings:
-    """The settings, with the defaults of an installed office."""
+    """The settings, with the defaults of an installed office, the plain one or that of a house."""
     variables = os.environ
+    try:
+        place = here()
+    except NoHouse as why:
+        raise Fault(str(why)) from why
     found = shutil.which("rooms", path="/usr/local/bin:/usr/bin") or "/usr/bin/rooms"
     return Settings(
-        file=Path(variables.get("ROOMS_FILE", "/var/lib/rooms/rooms.db")),
+        file=Path(variables.get("ROOMS_FILE", place.file)),
         program=variables.get("ROOMS_PROGRAM", found),
         port=int(variables.get("ROOMS_PORT", "290")),
-        socket=Path(variables.get("ROOMS_SOCKET", "/run/rooms-keeper.sock")),
-        scratch=Path(variables.get("ROOMS_SCRATCH", "/run/rooms/copies")),
-        speakers=frozenset(variables.get("ROOMS_SPEAKERS", "rooms-page").split()),
+        socket=Path(variables.get("ROOMS_SOCKET", place.socket)),
+        scratch=Path(variables.get("ROOMS_SCRATCH", place.scratch)),
+        speakers=frozenset(variables.get("ROOMS_SPEAKERS", place.page_account).split()),
         line_seconds=float(variables.get("ROOMS_LINE_SECONDS", "15")),
         turn_seconds=float(variables.get("ROOMS_TURN_SECONDS", "30")),
-        told=Path(variables.get("ROOMS_TOLD", "/var/lib/rooms-told")),
-        mail=Path(variables.get("ROOMS_MAIL", "/etc/rooms/mail.conf")),
+        told=Path(variables.get("ROOMS_TOLD", place.told)),
+        mail=Path(variables.get("ROOMS_MAIL", place.settings / "mail.conf")),
         account_socket=Path(path) if (path := variables.get("ROOMS_ACCOUNT_SOCKET")) else None,
+        place=place,
     )

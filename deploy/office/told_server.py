@@ -15,8 +15,10 @@ from typing import Any
 
 import waitress
 
-FOLDER = Path(os.environ.get("ROOMS_TOLD", "/var/lib/rooms-told"))
-PLACE = os.environ.get("ROOMS_TOLD_SOCKET", "/var/lib/haproxy/rooms-told.sock")
+from house_places import here
+
+FOLDER = Path(os.environ.get("ROOMS_TOLD", here().told))
+PLACE = os.environ.get("ROOMS_TOLD_SOCKET", str(here().jail / "rooms-told.sock"))
 TEXTS = "/told/told.json"
 PICTURE = re.compile(r"/told/([0-9a-f]{32}\.jpg)")
 LONGEST = 130_000  # bytes of an answer; the keeper writes shorter files

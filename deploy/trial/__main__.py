@@ -33,6 +33,7 @@ from earlier import try_earlier
 from flush import try_flush
 from full import try_full
 from guessing import try_guessing
+from houses import try_houses
 from keeping import try_keeping
 from kills import try_kills
 from limits import try_limits
@@ -94,11 +95,11 @@ def all_parts(program, folder):
     """All parts."""
     of_program: list[Callable[..., None]] = [
         try_crash_states, try_keeping, try_clock, try_silent, try_watch, try_flush, try_byhand, try_restoring, try_earlier,
-        try_moving, try_nights, try_demo,
+        try_moving, try_nights, try_houses, try_demo,
         try_kills, try_copying, try_full, try_signing, try_guessing, try_noted, try_office_doors, try_office_clerks,
         try_office_again, try_office_between, try_office_formats, try_office_sheets, try_office_keys, try_office_forget,
-        try_office_wayback, try_office_told, try_office_dates, try_office_figures, try_draws, try_refused, try_office_mail, try_office_receipts,
-        try_mail_runs, try_burst, try_limits, try_ciphers, try_memory, try_port, try_stall, try_waits, try_unread,
+        try_office_wayback, try_office_told, try_office_dates, try_office_figures, try_draws, try_refused, try_office_mail,
+        try_office_receipts, try_mail_runs, try_burst, try_limits, try_ciphers, try_memory, try_port, try_stall, try_waits, try_unread,
         try_office_overview, try_office_words, try_office_languages, try_office_marked, try_certificate, try_authority,
         try_signin_account, try_office_beside,
     ]
@@ -113,7 +114,7 @@ def gate_parts(program):
     """What the gate tries, without those of TIMED. The sizes aim at five minutes on two processors."""
     of_program: list[Callable[..., None]] = [
         try_crash_states, try_keeping, try_clock, try_watch, try_flush, try_byhand, try_restoring, try_earlier,
-        try_moving, try_nights, try_demo,
+        try_moving, try_nights, try_houses, try_demo,
         partial(try_kills, kills=1), partial(try_copying, length=5), try_full, try_signing, try_noted,
         partial(try_office_doors, requests=150), try_office_clerks, try_office_again, try_office_between, try_office_formats,
         try_office_sheets, try_office_keys, try_office_forget, try_office_wayback, try_office_told, try_office_dates,

@@ -148,7 +148,7 @@ def try_signals(stand):
     for number in map(signal.Signals, (signal.SIGTERM, signal.SIGINT, signal.SIGHUP)):
         environment = {**stand.environment, "TMPDIR": str(folder), "PATH": f"{slow}:{os.environ['PATH']}"}
         # The shell beneath takes a signal that the trial itself may ignore.
-        words = ["env", f"--default-signal={number.name.removeprefix('SIG')}", CERTIFICATE, "--for-now", HOST]
+        words = ["env", f"--default-signal={number.name.removeprefix('SIG')}", str(CERTIFICATE), "--for-now", HOST]
         with subprocess.Popen(words, env=environment, stderr=subprocess.DEVNULL) as process:
             until((folder / "begun").exists, 30, "the making of a key")
             process.send_signal(number)

@@ -33,8 +33,9 @@ PYTHON = "/usr/bin/python3"
 
 sys.path.append(str(DEPLOY / "demo"))
 # pylint: disable-next=wrong-import-position  # it is in the folder of the line above
-from ports import free_ports
+import ports
 
+free_ports = ports.free_ports
 
 # A trial that is ended from outside ends what it has started, too.
 signal.signal(signal.SIGTERM, lambda *_: sys.exit("trial: ended from outside"))
@@ -239,7 +240,20 @@ class Stand:  # pylint: disable=too-many-instance-attributes,too-many-public-met
         and a new. The addresses are this machine's own, so nothing is reached from outside."""
         self.make_certificate()
         text = self.proxy_file()
-        for old, new in [
+        for old, new in [*self.proxy_changes(), *changes]:
+            if text.count(old) != 1:
+                fail(f"haproxy.cfg has {text.count(old)} times {old!r}")
+            text = text.replace(old, new)
+        text = text.replace("/srv/rooms/portal", str(self.portal))
+        settings = self.folder / "haproxy.cfg"
+        settings.write_text(text, encoding="utf-8")
+        subprocess.run(["haproxy", "-q", "-c", "-f", settings], check=True)
+        self.proxy = self.launch("proxy", "haproxy", "-db", "-f", str(settings))
+        self.until_proxied()
+
+    def proxy_changes(self):
+        """What the trial has in place of the file's ports, paths and clerks."""
+        return [
             ("    log /dev/log local0 ", "    log stdout format raw local0 "),
             ("    chroot /var/lib/haproxy\n    user haproxy\n    group haproxy\n", self.chroot()),
             ("bind :::80 v4v6\n", f"bind 127.0.0.1:{self.plain_port}\n"),
@@ -250,16 +264,10 @@ class Stand:  # pylint: disable=too-many-instance-attributes,too-many-public-met
             ("unix@/rooms-page.sock", f"unix@{'/page.sock' if self.chroot() else self.environment['ROOMS_PAGE_SOCKET']}"),
             ("unix@/rooms-told.sock", f"unix@{'/told.sock' if self.chroot() else self.environment['ROOMS_TOLD_SOCKET']}"),
             ("    # user anna password $6$..\n", self.userlist()),
-            *changes,
-        ]:
-            if text.count(old) != 1:
-                fail(f"haproxy.cfg has {text.count(old)} times {old!r}")
-            text = text.replace(old, new)
-        text = text.replace("/srv/rooms/portal", str(self.portal))
-        settings = self.folder / "haproxy.cfg"
-        settings.write_text(text, encoding="utf-8")
-        subprocess.run(["haproxy", "-q", "-c", "-f", settings], check=True)
-        self.proxy = self.launch("proxy", "haproxy", "-db", "-f", str(settings))
+        ]
+
+    def until_proxied(self):
+        """Waits until HAProxy takes connections."""
         self.until_listening(self.port)
 
     def proxy_file(self):

@@ -217,7 +217,7 @@ def change(question: str, **fields: Any) -> bool:
 
 def down(why: str) -> str:
     """The page of what cannot be shown or done."""
-    return views.render("down", why=why[:1].upper() + why[1:])
+    return views.render("down", plain=plain, why=why[:1].upper() + why[1:])
 
 
 def tell_keeper_faults(callback: Callable[..., Any]) -> Callable[..., Any]:

@@ -5,9 +5,10 @@ import os
 import socket
 from typing import Any, NamedTuple
 
+from house_places import here
 from languages import _, spoken
 
-SOCKET = os.environ.get("ROOMS_SOCKET", "/run/rooms-keeper.sock")
+SOCKET = os.environ.get("ROOMS_SOCKET", str(here().socket))
 # The keeper gives up earlier than this, and says so itself.
 PATIENCE = 110
 

@@ -41,9 +41,9 @@ class Addresses(NamedTuple):
 
     def of(self, people: set[str]) -> "Addresses":
         """The addresses of these people alone. Lines with a fault stay."""
-        return self._replace(pairs=tuple(pair for pair in self.pairs if pair[0] in people),
-                             shared=tuple(ident for ident in self.shared if ident in people),
-                             languages=tuple(pair for pair in self.languages if pair[0] in people))
+        return Addresses(tuple(pair for pair in self.pairs if pair[0] in people), self.faults,
+                         tuple(ident for ident in self.shared if ident in people),
+                         tuple(pair for pair in self.languages if pair[0] in people))
 
 
 NO_ADDRESSES = Addresses()

@@ -15,6 +15,8 @@ sys.path.insert(1, str(Path(__file__).resolve().parent.parent))
 # pylint: disable=wrong-import-position  # each module adds its pages to the app
 import waitress
 
+from house_places import here
+
 import about_pages  # noqa: F401  # pylint: disable=unused-import
 import committee_pages  # noqa: F401  # pylint: disable=unused-import
 import date_pages  # noqa: F401  # pylint: disable=unused-import
@@ -38,7 +40,7 @@ import told_pages  # noqa: F401  # pylint: disable=unused-import
 import undo_pages  # noqa: F401  # pylint: disable=unused-import
 from app import LONGEST_FORM, Guarded, app
 
-PLACE = os.environ.get("ROOMS_PAGE_SOCKET", "/var/lib/haproxy/rooms-page.sock")
+PLACE = os.environ.get("ROOMS_PAGE_SOCKET", str(here().jail / "rooms-page.sock"))
 # Bodies and answers stay in memory: waitress writes what is longer into a file.
 IN_MEMORY = 16_000_000
 

@@ -10,7 +10,6 @@ import explaining
 import plain
 from app import app, ask, attempt, change, clerk, field, go_to, memory, office_now, saw, show, tell, text_of
 from keeper_client import KeeperFault
-from list_checks import IDENTIFIER
 from mail_lists import address_of
 from office_view import Office, Person
 from resident_languages import own_of

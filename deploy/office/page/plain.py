@@ -5,7 +5,16 @@ The constants have them in English, and marked. Who shows one translates it; the
 
 from typing import NamedTuple
 
+from house_places import here
 from languages import N_, _, ngettext
+
+HOUSE = here().house  # or nothing
+KEEPER = here().keeper_units[1].removesuffix(".service")
+
+
+def title() -> str:
+    """What the page is called: the room office, and of which house."""
+    return _("Room office: {house}", house=HOUSE) if HOUSE else _("Room office")
 
 
 class Phase(NamedTuple):
@@ -45,8 +54,8 @@ class Meaning(NamedTuple):
         return f"{self.says} {self.to_do}".strip()
 
     def translated(self) -> "Meaning":
-        """In the language that is spoken."""
-        return Meaning(_(self.says), _(self.to_do))
+        """In the language that is spoken, with the name of the keeper's unit where the text has its place."""
+        return Meaning(_(self.says), _(self.to_do).replace("{keeper}", KEEPER))
 
 
 # The version of the office's file that the program works on.
@@ -112,9 +121,9 @@ COPY_FIRST = N_("The keeper makes a copy of the office first. The page Copies br
 STARTING = Meaning(N_("It is being started, as after each change."),
                    N_("Load this page again in some seconds. If it still does not run, call the administrator."))
 FAILED = Meaning(N_("The file, the disk or the memory failed, or something ended it. The keeper tries again every few seconds."),
-                 N_("Call the administrator, who looks whether the disk is full or broken, and reads journalctl -u rooms-keeper."))
+                 N_("Call the administrator, who looks whether the disk is full or broken, and reads journalctl -u {keeper}."))
 ENDED = Meaning(N_("It refused the office's file, which is right again. It is not started again by itself."),
-                N_("Call the administrator, who starts the keeper again: systemctl restart rooms-keeper."))
+                N_("Call the administrator, who starts the keeper again: systemctl restart {keeper}."))
 # What a question says of a step in a round in which nobody takes part.
 NOBODY = {
     "open": N_("Nobody is in the register who could take part. You can still bring in rooms and people while the round is open."),

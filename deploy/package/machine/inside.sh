@@ -9,6 +9,8 @@ cd /trial || exit 1
 . ./checks.sh
 # shellcheck source=/dev/null # old and new: the versions
 . ./versions
+# shellcheck source=deploy/package/machine/houses.sh
+. ./houses.sh
 file=/var/lib/rooms/rooms.db
 units=(rooms-keeper.socket rooms-keeper.service rooms-page.socket rooms-page.service rooms-told.socket rooms-told.service)
 site=https://rooms.example.org
@@ -358,7 +360,7 @@ remove() {
     same "no socket is left" "" "$(find /run /var/lib/haproxy -name 'rooms*')"
     try "purge" dpkg -P rooms
     try "the office is kept" test -e $file
-    rm -r /etc/systemd/system/rooms-keeper.service.d
+    rm -r /etc/systemd/system/rooms-keeper.service.d /etc/systemd/system/rooms-keeper@.service.d
     same "no unit is left" "" "$(systemctl list-unit-files --no-legend 'rooms*'; find /etc/systemd -name 'rooms*')"
 }
 
@@ -379,12 +381,15 @@ if [ ! -e key ]; then
     look_at_migrated
     go_back_by_page
     look_for_keys
+    try_houses
     echo "$faults" >faults
     sync
     systemctl reboot
 else
     after_start
+    houses_after_start
     remove
+    purged_houses
     (end_of_trial)
     sync
     systemctl poweroff
