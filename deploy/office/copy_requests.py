@@ -6,7 +6,7 @@
 | days | days, only_try | gone: how many copies are older than so many days, and are deleted |
 | compare | name | what becomes of people by going back to a copy (differences.py) |
 | given-up | name of a copy, or none | rounds: copy, number, phase of each that was given up; or what the one in the copy had |
-| back | name, seen | name: of the copy of the present office that was taken before; and as `compare`, if that could be read |
+| back | name, seen, newer_keys | name: of the copy of the present office that was taken before; and as `compare`, if that could be read |
 """
 
 import contextlib
@@ -21,7 +21,7 @@ from given_up import given_up
 from job import Job, seen_in, text
 from languages import _
 from office import Office
-from program import Answer, is_of_earlier_version, is_refused
+from program import Answer, correct, is_of_earlier_version, is_refused, keys_in
 from rows import rows_of
 from seen import Rows
 from settings import Fault
@@ -76,23 +76,28 @@ class CopyRequests:
     def put_back(self, job: Job) -> Job:
         """Puts a kept copy in the office's place. The present office is copied before, even if it is damaged.
 
-        A copy from before an upgrade of the program is brought to the program's version.
+        A copy from before an upgrade of the program is brought to the program's version. With `newer_keys` who is in the register
+        then and now keeps the key of now.
         """
-        name, then, found = text(job, "name"), Rows(), Job()
+        name, newer, then, found = text(job, "name"), bool(job.get("newer_keys")), Rows(), Job()
 
         def carry_out(copy: Path) -> list[Answer]:
-            now = None
+            now, keys = None, {}
             with contextlib.suppress(sqlite3.Error):  # of an office that is damaged
-                now = rows_of(copy)
+                now, keys = rows_of(copy), keys_in(copy) if newer else {}
             self.backups.take(name, copy)
             answer = self.program.look(copy)
             if is_of_earlier_version(answer):
                 answer = self.program.migrate(copy)
+            if answer.status == 0 and keys:
+                correct({person: {"key": keys[person]} for person in keys_in(copy) if person in keys}, copy)
+                answer = self.program.look(copy)
             if answer.status == 0:
                 then.update(rows_of(copy))
                 found.update(differences(then, now) if now else {})
             return [answer]
-        change = self.worker.change(Change(job["who"], f"back {name}", carry_out, whole=True, kind="back",
+        line = f"back {name}{', with the newer keys' if newer else ''}"
+        change = self.worker.change(Change(job["who"], line, carry_out, whole=True, kind="back",
                                          why=f"before back {name}, by {job['who']}", damaged=True, seen=seen_in(job)))
         if is_refused(change.answers):
             said = change.answers[-1].text.strip()

@@ -16,7 +16,7 @@ TABLES = {
     "rooms": "SELECT code, shut, id FROM room LEFT JOIN person ON home = code ORDER BY code",
     "people": "SELECT id, name, home, withdrawn FROM person ORDER BY id",
     "results": "SELECT person, room FROM result ORDER BY person",
-    "lists": "SELECT label, kind, added FROM list ORDER BY label",
+    "lists": "SELECT label, kind, added, body = CAST('blanked' AS BLOB) FROM list ORDER BY label",
     "words": "SELECT person, hex FROM word ORDER BY person",
     # Who left the college in the round of this number, once that is settled. Nobody else moves out without a new room.
     "left": "SELECT person FROM move, round WHERE move.round = round.number AND to_room IS NULL ORDER BY person",

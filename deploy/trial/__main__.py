@@ -99,7 +99,8 @@ def all_parts(program, folder):
         try_kills, try_copying, try_full, try_signing, try_guessing, try_noted, try_office_doors, try_office_clerks,
         try_office_again, try_office_between, try_office_formats, try_office_sheets, try_office_keys, try_office_forget,
         try_office_wayback, try_office_told, try_office_dates, try_office_figures, try_draws, try_refused, try_office_mail,
-        try_office_receipts, try_mail_runs, try_burst, try_limits, try_ciphers, try_memory, try_port, try_stall, try_waits, try_unread,
+        try_office_receipts, try_mail_runs, try_burst, try_limits, try_ciphers, try_memory, try_port, try_stall, try_waits,
+        try_unread,
         try_office_overview, try_office_words, try_office_languages, try_office_marked, try_certificate, try_authority,
         try_signin_account, try_office_beside,
     ]

@@ -4,6 +4,7 @@ It needs root and a machine without the units. This run alone, also over standin
 deploy/trial/nights.py PROGRAM
 """
 
+import datetime
 import fcntl
 import os
 import shutil
@@ -43,12 +44,17 @@ def clock_ahead(stand, folder):
 
 
 def none_made(stand, made):
-    """What is too old goes also in a night in which no backup can be made."""
-    old = made.with_name("20200101T033000Z")
-    made.rename(old)
+    """What is too old goes also in a night in which no backup can be made, unless the clock may be wrong."""
+    yesterday = datetime.datetime.now(datetime.timezone.utc) - datetime.timedelta(days=1)
+    old, before = made.with_name("20200101T033000Z"), made.with_name(f"{yesterday:%Y%m%dT%H%M%SZ}")
+    shutil.copytree(made, old)
     stand.stop_keeper()
     told = back_up(stand)
+    check("with one other alone nobody knows how old it is, and it stays", told[0] == 1 and old.is_dir(), told)
+    shutil.copytree(made, before)
+    told = back_up(stand)
     check("without the keeper none is made, and the old one goes", told[0] == 1 and not old.exists(), told)
+    check("and the others stay", made.is_dir() and before.is_dir())
     stand.start()
 
 

@@ -138,25 +138,75 @@ def try_meanwhile(stand, anna, bert):
     check("the page shows no key again", "Your key" not in again)
     final = bring(anna, again)
     check("the other one comes in, with the key of the printed slip", "M02" in register(stand)[0]
-          and "is in, with 1 lines" in final, final[:2500])
+          and "is in, with 1 line." in final, final[:2500])
     answer = stand.ask(ask="try", lines=[f"me {keys['M02'].replace(' ', '')}"])["answers"][0]
     check("which opens their page", answer[1] == 0, answer)
     check("and the departed are those of the whole list", "/office/person/P05" in final and "person/P04" not in final
           and "person/M01" not in final, final[:3500])
 
 
+def try_same_label(anna, bert):
+    """Two clerks send the same new people under the label that the page proposes, and both print slips."""
+    people = [["L01", "Lea", "", ""], ["L02", "Lou", "", ""]]
+    shown = send(anna, "people-4", people)
+    bring(bert, send(bert, "people-4", people))
+    again = bring(anna, shown)
+    check("the second one reads that the slips are void", "Meanwhile these people came into the register: L01, L02" in again
+          and "destroy these" in again, again[:2500])
+
+
+def try_without_rooms(page):
+    """People who live in rooms come before the list of rooms: that is one fault, and not one a person."""
+    send(page, "people-early", FIRST)
+    shown = flat(page.get("/office/lists")[2])
+    check("the page says to bring in the rooms first", "Bring in the list of rooms first" in shown, shown)
+
+
+def try_rooms(stand, page):
+    """A list of rooms again, with new ones."""
+    def send_rooms(label, *more):
+        fields = {"kind": "rooms", "label": label}
+        return flat(page.form("/office/lists", fields, files={"list": listed([[one] for one in (*ROOMS, *more)], ["room"])})[2])
+    shown = send_rooms("rooms-again")
+    said = f"All {len(ROOMS)} rooms of this list are in the register already"
+    check("a list of rooms that are all known is no fault", said in shown and 'name="held"' not in shown, shown)
+    shown = send_rooms("rooms-new", "B-201", "B-202")
+    check("with two new ones it fits", "<strong>2 are new.</strong>" in shown and "stay as they are" in shown, shown)
+    bring(page, shown)
+    there = {row[0] for row in stand.ask(ask="view")["rooms"]}
+    check("and they come in", there == {*ROOMS, "B-201", "B-202"}, there)
+
+
+def try_sum(page):
+    """A line with a sum below the people, as a spreadsheet has it."""
+    shown = send(page, "people-sum", [["Q01", "Person Q", "", ""], ["Total", "301", "", ""]])
+    check("a name without a letter is named", "In row 3 the name has no letter" in shown, shown)
+    check("the page says in which language the slips are", "The language of these slips: English (2)" in shown, shown)
+
+
+def served(stand):
+    """Starts all that the page needs."""
+    stand.start()
+    stand.start_page()
+    stand.start_proxy()
+
+
 def try_office_again(program):
     """All of it."""
     with Stand(program) as stand:
+        served(stand)
+        try_without_rooms(Page(stand))
+    with Stand(program) as stand:
         stand.fill(ROOMS, [])
-        stand.start()
-        stand.start_page()
-        stand.start_proxy()
+        served(stand)
         anna, bert = Page(stand), Page(stand, "bert")
         try_same(stand, anna)
         try_faults(anna)
         try_next_year(stand, anna)
         try_meanwhile(stand, anna, bert)
+        try_same_label(anna, bert)
+        try_sum(anna)
+        try_rooms(stand, anna)
         check("the page has noted no fault of its own", "rooms-page:" not in stand.log("page"), stand.log("page"))
 
 

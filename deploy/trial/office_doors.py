@@ -222,7 +222,7 @@ def try_lists(stand, page):
         check(f"a list with {name} reads: {text}", text in shown, (status, shown[:1500]))
     check("the server was not stopped, and nothing was imported", stand.server() == server and rows(stand) == before)
     _, _, shown = page.form(
-        "/office/lists", {"kind": "rooms", "label": "rows"}, files={"list": b"room\n\n\nZ-1\nz.2\n\nA-101\n"}
+        "/office/lists", {"kind": "rooms", "label": "rows"}, files={"list": b"room\n\n\nZ-1\nz.2\n\nZ.3\n"}
     )
     check(
         "rows are those of the spreadsheet, with empty lines", ">5</td>" in shown and ">7</td>" in shown, shown[-2500:]

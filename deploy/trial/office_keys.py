@@ -5,6 +5,7 @@ A slip is shown once, loading its page again makes no other key, and many people
 
 import re
 import sys
+from concurrent.futures import ThreadPoolExecutor
 from pathlib import Path
 
 # The repository stays as it is.
@@ -63,6 +64,19 @@ def try_one(stand, page, bert):
     check("and there is no other key", marks(stand) == made and len(changes(stand, "correct T001")) == 1)
     check("a page of slips that never was leads on", page.get("/office/slips/" + "0" * 32)[0] == 303)
     page.get("/office/register")
+
+
+def try_twice(stand, page):
+    """A double click: a browser drops the answer to the first press, and shows that to the second."""
+    place = "/office/person/T013/key"
+    form = page.hidden(place, place)
+    with ThreadPoolExecutor(2) as pool:
+        places = {fields.get("location") for _status, fields, _text in pool.map(lambda _: page.post(place, form), range(2))}
+    check("both presses lead to one slip", len(places) == 1 and "/office/slips/" in str(places), places)
+    key = slips_in(page.get(places.pop())[2])["T013"]
+    check("whose key works", works(stand, key) and len(changes(stand, "correct T013")) == 1)
+    shown = page.get(page.post(place, form)[1]["location"])[1].get("location")
+    check("and a third press leads to the person", shown == "/office/person/T013", shown)
 
 
 def try_newcomer(stand, page):
@@ -152,19 +166,24 @@ def try_back(stand, page):
     """The office goes back to a copy from before a new key."""
     copy = stand.ask(ask="backup")["name"]
     place = f"/office/copies/{copy}/back"
-    check("with nothing in between the question names nobody", "Old keys" not in page.get(place)[2])
+    check("with nothing in between the question names nobody", "another key now" not in page.get(place)[2])
     key = change_after(stand, page, copy)
     shown = page.get(place)[2]
-    said = ("Old keys that work again", "<li>T010</li>", "<li>T011: Person T011, now Other Name</li>", "<li>T012 Person T012</li>",
-            "<li>T901 Just Come</li>", "no round is under way")
+    said = ("People who have another key now than then", "Keep the newer keys", "<li>T010</li>",
+            "<li>T011: Person T011, now Other Name</li>", "<li>T012 Person T012</li>", "<li>T901 Just Come</li>", "no round is under way")
     check("before going back the page says whose keys, which names and which people", all(one in shown for one in said), shown)
     fields = page.form(place, page=place)[1]
     shown = page.get(fields["location"])[2]
-    check("afterwards the page says that an old key works again", "Old keys of one person work again" in shown, shown)
+    check("afterwards the page says that an old key works again", "One person has the key of the copy again" in shown, shown)
     check("which is so", works(stand, key_of("T010")) and not works(stand, key))
     check("and proposes a new key for them", re.search(r"<textarea[^>]*>T010</textarea>", shown) and "checked" in shown, shown)
     keys = slips_in(page.get(yes(page, *asked(page, {"text": "T010"}))[1]["location"])[2])
     check("which replaces it", works(stand, keys["T010"]) and not works(stand, key_of("T010")))
+    new = keys["T010"]
+    page.form(place, {"newer": "yes"}, page=place)
+    shown = page.get("/office/")[2]
+    check("with the box ticked the newer key stays", works(stand, new) and not works(stand, key_of("T010"))
+          and "key of the copy" not in shown, shown)
     told = stand.command("back", copy)
     check("the clerk's command says it, too", told[0] == 0 and "the key of the copy again" in told[2] and "T010" in told[2], told)
     stand.until_listening(stand.server_port)
@@ -191,6 +210,7 @@ def try_office_keys(program):
         try_back(stand, page)
         page.form("/office/step/open", page="/office/step/open")
         try_one(stand, page, bert)
+        try_twice(stand, page)
         try_newcomer(stand, page)
         try_many(stand, page)
         try_stale(stand, page, bert)

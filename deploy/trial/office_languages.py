@@ -171,7 +171,7 @@ def try_two_clerks(stand):
     wrong = []
 
     def read(code):
-        for number in range(25):
+        for number in range(12):
             other = {"Accept-Language": "en" if code == CODE else CODE}
             for path in ("/office/", "/office/none", "/office/person/T01", "/office/%ff"):
                 status, fields, text = pages[code].get(path, other)

@@ -183,7 +183,7 @@ def bring_back(stand, page, path):
     check("the others are back", away(stand) == ({"P02"}, {"P03"}), away(stand))
     lists = {"P01": ["A-110"], "P04": ["A-111", "A-101"], "P09": ["A-109"], "P10": ["A-112"], "P11": ["A-111"]}
     check("with their lists, also that of P01, and newer lists stay", stand.recorded() == lists, stand.recorded())
-    said = "Back in this round: who leaves the college: 1 of 1, withdrawals: 1 of 1, lists: 3 of 3"
+    said = "Back in this round: lists: 3 of 3, who leaves the college: 1 of 1, withdrawals: 1 of 1"
     check("the page says what came in", said in shown and "It is undone" in shown, shown)
     check("the overview has nothing more to say", "which was given up" not in seen_at(page, "/office/"))
     check("there is nothing to undo any more", "There is nothing to undo" in undo_of(page, "P04"))
@@ -220,9 +220,8 @@ def try_changed(stand, page):
     with_labels(stand, "INSERT INTO list VALUES (?, 'rooms', CAST('room' AS BLOB), 0)")
     onward = send_as_it_is(page, link, but="P12")
     shown = seen_at(page, onward)
-    check("if the lists cannot come in, the page says how far it came, and why",
-          "Back in this round: withdrawals: 1 of 1" in shown and "Then this came: A limit is reached" in shown, shown)
-    check("the withdrawal is in, and no list", away(stand) == (set(), {"P03"}) and not stand.recorded(), stand.recorded())
+    check("if the lists cannot come in, the page says why", "Then this came: A limit is reached" in shown, shown)
+    check("and nothing is in", away(stand) == (set(), set()) and not stand.recorded(), stand.recorded())
     with_labels(stand, "DELETE FROM list WHERE label = ?")
     check("whom the clerk has taken out is still out", boxes(page.get(onward)[2])[("withdrawn", "P12")] is False)
     again = page.get(f"{onward[:-32]}{'0' * 32}")[2]
@@ -329,6 +328,17 @@ def fill(stand):
         database.commit()
 
 
+def try_list_beside(stand, page):
+    """Somebody hands in a list, and then withdraws: both come back."""
+    for line in ("open", "choose P12 A-103", "withdraw P12", "cancel", "open"):
+        stand.office(line)
+    link = re.findall(r'href="(/office/given-up/[^"]+)"', page.get("/office/")[2])[0]
+    send_as_it_is(page, link)
+    check("who had a list and has withdrawn, has both again", stand.recorded().get("P12") == ["A-103"]
+          and away(stand) == (set(), {"P12"}), (stand.recorded(), away(stand)))
+    stand.office("cancel")
+
+
 def try_given_up_twice(stand, page):
     """A round is given up, and the next one too, before anything came back."""
     for line in ("open", "choose P04 A-103", "withdraw P12", "cancel", "open", "cancel", "open"):
@@ -357,6 +367,7 @@ def try_office_wayback(program):
         try_changed(stand, page)
         try_left(stand, page)
         try_second_round(stand, page)
+        try_list_beside(stand, page)
         try_given_up_twice(stand, page)
         check("the page has noted no fault of its own", "rooms-page:" not in stand.log("page"), stand.log("page"))
 

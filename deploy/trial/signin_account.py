@@ -363,13 +363,15 @@ def try_signin_account(program, whole=True):
         if whole:
             try_many(stand)
             try_tokens(stand)
+            try_slow(stand)
+            time.sleep(10)  # until the proxy counts none of these any more
+            try_often(stand)
+            time.sleep(10)  # until the proxy counts none of these any more
         try_names(stand, OTHER_NAMES if whole else OTHER_NAMES[::4])
         try_list(stand)
         try_person(stand)
         if whole:
             try_certificate(stand)
-            try_slow(stand)
-            try_often(stand)
             try_time(stand)
             try_away(stand)
         try_logs(stand, [key_of(person) for person in PEOPLE])

@@ -46,7 +46,7 @@ def unread(stand, words, given, both=False):
 def in_the_help():
     """The commands that the help names."""
     text = COMMAND.read_text(encoding="utf-8").split('"""')[1]
-    return {line.split()[1] for line in text.splitlines() if line.startswith("    rooms-office ")}
+    return {line.split()[1] for line in text.splitlines() if re.match("    rooms-office [a-z]", line)}
 
 
 def try_unread(program):

@@ -198,7 +198,7 @@ def change(question: str, **fields: Any) -> bool:
     try:
         reply = ask(question, seen=field("seen"), **fields)
     except KeeperFault as fault:
-        tell("bad", _("This could not be done. {why}", why=fault))
+        tell("bad", _("This could not be done. {why}", why=plain.begun(str(fault))))
         return False
     answers = keeper_client.answers_of(reply)
     last = answers[-1]
@@ -217,7 +217,7 @@ def change(question: str, **fields: Any) -> bool:
 
 def down(why: str) -> str:
     """The page of what cannot be shown or done."""
-    return views.render("down", plain=plain, why=why[:1].upper() + why[1:])
+    return views.render("down", plain=plain, why=plain.begun(why))
 
 
 def tell_keeper_faults(callback: Callable[..., Any]) -> Callable[..., Any]:

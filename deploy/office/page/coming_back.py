@@ -35,7 +35,8 @@ class Had(NamedTuple):
 class Back(NamedTuple):
     """What can come back, what is here already, and what cannot come back, with the reason of each.
 
-    `lists` has also the lists of those who may withdraw or leave again: they come back if these people do not.
+    `lists` has also the lists of those who may withdraw or leave again: they come back before that, as it was. `old` has all
+    lists of that round, without rooms that nobody may list now.
     """
 
     going: list[str]
@@ -43,6 +44,7 @@ class Back(NamedTuple):
     lists: dict[str, list[str]]
     here: list[str]
     never: list[str]
+    old: dict[str, list[str]]
 
     @property
     def away(self) -> list[str]:
@@ -72,7 +74,7 @@ def had_in(copy: str) -> Had:
 
 def what_is_left(office: Office, had: Had) -> Back:
     """What of a round can come back into the round of now."""
-    back = Back([], [], {}, [], [])
+    back = Back([], [], {}, [], [], {ident: usable(office, wishes) for ident, wishes in had.choices.items()})
     for ident in had.going:
         sort_in(ident, back.going, back, why_not(office, ident, "going"))
     for ident in had.withdrawn:
@@ -114,18 +116,22 @@ def why_not(office: Office, ident: str, part: str) -> str | None:
     return ""
 
 
-def take_list(office: Office, ident: str, wishes: list[str], back: Back) -> None:
+def usable(office: Office, wishes: list[str]) -> list[str]:
     """A list without the rooms that nobody may list now. In a round these count for nothing."""
-    usable = [code for code in wishes if code in office.rooms and not office.rooms[code].shut]
-    out = [code for code in wishes if code not in usable]
-    if usable:
-        back.lists[ident] = usable
+    return [code for code in wishes if code in office.rooms and not office.rooms[code].shut]
+
+
+def take_list(office: Office, ident: str, wishes: list[str], back: Back) -> None:
+    """A list that can come back, as far as it can."""
+    out = [code for code in wishes if code not in back.old[ident]]
+    if back.old[ident]:
+        back.lists[ident] = back.old[ident]
     if out:
         back.never.append(_("{person}: of the list {rooms}, out of use.", person=ident, rooms=" ".join(out)))
 
 
 def has_come_again(office: Office, ident: str) -> bool:
-    """Whether somebody who took no part has handed in a list since: they seem to want to take part now."""
+    """Whether somebody who took no part has a list now: they seem to want to take part."""
     return bool(office.choices.get(ident))
 
 

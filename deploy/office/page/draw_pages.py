@@ -157,6 +157,7 @@ def note(name: str) -> None:
         tell("bad", _("Nothing was noted. {phase}.", phase=_(plain.PHASES[phase].title)))
     else:
         ask("note", line=line)
+        tell("good", _("The seed is struck out.") if line.endswith(STRUCK) else _("The seed is noted."))
     go_to(BACK)
 
 

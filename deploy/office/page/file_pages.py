@@ -208,7 +208,7 @@ def copy() -> None:
 def facts_of(found: dict[str, Any]) -> tuple[Fact, ...]:
     """What becomes of people by going back to a copy."""
     named = {name: [f"{ident} {person}" for ident, person in found[name]] for name in ("come", "go")}
-    facts = [Fact(_("Old keys that work again, in place of newer ones"), found["keys"]),
+    facts = [Fact(_("People who have another key now than then"), found["keys"]),
              Fact(_("Names that become again what they were"),
                   [_("{person}: {old}, now {new}", person=ident, old=old, new=new) for ident, old, new in found["names"]]),
              Fact(_("People who come back into the register"), named["come"]),
@@ -229,26 +229,27 @@ def ask_back(name: str) -> str:
             _(THEN[phase], number=number),
             _("The keeper makes a copy of the present office first, so you can come back from this too."),
             _("Tell the residents if they handed in lists after the copy: they have to hand them in again.")]
-    if found["keys"]:
-        says.append(_("If a key was lost, or others know it, make new keys for these people afterwards."))
     title = _("Go back to the copy of {time}?", time=made)
-    return put_question(office, Question(title, says, _("Yes: go back to this copy"), "/office/copies", facts=facts_of(found)))
+    keys = ("newer", _("Keep the newer keys. Without this tick the old ones work again, also for somebody who has found or "
+                       "copied one.")) if found["keys"] else None
+    return put_question(office, Question(title, says, _("Yes: go back to this copy"), "/office/copies", facts=facts_of(found),
+                                         choice=keys))
 
 
 @app.post("/office/copies/<name>/back")
 def back(name: str) -> None:
     """Puts a copy back."""
-    found = ask("back", name=name, seen=field("seen"))
+    found = ask("back", name=name, seen=field("seen"), newer_keys=bool(field("newer")))
     tell("good", _("The office is back at the copy of {time}. What it was before is in the copy of {before}.",
                    time=times.of_copy(name), before=times.of_copy(found["name"])))
     if lost := found.get("lists"):
         tell("bad", _("These people had another list before, which does not count now: {people}. Tell them to hand it in again.",
                       people=", ".join(lost)))
     if keys := found.get("keys"):
-        tell("bad", ngettext("Old keys of one person work again, and the newer ones do not. If a key was lost, or others know "
-                             "it, make a new key now. Take out whoever needs none.",
-                             "Old keys of {count} people work again, and the newer ones do not. If a key was lost, or others "
-                             "know it, make a new key now. Take out whoever needs none.", len(keys)))
+        tell("bad", ngettext("One person has the key of the copy again, and the key of before does not work. If a key was lost, or "
+                             "others know it, make a new key now. Take out whoever needs none.",
+                             "{count} people have the keys of the copy again, and the keys of before do not work. If a key was "
+                             "lost, or others know it, make a new key now. Take out whoever needs none.", len(keys)))
         propose_keys(keys)
     go_to("/office/")
 

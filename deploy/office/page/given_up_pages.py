@@ -9,7 +9,7 @@ from languages import N_, _
 
 import plain
 from app import app, ask, clerk, field, go_to, memory, office_now, show, tell, ticked
-from coming_back import GivenUp, bodies, had_in, has_come_again, rounds, what_is_left
+from coming_back import Back, GivenUp, bodies, had_in, has_come_again, rounds, what_is_left
 from keeper_client import KeeperFault, answers_of
 from list_pages import Job
 from many_pages import fault_of, groups_of
@@ -54,11 +54,12 @@ def out_of(idents: list[str]) -> list[str]:
     return idents
 
 
-def rows_of(office: Office, idents: list[str], out: list[str]) -> list[Row]:
-    """The people of a part of the form. People who have handed in a list since are not ticked either."""
+def rows_of(office: Office, back: Back, idents: list[str], out: list[str]) -> list[Row]:
+    """The people of a part of the form. People who have handed in a list since are not ticked either; but if the clerk has chosen
+    before, and something stopped it once the lists were back, a list of then says nothing."""
     found = []
     for ident in idents:
-        again = has_come_again(office, ident)
+        again = has_come_again(office, ident) and not ("out" in request.query and office.choices[ident] == back.old.get(ident))
         note = (_("Taken out: this does not come back") if ident in out else
                 _("Has handed in a list in this round") if again else "")
         person = office.people[ident]
@@ -72,10 +73,10 @@ def given_up(copy: str) -> str:
     office = office_now()
     found, back = round_of(office, copy), what_is_left(office, had_in(copy))
     out = out_of(back.away)
-    parts = {"going": rows_of(office, back.going, out), "withdrawn": rows_of(office, back.withdrawn, out)}
+    parts = {"going": rows_of(office, back, back.going, out), "withdrawn": rows_of(office, back, back.withdrawn, out)}
     away = [row.ident for rows in parts.values() for row in rows if row.is_ticked]
-    lists = back.lists_but(away)
-    return show("given_up", office=office, given_up=found, back=back, parts=parts, lists=lists, rest=away or lists,
+    return show("given_up", office=office, given_up=found, back=back, parts=parts, lists=back.lists,
+                rest=away or back.lists_but(away),
                 others=[one for one in rounds(office) if one.copy != copy])
 
 
@@ -95,10 +96,11 @@ def bring_back(copy: str) -> None:
         tell("bad", _("Nothing was changed. What is on record of one of these people was changed after you looked. Look again."))
         go_to(place)
     came = Came()
+    if field("lists"):  # before the withdrawals, as it was: nobody's list is lost by a way back later on
+        came.take_lists(back.lists)
+        office = office_now()
     came.take_away(office, "going", [ident for ident in back.going if ident in going])
     came.take_away(office, "withdraw", [ident for ident in back.withdrawn if ident in withdrawn])
-    if field("lists"):
-        came.take_lists(back.lists_but(going + withdrawn))
     came.report()
     go_to(place)
 

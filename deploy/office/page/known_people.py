@@ -1,4 +1,4 @@
-"""A list of people beside the register: who is new, who is in it already, and who of the register is not on the list."""
+"""A list of people or rooms beside the register: who is new, who is in it already, and who of the register is not on the list."""
 
 from typing import NamedTuple
 
@@ -40,6 +40,16 @@ def compare(office: Office, table: CsvList) -> Beside:
             differences += differences_of(office, record.fields)
     departed = [person.ident for person in office.participants if person.ident not in listed] if known else []
     return Beside(known, differences, departed)
+
+
+def names_rooms(table: CsvList) -> bool:
+    """Whether a list of people names the room of somebody."""
+    return table.header == HEADER and any(len(record.fields) == len(HEADER) and record.fields[3] for record in table.records[1:])
+
+
+def known_rooms(office: Office, table: CsvList) -> Beside:
+    """A list of rooms beside the register: the records of rooms that it has already."""
+    return Beside({number for number, record in enumerate(table.records) if number and record.fields[0] in office.rooms}, [], [])
 
 
 def differences_of(office: Office, fields: list[str]) -> list[Difference]:

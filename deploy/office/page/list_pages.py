@@ -85,7 +85,13 @@ def look_at_list() -> str:
     if len(read.body) > plain.LONGEST_LIST:
         tell("bad", _(plain.TOO_LONG))
         go_to("/office/lists")
+    if kind == "people" and not office.rooms and known_people.names_rooms(read.table):
+        tell("bad", _("Nothing came in. The register has no room yet, and this list says who lives where. Bring in the list of rooms "
+                      "first."))
+        go_to("/office/lists")
     beside, mailed = NOBODY, NO_ADDRESSES
+    if kind == "rooms":
+        beside = known_people.known_rooms(office, read.table)
     if kind == "people":
         beside = known_people.compare(office, read.table)
         mailed, read = mail_lists.beside_people(office, body, read)
@@ -93,13 +99,13 @@ def look_at_list() -> str:
 
 
 def looked_at(office: Office, job: Job, table: CsvList, beside: Beside, read: Understood | None) -> str:
-    """The page of a list that was tried. Of a list of people only those are tried who are not in the register. What the
+    """The page of a list that was tried. Of people and rooms only those are tried that are not in the register. What the
     page read of the file is for the clerk to agree to, but not if the list is looked at again."""
     if office.has_label(job.label) and try_list(job).status == 0:
         return known_list(office, job)
     if beside.known and len(beside.known) == len(table.records) - 1:
         held = memory.hold(clerk(), job.mailed) if job.mailed.pairs else ""
-        return show("already", office=office, beside=beside, read=read, mailed=held,
+        return show("already", office=office, kind=job.kind, beside=beside, read=read, mailed=held,
                     **departed_form(office, tuple(beside.departed)))
     made = []
     if read and job.kind == "people" and field("keys"):
@@ -151,10 +157,10 @@ def bring_list() -> str:
     if not isinstance(job, Job):
         tell("bad", _("The page no longer holds this list. Nothing was imported now. If the list is not in yet, send it again, "
                       "and destroy slips that you printed for it: they do not work."))
-    elif office.has_label(job.label):
-        tell("bad", _("A list was imported under the label {label} meanwhile. Send yours under another label.", label=job.label))
     elif is_stale(office, job):
         return look_again(office, job)
+    elif office.has_label(job.label):
+        tell("bad", _("A list was imported under the label {label} meanwhile. Send yours under another label.", label=job.label))
     elif change("import", **job.fields()):
         memory.let_go(clerk(), name)
         mail_lists.bring(job.mailed)

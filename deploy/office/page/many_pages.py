@@ -13,7 +13,7 @@ from app import app, ask, attempt, clerk, field, go_to, memory, office_now, show
 from keeper_client import KeeperFault, answers_of
 from office_view import Office
 from questions import must_be_sure
-from slips import show_once
+from slips import show_if_made, show_once
 
 MOST_AT_ONCE = 300
 # People under one stop of the residents' server, which takes a second or two. All lines of a group take effect, or
@@ -34,6 +34,13 @@ class Many(NamedTuple):
     act: str
     idents: list[str]
     groups: list[Group]
+
+
+class Done(NamedTuple):
+    """What came of something that was done to many people: `good` or `bad`, and the text."""
+
+    kind: str
+    text: str
 
 
 class Proposed(NamedTuple):
@@ -80,10 +87,10 @@ def acts_for(office: Office) -> dict[str, str]:
     return {act: _(text) for act, (phases, text, __) in ACTS.items() if office.phase in phases}
 
 
-def show_many(office: Office, acts: dict[str, str], text: str, faults: list[str], job: Many | None = None) -> str:
+def show_many(office: Office, acts: dict[str, str], text: str, faults: list[str], job: Many | None = None, act: str = "") -> str:
     """The form; or, if the identifiers were tried, whom they name, and the question."""
     held, yes = (memory.hold(clerk(), job), _(ACTS[job.act][2])) if job else ("", "")
-    return show("many", office=office, acts=acts, text=text, faults=faults, job=job, held=held, yes=yes)
+    return show("many", office=office, acts=acts, text=text, faults=faults, job=job, held=held, yes=yes, chosen=act)
 
 
 @app.get("/office/many")
@@ -123,7 +130,7 @@ def look_at_many() -> str:
         refused = [last for last in tried if last.status]
         if refused:
             faults, job = [str(plain.meaning(refused[0].text))], None
-    return show_many(office, acts, text, faults[:20], job)
+    return show_many(office, acts, text, faults[:20], job, act)
 
 
 def wrong_with(office: Office, act: str, idents: list[str], can_be_done: bool) -> list[str]:
@@ -146,36 +153,45 @@ def wrong_with(office: Office, act: str, idents: list[str], can_be_done: bool) -
 
 @app.post("/office/many/do")
 def do_many() -> None:
-    """Carries out what was tried, group by group, so that residents never wait for long."""
+    """Carries out what was tried. A second press of the same button leads to what came of the first one."""
     name = text_of("held")
-    job: Any = memory.held(clerk(), name)
-    if not isinstance(job, Many):
+    with memory.turn(clerk()):
+        show_if_made(("many", name))
+        job: Any = memory.held(clerk(), name)
+        if isinstance(job, Many):
+            if job.act in AWAY:
+                must_be_sure("/office/many")
+            memory.let_go(clerk(), name)
+            if job.act == KEYS:
+                make_keys(job, ("many", name))
+            job = carry_out(job)
+            memory.keep(clerk(), name, job)
+    if not isinstance(job, Done):
         tell("bad", _("The page no longer holds these identifiers. Nothing was changed: send them again."))
         go_to("/office/many")
-    if job.act in AWAY:
-        must_be_sure("/office/many")
-    memory.let_go(clerk(), name)
-    if job.act == KEYS:
-        make_keys(job)
-    for number, group in enumerate(job.groups):
-        if fault := fault_of(group):
-            tell("bad", _("{number} of {groups} groups of up to {size} people were carried out, and then this came: {fault} "
-                          "Look how far it came before you go on.", number=number, groups=len(job.groups), size=GROUP,
-                          fault=fault))
-            go_to("/office/register")
-    tell("good", ngettext("Done for one person.", "Done for {count} people.", len(job.idents)))
+    tell(job.kind, job.text)
     go_to("/office/register")
 
 
-def make_keys(job: Many) -> None:
+def carry_out(job: Many) -> Done:
+    """Carries out what was tried, group by group, so that residents never wait for long."""
+    for number, group in enumerate(job.groups):
+        if fault := fault_of(group):
+            return Done("bad", _("{number} of {groups} groups of up to {size} people were carried out, and then this came: {fault} "
+                                 "Look how far it came before you go on.", number=number, groups=len(job.groups), size=GROUP,
+                                 fault=fault))
+    return Done("good", ngettext("Done for one person.", "Done for {count} people.", len(job.idents)))
+
+
+def make_keys(job: Many, form: tuple[str, str]) -> NoReturn:
     """Makes all the new keys in one step, and leads to their slips."""
     office, keys = office_now(), {ident: secrets.token_hex(16) for ident in job.idents}
     try:
         ask("keys", keys=keys, seen=field("seen"), saw=job.groups[0].saw)
     except KeeperFault as fault:
-        tell("bad", _("This could not be done. {fault}", fault=fault))
+        tell("bad", _("This could not be done. {fault}", fault=plain.begun(str(fault))))
         go_to("/office/many")
-    show_once([(ident, office.people[ident].name, key) for ident, key in keys.items()], "/office/register")
+    show_once([(ident, office.people[ident].name, key) for ident, key in keys.items()], "/office/register", form)
 
 
 def fault_of(group: Group) -> str:

@@ -33,11 +33,12 @@ class Room(NamedTuple):
 
 
 class KeptList(NamedTuple):
-    """An imported list, and how many records it added."""
+    """An imported list, how many records it added, and whether its contents were deleted."""
 
     label: str
     kind: str
     added: int
+    is_blank: bool
 
 
 class Office:  # pylint: disable=too-many-instance-attributes  # each is a part of the office
@@ -54,7 +55,7 @@ class Office:  # pylint: disable=too-many-instance-attributes  # each is a part 
         self.rooms = {row[0]: Room(row[0], bool(row[1]), row[2]) for row in view["rooms"]}
         self.choices: dict[str, list[str]] = view["choices"]
         self.results: dict[str, str | None] = {row[0]: row[1] for row in view["results"]}
-        self.lists = [KeptList(row[0], row[1], row[2]) for row in view["lists"]]
+        self.lists = [KeptList(row[0], row[1], row[2], bool(row[3])) for row in view["lists"]]
         self.settled: list[int] = view["settled"]
         # Whether the residents' server runs, and the status with which it ended.
         self.serves: bool = view.get("server", True)

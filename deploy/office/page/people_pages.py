@@ -1,6 +1,8 @@
 """The people of the register: search, one person, and what can be done to one person."""
 
+import re
 import secrets
+import unicodedata
 
 from journal import masked
 from languages import _
@@ -14,10 +16,23 @@ from mail_lists import address_of
 from office_view import Office, Person
 from resident_languages import own_of
 from questions import Question, must_be_sure, put_question
-from slips import show_once
+from slips import show_if_made, show_once
 
 MOST_SHOWN = 200
+# Letters that are no letter with a mark.
+LIKE = {"þ": "th", "ð": "d", "đ": "d", "ø": "o", "æ": "ae", "œ": "oe", "ł": "l", "ı": "i"}
 NO_ROOM = "none"  # as the program calls it
+
+
+def plain_letters(text: str) -> str:
+    """A text in small letters without marks, as somebody types it who has no such letters on the keyboard."""
+    apart = unicodedata.normalize("NFKD", text.casefold())
+    return "".join(LIKE.get(sign, sign) for sign in apart if not unicodedata.combining(sign))
+
+
+def is_found(searched: str, text: str) -> bool:
+    """Whether a text has what is searched for, with its marks, without them, or with `ue` for `ü`."""
+    return any(plain_letters(searched) in plain_letters(one) for one in (text, re.sub("[äöüÄÖÜ]", lambda sign: f"{sign[0]}e", text)))
 
 
 @app.get("/office/register")
@@ -25,7 +40,7 @@ def register() -> str:
     """The people whom the clerk last searched for. What was searched for is in no address, and so in no log."""
     office, text = office_now(), memory.search(clerk())
     found = [person for person in office.people.values()
-             if text.lower() in f"{person.ident} {person.name} {person.home or ''}".lower()]
+             if is_found(text, f"{person.ident} {person.name} {person.home or ''}")]
     return show("register", office=office, text=text, found=found[:MOST_SHOWN], count=len(found))
 
 
@@ -106,7 +121,7 @@ def correct(part: str, ident: str, value: str) -> bool:
     try:
         ask("correct", person=ident, seen=field("seen"), saw=saw(part, ident), **{part: value})
     except KeeperFault as fault:
-        tell("bad", _("This could not be done. {fault}", fault=fault))
+        tell("bad", _("This could not be done. {fault}", fault=plain.begun(str(fault))))
         return False
     return True
 
@@ -180,10 +195,17 @@ def change_person(ident: str, act: str) -> None:
     elif act == "remove" and change("do", lines=[*leave, f"remove {ident}"], saw=saw("all", ident)):
         go_to("/office/register")
     elif act == "key":
-        key = secrets.token_hex(16)
-        if correct("key", ident, key):
-            show_once([(ident, person.name, key)], place)
+        make_key(person, place)
     go_to(place)
+
+
+def make_key(person: Person, place: str) -> None:
+    """Makes a new key, and leads to its slip. A second press of the same button leads to the slip of the first one."""
+    key, form = secrets.token_hex(16), (person.ident, field("saw"))
+    with memory.turn(clerk()):
+        show_if_made(form)
+        if correct("key", person.ident, key):
+            show_once([(person.ident, person.name, key)], place, form)
 
 
 @app.post("/office/person")

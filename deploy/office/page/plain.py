@@ -17,6 +17,11 @@ def title() -> str:
     return _("Room office: {house}", house=HOUSE) if HOUSE else _("Room office")
 
 
+def begun(text: str) -> str:
+    """A text as the beginning of a sentence."""
+    return text[:1].upper() + text[1:]
+
+
 class Phase(NamedTuple):
     """How far a round is, also with its number, and what comes next."""
 
@@ -261,6 +266,8 @@ def done(text: str) -> str:
         return _("The room is out of use, and {person} has lost it.", person=words[-1])
     if words[0] == "chosen" and number:
         return _("The list is on record: {rooms}.", rooms=" ".join(words[1:]))
+    if words[0] == "added" and number.isdigit():
+        return ngettext("The list is in, with {count} line.", "The list is in, with {count} lines.", int(number))
     texts = {
         "ok": N_("Done."),
         "shut": N_("The room is out of use."),
@@ -274,7 +281,6 @@ def done(text: str) -> str:
         "ran": N_("The rooms are given to {number} participants."),
         "published": N_("The results of {number} participants are published."),
         "settled": N_("The round is settled, with {number} moves."),
-        "added": N_("The list is in, with {number} lines."),
     }
     return _(texts[words[0]], number=number) if words[0] in texts else text.strip()
 

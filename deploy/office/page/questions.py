@@ -17,7 +17,8 @@ class Fact(NamedTuple):
 
 class Question(NamedTuple):
     """What happens, what the button of yes says, and where no leads. Yes goes to the question's own address. `saw` is
-    the mark of what the clerk saw of a person, and `tick` what the clerk has to tick before the yes counts."""
+    the mark of what the clerk saw of a person, `tick` what the clerk has to tick before the yes counts, and `choice` the name
+    and the text of a box that the clerk may tick or not."""
 
     title: str
     says: list[str]
@@ -27,6 +28,7 @@ class Question(NamedTuple):
     saw: str = ""
     tick: str = ""
     facts: tuple[Fact, ...] = ()
+    choice: tuple[str, str] | None = None
 
 
 def put_question(office: Office, question: Question) -> str:

@@ -4,12 +4,13 @@ page that shows them once.
 The link has the key behind `#`. A browser sends nothing of that to a server, so the key is in no request and in no log.
 """
 
+import collections
 import datetime
 from dataclasses import dataclass
 from typing import NamedTuple, NoReturn
 
 import times
-from languages import _, speaking
+from languages import _, languages, speaking
 
 import views
 from app import app, clerk, go_to, memory, office_now, residents_page, show, tell
@@ -36,18 +37,20 @@ class Slip(NamedTuple):
 
 
 class Sheet(NamedTuple):
-    """Slips as HTML, and why their languages are not known, if so."""
+    """Slips as HTML, how many are in each language, and why languages are not known, if so."""
 
     slips: list[str]
+    spoken: dict[str, int]
     fault: str
 
 
 @dataclass
 class Waiting:
-    """Keys that wait to be shown, and where the clerk goes on from there."""
+    """Keys that wait to be shown, where the clerk goes on from there, and for whom and by which form a new key was made."""
 
     keys: list[Key]
     onward: str
+    form: tuple[str, str] | None = None
 
     def take(self) -> list[Key]:
         """Gives the keys, once."""
@@ -71,12 +74,19 @@ def sheet_of(keys: list[Key]) -> Sheet:
                     picture_of(f"{address}#{key}") if address else "")
         with speaking(spoken_by.of(ident)):
             slips.append(views.render("slip", slip=slip, address=address, made=times.in_words(made)))
-    return Sheet(slips, spoken_by.fault)
+    spoken = collections.Counter(languages()[spoken_by.of(ident)].name for ident, *_rest in keys)
+    return Sheet(slips, dict(spoken) if len(languages()) > 1 else {}, spoken_by.fault)
 
 
-def show_once(keys: list[Key], onward: str) -> NoReturn:
+def show_once(keys: list[Key], onward: str, form: tuple[str, str] | None = None) -> NoReturn:
     """Leads to the page of these slips. It is a page of its own, so that loading it again makes no other key."""
-    go_to(f"/office/slips/{memory.hold(clerk(), Waiting(keys, onward))}")
+    go_to(f"/office/slips/{memory.hold(clerk(), Waiting(keys, onward, form))}")
+
+
+def show_if_made(form: tuple[str, str]) -> None:
+    """Leads to the page of the slip that was made by this form already, as by the first press of a double click."""
+    if name := memory.find(clerk(), lambda held: isinstance(held, Waiting) and held.form == form):
+        go_to(f"/office/slips/{name}")
 
 
 @app.get("/office/slips/<name>")

@@ -9,7 +9,7 @@ import unicodedata
 from collections.abc import Callable
 from typing import NamedTuple
 
-from languages import N_, _
+from languages import N_, _, ngettext
 
 import columns
 import list_faults
@@ -82,6 +82,7 @@ STEPS: dict[str, list[Step]] = {
     **{target: [(SPACES, squeezed)] for target in ("house", "floor", "size", "rent", "text")},
 }
 # The columns in which letters show whether the character set was guessed rightly.
+MOST_ROWS_NAMED = 20
 LETTERS = {"people": (1,), DESCRIPTIONS: (1, 5)}
 
 
@@ -180,6 +181,11 @@ def notes_on(kind: str, text: sheet_text.Text, found: Columns, records: list[tup
         absent = {"key": _("No column has keys."),
                   "home": _("No column has rooms: nobody who is new gets one by this list.")}
         notes += [note for target, note in absent.items() if not found.places[target]]
+        odd = [str(row) for row, fields in records if len(fields) == len(found.places) and not any(map(str.isalpha, fields[1]))]
+        if odd:
+            notes.append(ngettext("In row {rows} the name has no letter. If this is a sum and no person, take it out of the list.",
+                                  "In rows {rows} the name has no letter. If these are sums and no people, take them out of the "
+                                  "list.", len(odd), rows=", ".join(odd[:MOST_ROWS_NAMED])))
     letters = [fields[place] for __, fields in records for place in LETTERS.get(kind, ())
                if len(fields) == len(found.places) and not fields[place].isascii()]
     if text.guessed and letters:
