@@ -6,7 +6,7 @@
 | days | days, only_try | gone: how many copies are older than so many days, and are deleted |
 | compare | name | what becomes of people by going back to a copy (differences.py) |
 | given-up | name of a copy, or none | rounds: copy, number, phase of each that was given up; or what the one in the copy had |
-| back | name, seen, newer_keys | name: of the copy of the present office that was taken before; and as `compare`, if that could be read |
+| back | name, seen, newer_keys | name: of the copy of the office that was taken before; as `compare`, if that could be read |
 """
 
 import contextlib
@@ -23,6 +23,7 @@ from languages import _
 from office import Office
 from program import Answer, correct, is_of_earlier_version, is_refused, keys_in
 from rows import rows_of
+from seeds import lines_of, merged
 from seen import Rows
 from settings import Fault
 from worker import Change, Worker
@@ -67,7 +68,10 @@ class CopyRequests:
         now = self.worker.view.rows()
         with self.copies.copied() as copy:
             self.backups.take(text(job, "name"), copy)
-            return differences(rows_of(copy), now)
+            found = differences(rows_of(copy), now)
+        gone = {lines[0].split()[1] for entry in merged(list(self.journal.entries()))
+                if (lines := lines_of(entry)) and lines[0].startswith("forget ") and len(lines[0].split()) > 1}
+        return {**found, "forgotten": [person for person, _name in found["come"] if person in gone]}
 
     def given_up(self, job: Job) -> Job:
         """The rounds that were given up, or what one of them had."""

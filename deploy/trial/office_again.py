@@ -155,6 +155,18 @@ def try_same_label(anna, bert):
           and "destroy these" in again, again[:2500])
 
 
+def try_twice(stand, page):
+    """Two presses of "Bring in the list", the second one after the list is in."""
+    shown = send(page, "people-twice", [["W01", "Wim", "", ""], ["W02", "Wera", "", ""]])
+    fields = dict(re.findall(r'type="hidden" name="(token|seen|press|held)" value="([^"]*)"', shown))
+    for _ in range(2):
+        status, answer, _text = page.post("/office/lists/bring", fields)
+        check("the page leads on", status == 303, answer)
+    seen = flat(page.get(answer["location"].split("example.org", 1)[-1])[2])
+    check("the clerk reads that the list is in, and nothing else", "The list is in, with 2 lines." in seen
+          and "news bad" not in seen and {"W01", "W02"} <= set(register(stand)[0]), seen[:2500])
+
+
 def try_without_rooms(page):
     """People who live in rooms come before the list of rooms: that is one fault, and not one a person."""
     send(page, "people-early", FIRST)
@@ -205,6 +217,7 @@ def try_office_again(program):
         try_next_year(stand, anna)
         try_meanwhile(stand, anna, bert)
         try_same_label(anna, bert)
+        try_twice(stand, anna)
         try_sum(anna)
         try_rooms(stand, anna)
         check("the page has noted no fault of its own", "rooms-page:" not in stand.log("page"), stand.log("page"))

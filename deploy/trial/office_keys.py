@@ -5,6 +5,7 @@ A slip is shown once, loading its page again makes no other key, and many people
 
 import re
 import sys
+import time
 from concurrent.futures import ThreadPoolExecutor
 from pathlib import Path
 
@@ -71,12 +72,24 @@ def try_twice(stand, page):
     place = "/office/person/T013/key"
     form = page.hidden(place, place)
     with ThreadPoolExecutor(2) as pool:
-        places = {fields.get("location") for _status, fields, _text in pool.map(lambda _: page.post(place, form), range(2))}
+        places = {led.get("location") for _status, led, _text in pool.map(lambda _: page.post(place, form), range(2))}
     check("both presses lead to one slip", len(places) == 1 and "/office/slips/" in str(places), places)
     key = slips_in(page.get(places.pop())[2])["T013"]
     check("whose key works", works(stand, key) and len(changes(stand, "correct T013")) == 1)
-    shown = page.get(page.post(place, form)[1]["location"])[1].get("location")
-    check("and a third press leads to the person", shown == "/office/person/T013", shown)
+    again = page.post(place, form)[1]["location"]
+    check("a slower second press shows the slip that the browser dropped", slips_in(page.get(again)[2]) == {"T013": key})
+    check("which is not there a third time", page.get(again)[1].get("location") == "/office/person/T013")
+    time.sleep(6)
+    page.post(place, form)
+    check("and later on the same form makes no key", works(stand, key) and len(changes(stand, "correct T013")) == 1)
+    shown = page.form("/office/many", {"act": "keys", "text": "T014 T015"}, page="/office/many")[2]
+    fields = dict(re.findall(r'type="hidden" name="(token|seen|press|held)" value="([^"]*)"', shown))
+    with ThreadPoolExecutor(2) as pool:
+        answers = pool.map(lambda _: page.post("/office/many/do", fields), range(2))
+        places = {led.get("location") for _status, led, _text in answers}
+    keys = slips_in(page.get(places.pop())[2])
+    check("two presses for many keys lead to their slips", not places and list(keys) == ["T014", "T015"]
+          and all(works(stand, key) for key in keys.values()), keys)
 
 
 def try_newcomer(stand, page):
@@ -155,10 +168,11 @@ def change_after(stand, page, copy):
     page.form("/office/person/T011/name", {"name": "Other Name"}, page="/office/person/T011")
     page.form("/office/person", {"ident": "T901", "name": "Just Come"}, page="/office/register")
     page.form("/office/person/T012/remove", page="/office/person/T012/remove")
+    stand.ask(ask="forget", person="T016", who="anna")
     found = stand.ask(ask="compare", name=copy)
     check("the keeper says what comes back, without a key", found == {
         "round": [0, "idle"], "keys": ["T010"], "names": [["T011", "Person T011", "Other Name"]], "lists": [], "part": [],
-        "come": [["T012", "Person T012"]], "go": [["T901", "Just Come"]]}, found)
+        "come": [["T012", "Person T012"], ["T016", "Person T016"]], "go": [["T901", "Just Come"]], "forgotten": ["T016"]}, found)
     return key
 
 
@@ -170,7 +184,8 @@ def try_back(stand, page):
     key = change_after(stand, page, copy)
     shown = page.get(place)[2]
     said = ("People who have another key now than then", "Keep the newer keys", "<li>T010</li>",
-            "<li>T011: Person T011, now Other Name</li>", "<li>T012 Person T012</li>", "<li>T901 Just Come</li>", "no round is under way")
+            "<li>T011: Person T011, now Other Name</li>", "<li>T012 Person T012</li>", "Of these, people who were forgotten",
+            "<li>T901 Just Come</li>", "no round is under way")
     check("before going back the page says whose keys, which names and which people", all(one in shown for one in said), shown)
     fields = page.form(place, page=place)[1]
     shown = page.get(fields["location"])[2]

@@ -63,7 +63,7 @@ def undo(clerk, stand):
     clerk.shot("45-back")
     clerk.tick()
     clerk.press("Bring this back")
-    clerk.reads("Back in this round: who leaves the college: 1 of 1, withdrawals: 1 of 1, lists: 2 of 2.")
+    clerk.reads("Back in this round: lists: 2 of 2, who leaves the college: 1 of 1, withdrawals: 1 of 1.")
     clerk.reads("All else is back.")
     clerk.shot("46-came-back")
     check("they are back, but for P01", away(stand) == ({"P02"}, {"P03"}), away(stand))

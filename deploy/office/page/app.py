@@ -6,6 +6,7 @@ state of the round when the form was made.
 """
 
 import functools
+import hashlib
 import hmac
 import io
 import os
@@ -25,6 +26,7 @@ from languages import ENGLISH, N_, _, accepted, first_of, languages, speak, spok
 
 import keeper_client
 import plain
+import presses
 import views
 from codes import unbroken
 from keeper_client import Answer, KeeperFault
@@ -45,6 +47,7 @@ HEADERS = {
     "Cross-Origin-Opener-Policy": "same-origin",
     "Cross-Origin-Resource-Policy": "same-origin",
 }
+FAILED = N_("The page failed at this request. Look in the journal whether anything was changed.")
 STALE = N_("This form was made before the page was restarted, or on another page. Nothing was changed. Fill it in again. "
            "If you printed slips for a list that is not in yet, destroy them: they do not work.")
 
@@ -143,6 +146,7 @@ def uploads_of(name: str) -> list[tuple[str, bytes]]:
 def tell(kind: str, text: str) -> None:
     """Keeps a piece of news for the clerk's next page."""
     memory.tell(clerk(), kind, text)
+    presses.note(kind, text)
 
 
 def go_to(address: str) -> NoReturn:
@@ -155,7 +159,7 @@ def show(view: str, **values: Any) -> str:
     # News is for a page that the clerk sees, and not for one that another site loads in a picture's place.
     news = memory.news(clerk()) if request.get_header("Sec-Fetch-Dest", "document") == "document" else []
     values = {"office": None, "back": request.path if request.method == "GET" else "", **values}
-    return views.render(view, token=token(), clerk=clerk(), plain=plain, times=times, unbroken=unbroken,
+    return views.render(view, token=token(), press=secrets.token_hex(8), clerk=clerk(), plain=plain, times=times, unbroken=unbroken,
                         news=news, here=request.path, **values)
 
 
@@ -213,6 +217,46 @@ def change(question: str, **fields: Any) -> bool:
     return True
 
 
+# --- a form that is sent twice
+
+forms = presses.Presses()
+
+
+def once(callback: Callable[..., Any]) -> Callable[..., Any]:
+    """Answers a second press of the same form as the first one, without carrying it out."""
+    @functools.wraps(callback)
+    def pressed(*words: Any, **named: Any) -> Any:
+        if request.method != "POST" or not field("press"):
+            return callback(*words, **named)
+        body = hashlib.sha256(request.body.read()).hexdigest()  # pylint: disable=no-member  # as above
+        outcome, is_first = forms.first(f"{clerk()} {request.path} {body}")
+        if is_first:
+            carry_out(outcome, callback, *words, **named)
+        elif outcome.done.wait(presses.PATIENCE) and isinstance(outcome.answer, HTTPResponse):
+            memory.tell_again(clerk(), outcome.news, str(outcome.answer.get_header("Location", "")).rpartition("/")[2])
+        answer = outcome.answer
+        if answer is None:
+            return HTTPResponse(down(_(FAILED)), 500)
+        return HTTPResponse(answer.body, answer.status_line, answer.headerlist) if isinstance(answer, HTTPResponse) else answer
+    return pressed
+
+
+def carry_out(outcome: presses.Outcome, callback: Callable[..., Any], *words: Any, **named: Any) -> None:
+    """Carries out what a form asks for, and keeps the answer for a second press."""
+    presses.collect(outcome.news)
+    answer = None
+    try:
+        answer = callback(*words, **named)
+    except HTTPResponse as led:
+        answer = led
+    finally:
+        presses.collect(None)
+        outcome.end(answer)
+
+
+app.install(once)
+
+
 # --- what goes wrong
 
 def down(why: str) -> str:
@@ -265,7 +309,7 @@ class Guarded:  # pylint: disable=too-few-public-methods  # a WSGI application i
             place = traceback.extract_tb(fault.__traceback__)[-1]
             where = f"{Path(place.filename).name}:{place.lineno}"
             print(f"rooms-page: {type(fault).__name__} at {where}", file=sys.stderr, flush=True)
-            body = down(_("The page failed at this request. Look in the journal whether anything was changed.")).encode()
+            body = down(_(FAILED)).encode()
             start("500 Internal Server Error",
                   [("Content-Type", "text/html; charset=utf-8"), ("Content-Length", str(len(body)))])
             return [body]

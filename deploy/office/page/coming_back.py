@@ -84,7 +84,7 @@ def what_is_left(office: Office, had: Had) -> Back:
         if person is None:
             back.never.append(_("{person}: the list; the person is not in the register any more.", person=ident))
         elif person.takes_part and not office.choices.get(ident):
-            take_list(office, ident, wishes, back)
+            take_list(ident, wishes, back)
         elif person.takes_part:
             back.here.append(_("{person}: a list", person=ident))
     return back
@@ -121,7 +121,7 @@ def usable(office: Office, wishes: list[str]) -> list[str]:
     return [code for code in wishes if code in office.rooms and not office.rooms[code].shut]
 
 
-def take_list(office: Office, ident: str, wishes: list[str], back: Back) -> None:
+def take_list(ident: str, wishes: list[str], back: Back) -> None:
     """A list that can come back, as far as it can."""
     out = [code for code in wishes if code not in back.old[ident]]
     if back.old[ident]:

@@ -212,6 +212,7 @@ def facts_of(found: dict[str, Any]) -> tuple[Fact, ...]:
              Fact(_("Names that become again what they were"),
                   [_("{person}: {old}, now {new}", person=ident, old=old, new=new) for ident, old, new in found["names"]]),
              Fact(_("People who come back into the register"), named["come"]),
+             Fact(_("Of these, people who were forgotten since then: forget them again afterwards"), found.get("forgotten", [])),
              Fact(_("People who go out of the register"), named["go"]),
              Fact(_("People whose lists of this round become again what they were"), found["lists"]),
              Fact(_("People whose withdrawal, or note that they leave the college, goes or comes back"), found["part"])]
@@ -242,7 +243,7 @@ def back(name: str) -> None:
     found = ask("back", name=name, seen=field("seen"), newer_keys=bool(field("newer")))
     tell("good", _("The office is back at the copy of {time}. What it was before is in the copy of {before}.",
                    time=times.of_copy(name), before=times.of_copy(found["name"])))
-    if lost := found.get("lists"):
+    if (lost := found.get("lists")) and found["round"][1] == "open":
         tell("bad", _("These people had another list before, which does not count now: {people}. Tell them to hand it in again.",
                       people=", ".join(lost)))
     if keys := found.get("keys"):

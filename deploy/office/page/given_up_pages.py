@@ -57,9 +57,9 @@ def out_of(idents: list[str]) -> list[str]:
 def rows_of(office: Office, back: Back, idents: list[str], out: list[str]) -> list[Row]:
     """The people of a part of the form. People who have handed in a list since are not ticked either; but if the clerk has chosen
     before, and something stopped it once the lists were back, a list of then says nothing."""
-    found = []
+    found, has_chosen = [], "out" in dict(request.query)
     for ident in idents:
-        again = has_come_again(office, ident) and not ("out" in request.query and office.choices[ident] == back.old.get(ident))
+        again = has_come_again(office, ident) and not (has_chosen and office.choices[ident] == back.old.get(ident))
         note = (_("Taken out: this does not come back") if ident in out else
                 _("Has handed in a list in this round") if again else "")
         person = office.people[ident]

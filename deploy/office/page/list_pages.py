@@ -86,8 +86,8 @@ def look_at_list() -> str:
         tell("bad", _(plain.TOO_LONG))
         go_to("/office/lists")
     if kind == "people" and not office.rooms and known_people.names_rooms(read.table):
-        tell("bad", _("Nothing came in. The register has no room yet, and this list says who lives where. Bring in the list of rooms "
-                      "first."))
+        tell("bad", _("Nothing came in. The register has no room yet, and this list says who lives where. Bring in the list of "
+                      "rooms first."))
         go_to("/office/lists")
     beside, mailed = NOBODY, NO_ADDRESSES
     if kind == "rooms":

@@ -13,7 +13,7 @@ from app import app, ask, attempt, clerk, field, go_to, memory, office_now, show
 from keeper_client import KeeperFault, answers_of
 from office_view import Office
 from questions import must_be_sure
-from slips import show_if_made, show_once
+from slips import show_once
 
 MOST_AT_ONCE = 300
 # People under one stop of the residents' server, which takes a second or two. All lines of a group take effect, or
@@ -34,13 +34,6 @@ class Many(NamedTuple):
     act: str
     idents: list[str]
     groups: list[Group]
-
-
-class Done(NamedTuple):
-    """What came of something that was done to many people: `good` or `bad`, and the text."""
-
-    kind: str
-    text: str
 
 
 class Proposed(NamedTuple):
@@ -153,37 +146,28 @@ def wrong_with(office: Office, act: str, idents: list[str], can_be_done: bool) -
 
 @app.post("/office/many/do")
 def do_many() -> None:
-    """Carries out what was tried. A second press of the same button leads to what came of the first one."""
+    """Carries out what was tried, group by group, so that residents never wait for long."""
     name = text_of("held")
-    with memory.turn(clerk()):
-        show_if_made(("many", name))
-        job: Any = memory.held(clerk(), name)
-        if isinstance(job, Many):
-            if job.act in AWAY:
-                must_be_sure("/office/many")
-            memory.let_go(clerk(), name)
-            if job.act == KEYS:
-                make_keys(job, ("many", name))
-            job = carry_out(job)
-            memory.keep(clerk(), name, job)
-    if not isinstance(job, Done):
+    job: Any = memory.held(clerk(), name)
+    if not isinstance(job, Many):
         tell("bad", _("The page no longer holds these identifiers. Nothing was changed: send them again."))
         go_to("/office/many")
-    tell(job.kind, job.text)
+    if job.act in AWAY:
+        must_be_sure("/office/many")
+    memory.let_go(clerk(), name)
+    if job.act == KEYS:
+        make_keys(job)
+    for number, group in enumerate(job.groups):
+        if fault := fault_of(group):
+            tell("bad", _("{number} of {groups} groups of up to {size} people were carried out, and then this came: {fault} "
+                          "Look how far it came before you go on.", number=number, groups=len(job.groups), size=GROUP,
+                          fault=fault))
+            go_to("/office/register")
+    tell("good", ngettext("Done for one person.", "Done for {count} people.", len(job.idents)))
     go_to("/office/register")
 
 
-def carry_out(job: Many) -> Done:
-    """Carries out what was tried, group by group, so that residents never wait for long."""
-    for number, group in enumerate(job.groups):
-        if fault := fault_of(group):
-            return Done("bad", _("{number} of {groups} groups of up to {size} people were carried out, and then this came: {fault} "
-                                 "Look how far it came before you go on.", number=number, groups=len(job.groups), size=GROUP,
-                                 fault=fault))
-    return Done("good", ngettext("Done for one person.", "Done for {count} people.", len(job.idents)))
-
-
-def make_keys(job: Many, form: tuple[str, str]) -> NoReturn:
+def make_keys(job: Many) -> None:
     """Makes all the new keys in one step, and leads to their slips."""
     office, keys = office_now(), {ident: secrets.token_hex(16) for ident in job.idents}
     try:
@@ -191,7 +175,7 @@ def make_keys(job: Many, form: tuple[str, str]) -> NoReturn:
     except KeeperFault as fault:
         tell("bad", _("This could not be done. {fault}", fault=plain.begun(str(fault))))
         go_to("/office/many")
-    show_once([(ident, office.people[ident].name, key) for ident, key in keys.items()], "/office/register", form)
+    show_once([(ident, office.people[ident].name, key) for ident, key in keys.items()], "/office/register")
 
 
 def fault_of(group: Group) -> str:

@@ -4,7 +4,6 @@ import secrets
 import threading
 import time
 from collections import defaultdict
-from collections.abc import Callable
 from typing import Any, NamedTuple
 
 HOUR = 3600
@@ -35,12 +34,6 @@ class Memory:
         self._held: dict[str, dict[str, Held]] = defaultdict(dict)
         self._searches: dict[str, str] = {}
         self._languages: dict[str, str] = {}
-        self._turns: dict[str, threading.Lock] = defaultdict(threading.Lock)
-
-    def turn(self, clerk: str) -> threading.Lock:
-        """A lock for what a clerk does one after the other, even if a button is pressed twice."""
-        with self._lock:
-            return self._turns[clerk]
 
     def tell(self, clerk: str, kind: str, text: str) -> None:
         """Keeps a piece of news for the clerk's next page, and the four before it."""
@@ -51,6 +44,14 @@ class Memory:
         """Gives the clerk's news, once."""
         with self._lock:
             return self._news.pop(clerk, [])
+
+    def tell_again(self, clerk: str, news: list[News], name: str) -> None:
+        """Keeps news for a second press that waits for none any more, and lets slips be shown again that the browser dropped."""
+        with self._lock:
+            self._news[clerk] += [one for one in news if one not in self._news[clerk]]
+            found = self._held[clerk].get(name)
+        if found and hasattr(found.what, "again"):
+            found.what.again()
 
     def search(self, clerk: str, text: str | None = None) -> str:
         """Keeps what a clerk searches for, or gives it."""
@@ -77,23 +78,12 @@ class Memory:
             own[name] = Held(time.monotonic() + HOUR, what)
         return name
 
-    def keep(self, clerk: str, name: str, what: Any) -> None:
-        """Holds something for an hour under a name that there was."""
-        with self._lock:
-            self._held[clerk][name] = Held(time.monotonic() + HOUR, what)
-
     def held(self, clerk: str, name: str) -> Any | None:
         """What is held under a name, for its owner alone."""
         with self._lock:
             self._forget()
             found = self._held[clerk].get(name)
             return found.what if found else None
-
-    def find(self, clerk: str, is_it: Callable[[Any], bool]) -> str | None:
-        """The name of something that is held for a clerk."""
-        with self._lock:
-            self._forget()
-            return next((name for name, held in self._held[clerk].items() if is_it(held.what)), None)
 
     def let_go(self, clerk: str, name: str) -> None:
         """Forgets what was held."""

@@ -16,7 +16,7 @@ from mail_lists import address_of
 from office_view import Office, Person
 from resident_languages import own_of
 from questions import Question, must_be_sure, put_question
-from slips import show_if_made, show_once
+from slips import show_once
 
 MOST_SHOWN = 200
 # Letters that are no letter with a mark.
@@ -32,7 +32,8 @@ def plain_letters(text: str) -> str:
 
 def is_found(searched: str, text: str) -> bool:
     """Whether a text has what is searched for, with its marks, without them, or with `ue` for `ü`."""
-    return any(plain_letters(searched) in plain_letters(one) for one in (text, re.sub("[äöüÄÖÜ]", lambda sign: f"{sign[0]}e", text)))
+    spelled_out = re.sub("[äöüÄÖÜ]", lambda sign: f"{sign[0]}e", text)
+    return any(plain_letters(searched) in plain_letters(one) for one in (text, spelled_out))
 
 
 @app.get("/office/register")
@@ -94,8 +95,11 @@ def move_in(ident: str) -> None:
 @app.post("/office/person/<ident>/choose")
 def choose(ident: str) -> None:
     """Puts a person's list on record. If that is not done, the clerk reads both lists: the page shows the other one."""
-    wishes = text_of("text").upper()
-    if not change("do", lines=[f"choose {ident} {wishes}".strip()], saw=saw("list", ident)):
+    wishes = " ".join(re.split(r"[\s,;]+", field("text").strip(" ,;").upper()))  # as they stand on paper
+    codes = wishes.split()
+    if twice := next((code for code in codes if codes.count(code) > 1), ""):
+        tell("bad", _("Nothing was changed. {room} stands twice on this list.", room=masked(twice)))
+    elif not change("do", lines=[f"choose {ident} {wishes}".strip()], saw=saw("list", ident)):
         tell("bad", _("You had entered: {wishes}.", wishes=masked(wishes)) if wishes else _("You had entered: an empty list."))
     go_to(person_of(office_now(), ident))
 
@@ -195,17 +199,10 @@ def change_person(ident: str, act: str) -> None:
     elif act == "remove" and change("do", lines=[*leave, f"remove {ident}"], saw=saw("all", ident)):
         go_to("/office/register")
     elif act == "key":
-        make_key(person, place)
+        key = secrets.token_hex(16)
+        if correct("key", ident, key):
+            show_once([(ident, person.name, key)], place)
     go_to(place)
-
-
-def make_key(person: Person, place: str) -> None:
-    """Makes a new key, and leads to its slip. A second press of the same button leads to the slip of the first one."""
-    key, form = secrets.token_hex(16), (person.ident, field("saw"))
-    with memory.turn(clerk()):
-        show_if_made(form)
-        if correct("key", person.ident, key):
-            show_once([(person.ident, person.name, key)], place, form)
 
 
 @app.post("/office/person")

@@ -6,7 +6,8 @@ The link has the key behind `#`. A browser sends nothing of that to a server, so
 
 import collections
 import datetime
-from dataclasses import dataclass
+import threading
+from dataclasses import dataclass, field as own
 from typing import NamedTuple, NoReturn
 
 import times
@@ -23,6 +24,8 @@ except ImportError:  # without python3-segno the slips have no picture
 
 # One of the eight masks of a QR code. Readers take any; to find the best one for each slip takes four times as long.
 MASK = 3
+# Seconds for which a second press of the button that made keys can show their slips once more.
+AGAIN = 15.0
 
 Key = tuple[str, str, str]  # identifier, name and key
 
@@ -46,16 +49,29 @@ class Sheet(NamedTuple):
 
 @dataclass
 class Waiting:
-    """Keys that wait to be shown, where the clerk goes on from there, and for whom and by which form a new key was made."""
+    """Keys that wait to be shown, and where the clerk goes on from there. For some seconds it has those that were shown: a browser
+    may have dropped the page at a second press of the button."""
 
     keys: list[Key]
     onward: str
-    form: tuple[str, str] | None = None
+    shown: list[Key] = own(default_factory=list)
 
     def take(self) -> list[Key]:
         """Gives the keys, once."""
         keys, self.keys = self.keys, []
+        self.shown = keys
+        end = threading.Timer(AGAIN, self.forget)
+        end.daemon = True
+        end.start()
         return keys
+
+    def again(self) -> None:
+        """Lets the keys be shown once more, if they were shown just now."""
+        self.keys, self.shown = self.keys or self.shown, []
+
+    def forget(self) -> None:
+        """Forgets keys that were shown."""
+        self.shown = []
 
 
 def picture_of(link: str) -> str:
@@ -78,15 +94,9 @@ def sheet_of(keys: list[Key]) -> Sheet:
     return Sheet(slips, dict(spoken) if len(languages()) > 1 else {}, spoken_by.fault)
 
 
-def show_once(keys: list[Key], onward: str, form: tuple[str, str] | None = None) -> NoReturn:
+def show_once(keys: list[Key], onward: str) -> NoReturn:
     """Leads to the page of these slips. It is a page of its own, so that loading it again makes no other key."""
-    go_to(f"/office/slips/{memory.hold(clerk(), Waiting(keys, onward, form))}")
-
-
-def show_if_made(form: tuple[str, str]) -> None:
-    """Leads to the page of the slip that was made by this form already, as by the first press of a double click."""
-    if name := memory.find(clerk(), lambda held: isinstance(held, Waiting) and held.form == form):
-        go_to(f"/office/slips/{name}")
+    go_to(f"/office/slips/{memory.hold(clerk(), Waiting(keys, onward))}")
 
 
 @app.get("/office/slips/<name>")
