@@ -1,7 +1,7 @@
 """Runs the gate, and prints what each crate's proof, tests and mutants cost, and which mutants cost most.
 
 The prover's processes are looked at twice a second: a process names its crate, a check of tests has a flag of its own,
-and a mutant is checked in a temporary folder; the files there tell which one it is. What a process used after the last look at
+and a mutant is checked in a temporary folder; the files there say which one it is. What a process used after the last look at
 it is not counted. The table so far is written next to the log, once a minute.
 """
 

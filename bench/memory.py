@@ -1,5 +1,5 @@
-"""Memory is refused to the program, one allocation after the other; bench/memory.sh says what has to come of it, and which
-parts there are."""
+"""Makes the program's allocations fail, one after the other; bench/memory.sh says what has to come of it, and which parts
+there are."""
 
 import os
 import socket

@@ -19,7 +19,7 @@ PROGRAM = "rooms"
 BUILT, KEPT = "out/rlib", "out/incremental"
 PROGRAM_FILES = [f"out/{PROGRAM}", f"out/{PROGRAM}.stamp"]
 
-# How long commands that were told to end may take, in seconds.
+# How long commands that were asked to end may take, in seconds.
 PATIENCE = 10
 
 

@@ -162,7 +162,7 @@ class Accounts:
                 self.write(Kept(kept.rule, stay))
 
     def forget(self, people: list[str]) -> None:
-        """Takes people out who have left the register: whoever gets such an identifier later is somebody else."""
+        """Takes people out who have left the register: a person who gets such an identifier later is somebody else."""
         try:
             self.erase(set(people))
         except Fault as fault:

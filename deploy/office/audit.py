@@ -361,7 +361,7 @@ NO_SEED = "the record names no seed, and no seed was given (--seed): the office 
 
 
 def verdict(record: Record, found: Audit, given: str) -> tuple[int, list[str]]:
-    """The exit status, and what is said of a round. The seed that a record names is the office's own word for it."""
+    """The exit status, and what is reported about a round. The seed that a record names is the office's own word for it."""
     seeds = {seed: said for seed, said in ((record.seed, ", which the record names"), (given, "")) if seed}
     words = [word for _, word in sorted(record.words.items())]
     drawn = {f"the seed {seed}{source}": seed_words(seed, len(words)) == words for seed, source in seeds.items()}

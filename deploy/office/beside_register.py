@@ -1,5 +1,5 @@
 """What the keeper has of people beside the register, under their identifiers: mail addresses and what was sent, languages, and the
-college's accounts. Whoever gets an identifier later is somebody else, and gets nothing of it.
+college's accounts. A person who gets an identifier later is somebody else, and gets nothing of it.
 
 So before new people come into the register, what is there under their identifiers is erased: of somebody who was removed by hand,
 or who is in the register no more since the office went back to a copy. Before people go, their identifiers are written down in a
@@ -30,7 +30,7 @@ class BesideRegister:
         self.path, self.lock = beside(file, ".leaving"), threading.Lock()
 
     def prepare(self, come: set[str], gone: set[str]) -> None:
-        """Before people come into the register, and go out of it. If it fails, they do not."""
+        """Before people come into the register, and leave it. If it fails, they do not."""
         if come:
             self.erase_before(come)
         if gone:
@@ -64,8 +64,8 @@ class BesideRegister:
                 self.write(left - set(people))
 
     def finish(self, register: Callable[[], set[str]]) -> None:
-        """Erases what a keeper has left that was ended. Whoever is in the register did not go after all, or is somebody else,
-        before whom all was erased."""
+        """Erases what a keeper has left that was ended. A person who is in the register did not leave after all, or is somebody
+        else, before whom all was erased."""
         beside(self.path, ".part").unlink(missing_ok=True)
         with contextlib.suppress(Fault, OSError, sqlite3.Error):  # of a file that is damaged: the next start tries again
             if left := self.leaving():
@@ -75,7 +75,7 @@ class BesideRegister:
     # --- the file
 
     def leaving(self) -> set[str]:
-        """Who goes out of the register, or is out of it and not erased yet."""
+        """Who leaves the register, or is out of it and not erased yet."""
         try:
             return set(map(str, json.loads(self.path.read_bytes())))
         except (FileNotFoundError, ValueError, TypeError):  # it is renamed once it is whole

@@ -166,8 +166,8 @@ class Rest:
 
     @staticmethod
     def left(goal: Goal, owner: Owner) -> str:
-        """What is said of a file of people where one is already. It stays, and none gets a second name: whoever was erased from one
-        would be in the other, and what was sent since stands in it alone."""
+        """The remark on a file of people where one is already. It stays, and none gets a second name: a person who was erased from
+        one would be in the other, and what was sent since stands in it alone."""
         with owner():
             same = is_same(goal)
         return (f"as it was: {goal.target}" if same else

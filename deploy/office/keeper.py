@@ -38,7 +38,7 @@ from worker import Worker
 
 LONGEST_REQUEST = 1 << 20  # bytes: a list of 262,145 bytes in base 64, or thousands of lines
 ANSWERING = 16             # requests that are answered at a time; others wait for their turn
-OPEN, ALL_OPEN = 12, 64    # connections of one account, and of all, at a time; further ones are told to try again
+OPEN, ALL_OPEN = 12, 64    # connections of one account, and of all, at a time; further ones are asked to try again
 REQUEST_SECONDS = 3.0      # within which a request has to be here, from its connection on
 ANSWER_SECONDS = 20.0      # within which an answer has to be taken
 LAST_WORDS = 2.0           # seconds for the answers that are on their way when the keeper ends
@@ -67,7 +67,7 @@ def account_of(connection: socket.socket) -> str:
 
 
 def send(connection: socket.socket, answer: dict[str, Any]) -> None:
-    """Sends an answer, to whoever still waits for it."""
+    """Sends an answer, if somebody still waits for it."""
     connection.settimeout(ANSWER_SECONDS)
     with contextlib.suppress(OSError):
         connection.sendall(json.dumps(answer).encode() + b"\n")

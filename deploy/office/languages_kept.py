@@ -23,7 +23,7 @@ from placing import beside, to_disk
 from rows import View
 from settings import Fault, unwritten
 
-MOST_CLERKS = 1000  # more is no office; the file stays small whoever asks
+MOST_CLERKS = 1000  # more is no office; the file stays small whichever clerk asks
 
 
 class Kept(NamedTuple):
@@ -110,7 +110,7 @@ class Languages:
                 self.write(kept._replace(office=code))
 
     def erase(self, people: Iterable[str]) -> None:
-        """Erases the languages of people who are out of the register: whoever gets such an identifier later is somebody else."""
+        """Erases the languages of people who are out of the register: who gets such an identifier later is somebody else."""
         try:
             self.set_residents({person: "" for person in people})
         except Fault as fault:

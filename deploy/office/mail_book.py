@@ -35,7 +35,7 @@ CREATE TABLE IF NOT EXISTS run_words(language TEXT PRIMARY KEY, subject TEXT NOT
 CREATE TABLE IF NOT EXISTS receipt(person TEXT PRIMARY KEY, now TEXT NOT NULL, at TEXT NOT NULL, told TEXT NOT NULL);
 """
 # The table `text` has what clerks wrote before there were languages, and `words` what they write in each. `run` has the text of
-# whoever has no other one in `run_words`.
+# everybody who has no other one in `run_words`.
 
 # The messages of the run, which is the only one.
 OF_RUN = "(kind, round, turn) = (SELECT kind, round, turn FROM run)"

@@ -114,7 +114,7 @@ class ReceiptBook:
     # --- messages
 
     def begin_message(self, number: int, person: str, entry: Entry) -> int | None:
-        """Writes down that this receipt is on its way, and so that the person is told: before the mail server gets it. Gives which
+        """Writes down that this receipt is on its way, and so that the person knows: before the mail server gets it. Gives which
         receipt of the person it is; nothing if another list is on record by now."""
         with self.book.opened() as database:
             if not tell(database, person, entry, entry.now):
@@ -151,7 +151,7 @@ class ReceiptBook:
         return {state: [rest for one, *rest in found if one == state] for state in (SENT, REFUSED, UNCERTAIN)}
 
     def forget_uncertain(self, number: int) -> None:
-        """Takes uncertain receipts for such that were not sent: what is on record of these people is told again."""
+        """Takes uncertain receipts for such that were not sent: these people get a receipt again."""
         key = (RECEIPT, number, UNCERTAIN)
         with self.book.opened() as database:
             database.execute("UPDATE receipt SET told = ? WHERE person IN (SELECT person FROM message WHERE kind = ? AND round = ? "
@@ -166,6 +166,6 @@ def clear(database: sqlite3.Connection) -> None:
 
 
 def tell(database: sqlite3.Connection, person: str, entry: Entry, told: str) -> bool:
-    """Writes down what a person is told, if all is as it was seen."""
+    """Writes down what a receipt tells a person, if all is as it was seen."""
     return bool(database.execute("UPDATE receipt SET told = ? WHERE (person, now, told) = (?, ?, ?)",
                                  (told, person, entry.now, entry.told)).rowcount)

@@ -46,7 +46,7 @@ def receipt_to(rows: Rows, person: str, since: str, link: str, worded: tuple[str
 
 
 def is_due(entry: Entry, seconds: float) -> bool:
-    """Whether a change is so old that a receipt goes out."""
+    """Whether a change is so old that a receipt is sent."""
     if entry.now == entry.told:
         return False
     age = (datetime.datetime.now(datetime.timezone.utc) - datetime.datetime.fromisoformat(entry.at)).total_seconds()

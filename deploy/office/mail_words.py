@@ -14,7 +14,7 @@ LONGEST_ADDRESS, LONGEST_NAME = 254, 64
 
 PLACEHOLDER = re.compile(r"\{([^{}]*)\}")
 LONGEST_SUBJECT, LONGEST_BODY = 150, 4000
-RECEIPT = "receipt"  # this kind goes out by itself (mail_receipts.py)
+RECEIPT = "receipt"  # this kind is sent by itself (mail_receipts.py)
 ALL = ""  # stands for the language of a text that a clerk wrote for everybody, before there were languages
 
 # What stands in the place of each placeholder.

@@ -1,6 +1,6 @@
 """What residents read of rooms, and the office's notice and contact. It is public, and nothing of it is in the office's file.
 
-It is in a folder of its own, which every account of the machine may read: rooms-told serves it to whoever asks
+It is in a folder of its own, which every account of the machine may read: rooms-told serves it to anybody who asks
 (told_server.py). `told.json.gz` has the texts, and says which pictures a room has. The name of a picture's file is the
 hash of its bytes. The texts are replaced as a whole, so who reads them gets the old ones or the new ones.
 """

@@ -40,7 +40,7 @@ def drawn(chance):
 
 
 def try_audit_told():
-    """What the audit finds in drawn rounds is told in English as it is, and in another language whole."""
+    """The audit reports what it finds in drawn rounds in English as it is, and in another language whole."""
     chance = random.Random(2027)
     found = [fault for _ in range(ROUNDS) for fault in Audit(drawn(chance)).faults()]
     used = []

@@ -159,7 +159,7 @@ def bundles(stand):
 
 
 def journal(stand):
-    """What a clerk notes is told from what the keeper did, and names of an earlier journal are blanked."""
+    """What a clerk notes is kept apart from what the keeper did, and names of an earlier journal are blanked."""
     stand.ask(ask="note", line="close")
     stand.ask(ask="note", line=f"draw $(rooms words --seed {KEY}{KEY})")
     last = stand.ask(ask="journal", last=2)["journal"]

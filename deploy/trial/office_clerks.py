@@ -60,7 +60,7 @@ def try_held(stand, anna, bert):
 
 
 def stale(stand, clerks, act, forms, page="/office/person/T01"):
-    """Both clerks open a form. The first one's takes effect, and the other, who sends theirs afterwards, is told."""
+    """Both clerks open a form. The first one's takes effect, and the other, who sends theirs afterwards, reads so."""
     first, later = clerks
     path = f"/office/person/T01/{act}"
     old = later.hidden(page, path)

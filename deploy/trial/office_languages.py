@@ -175,7 +175,7 @@ def try_two_clerks(stand):
             other = {"Accept-Language": "en" if code == CODE else CODE}
             for path in ("/office/", "/office/none", "/office/person/T01", "/office/%ff"):
                 status, fields, text = pages[code].get(path, other)
-                # The last one is refused before the page looks who asks, and does so in English whoever asked before.
+                # The last one is refused before the page looks who asks, and does so in English, whatever was asked before.
                 its = "en" if path == "/office/%ff" else code
                 if f'<html lang="{its}"' not in text or fields["content-language"] != its or (
                         path == "/office/" and not is_in(text, code)):

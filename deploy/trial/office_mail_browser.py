@@ -76,7 +76,7 @@ def write_a_text(clerk):
 
 
 def send(clerk, stand, server):
-    """The messages go out; the server goes away; it comes back and refuses one."""
+    """The messages are sent; the server goes away; it comes back and refuses one."""
     settle_mail(stand, server, **{"per-minute": "120"})
     clerk.press("Send it to 24")
     clerk.reads("Send reminder to 24 people?", "Deine Liste für den Zimmertausch fehlt", "cannot be taken back")

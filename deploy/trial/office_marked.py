@@ -222,7 +222,7 @@ def given_up(reader):
 
 
 def mail(reader):
-    """The pages of mail, with a mail server that is away. A round is open, so that messages can go out."""
+    """The pages of mail, with a mail server that is away. A round is open, so that messages can be sent."""
     reader.form("/office/step/open")
     settle_mail(reader.stand, type("Away", (), {"port": 1}), **{"from": "office@college.example"})
     reader.crawl("/office/mail")

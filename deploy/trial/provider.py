@@ -125,7 +125,7 @@ class Provider(http.server.ThreadingHTTPServer):  # pylint: disable=too-many-ins
         return {"keys": [{**public, "kid": KEY_NAME, "alg": "RS256", "use": "sig"}]}
 
     def code_for(self, fields):
-        """A code for whoever is signed in, which the proxy changes into a token once."""
+        """A code for the person who is signed in, which the proxy changes into a token once."""
         code = secrets.token_urlsafe(16)
         self.codes[code] = fields
         return code

@@ -75,7 +75,7 @@ def try_records(record):
 
 
 def try_signs(record):
-    """By signs that a terminal carries out, a record cannot replace what is said of it."""
+    """By signs that a terminal carries out, a record cannot replace the report on it."""
     signs = "\x1b[1A\x1b[2K\r\u009b1A\u202e\x08".encode()
     for what, old, new in (("the journal", b"# round 1 ran\n", b"# round 1 ran\n# journal: " + signs * 9 + b"all is right\n"),
                            ("an identifier", b"P3", b"P3" + signs)):

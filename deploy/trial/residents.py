@@ -57,7 +57,7 @@ class Residents:
             thread.join()
 
     def ask(self):
-        """One resident. Whoever waits too long, or loses the connection, has no answer and asks no more."""
+        """One resident. One who waits too long, or loses the connection, has no answer and asks no more."""
         try:
             for answer in answers_of(self.stand, self.people, self.patience):
                 self.answers.append(answer)

@@ -41,7 +41,7 @@ FORMS: dict[str, tuple[Form, ...]] = {
     "choices": (IDENTIFIER.fullmatch, is_list),
 }
 ROOM_AGAIN = N_("This room is in row {row} of this list already.")
-# What may be in a list once, by kind: the field, and what is said of it the second time.
+# What may be in a list once, by kind: the field, and the fault of the second one.
 ONCE = {"rooms": {0: ROOM_AGAIN}, "people": {0: N_("This person is in row {row} of this list already."),
                                              2: N_("This key is in row {row} of this list already."), 3: ROOM_AGAIN}}
 

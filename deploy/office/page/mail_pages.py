@@ -204,7 +204,7 @@ def steer() -> None:
 
 @app.get(f"{RECEIPTS}/begin")
 def ask_begin() -> str:
-    """Asks before receipts go out by themselves."""
+    """Asks before receipts are sent by themselves."""
     state = ask("mail")["kinds"][RECEIPT]
     says = [_("Whoever has a mail address gets a message some minutes after their list on record has changed, by themselves or by "
               "you. Several changes in a row make one message. It names no room. This goes on in later rounds, until you end it."),

@@ -2,7 +2,7 @@
 
 A browser drops the answer to the first press, and shows the one to the second. So a second press of the same form, with all its
 fields as before, is not carried out: it waits for the first one, and gets its answer and its news. That holds for some seconds
-after the first one has ended: whoever sends an old page again later reads what is so then.
+after the first one has ended: a clerk who sends an old page again later reads what is so then.
 """
 
 import contextvars

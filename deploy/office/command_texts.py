@@ -1,0 +1,77 @@
+"""What the office's command prints of what is on record: an office, a person, lists, the journal."""
+
+from typing import Any
+
+from lines import on_one_line
+
+
+def office_text(rows: dict[str, Any]) -> str:
+    """How far the round is, and who has handed in no list."""
+    away = [person for person, _, _, withdrawn in rows["people"] if withdrawn]
+    going = [person for person, in rows["going"]]
+    without = [person for person, *_ in rows["people"] if person not in {*away, *going, *rows["choices"]}]
+    states = [bool(shut) for _, shut, _ in rows["rooms"]]
+    lines = [f"round {rows['number']} {rows['phase']}",
+             f"rooms {len(states)} shut {sum(states)}",
+             f"people {len(rows['people'])} withdrawn {len(away)} going {len(going)} lists {len(rows['choices'])}",
+             f"server {'running' if rows['server'] else 'not running'}"]
+    if ended := rows["ended"]:
+        lines.append(f"server ended by itself: {ended['times']}, last at {ended['at']} with status {ended['status']}")
+    if until := rows["until"]["until"]:
+        lines.append(f"lists until {until['local'].replace('T', ' ')} {until['zone']}, then "
+                     f"{'the round is closed' if until['closes'] else 'a reminder'}")
+    if rows["phase"] != "idle":
+        lines += [" ".join([title, *(people or ["nobody"])])
+                  for title, people in (("without a list:", without), ("withdrawn:", away), ("going:", going))]
+    return "".join(f"{line}\n" for line in lines)
+
+
+def person_text(rows: dict[str, Any], person: str) -> str:
+    """What is on record of somebody in the register."""
+    _, name, home, withdrawn = next(row for row in rows["people"] if row[0] == person)
+    result = dict(rows["results"]).get(person, "no result")
+    grade, going = dict(rows["grades"]).get(person, 0), [person] in rows["going"]
+    return (f"person {person}\nname {name}\nhome {home or 'none'}\ngrade {grade}\nround {rows['number']} {rows['phase']}\n"
+            + " ".join(["choices", *rows["choices"].get(person, [])]) + "\n"
+            + f"withdrawn {'yes' if withdrawn else 'no'}\ngoing {'yes' if going else 'no'}\nresult {result or 'none'}\n")
+
+
+def lists_text(rows: dict[str, Any]) -> str:
+    """The lists on record, as an import of choices reads them. The program does not export choices.
+
+    Those of people who take no part are left out: with one of them the whole list could not be imported again.
+    """
+    away = {person for person, _, _, withdrawn in rows["people"] if withdrawn} | {person for person, in rows["going"]}
+    lists = sorted((person, rooms) for person, rooms in rows["choices"].items() if person not in away)
+    return "".join(["person,choices\n", *(f"{person},{' '.join(rooms)}\n" for person, rooms in lists)])
+
+
+def about_text(kept: dict[str, Any]) -> str:
+    """All that is kept of a person besides what is on record: moves, imported lists, copies, mail, account and journal."""
+    mail = kept["mail"]
+    lines = [f"move {number} {old or 'none'} {new or 'none'}" for number, old, new in kept["moves"]]
+    lines += [f"list {label} {kind} {','.join(fields)}" for label, kind, fields in kept["lists"]]
+    lines += [f"copy {name} until {until}" for name, until in kept["copies"]]
+    lines += [f"mail address {mail['address']}"] if mail["address"] else []
+    lines += [f"mail {at} {kind} of round {number}, {state}" for kind, number, state, at in mail["sent"]]
+    lines += [f"account {kept['account']}"] if kept["account"] else []
+    lines += [f"journal {entry.get('at')} {entry.get('who', '')}: {entry.get('note', entry.get('line', ''))}"
+              for entry in kept["journal"]]
+    return "".join(f"{on_one_line(line)}\n" for line in lines)
+
+
+def journal_text(noted: list[dict[str, Any]], count: int) -> str:
+    """The last changes, each with its answer, on one line each, whatever somebody noted."""
+    entries: dict[Any, dict[str, Any]] = {}
+    for place, entry in enumerate(noted):
+        known = entries.setdefault(entry.get("n", place), {})
+        known.update({**entry, **({"at": known["at"]} if "at" in known else {})})
+    return "".join(f"{on_one_line(change_text(entry))}\n" for entry in list(entries.values())[-count:])
+
+
+def change_text(entry: dict[str, Any]) -> str:
+    """One change, with its answer."""
+    more = f"  (before: {entry['copy']})" if "copy" in entry else ""
+    answer = entry.get("answer", "").replace("\n", "; ")
+    said = f"noted: {entry['note']}" if "note" in entry else f"{entry.get('line', '')}  ->  {answer}{more}"
+    return f"{entry.get('at')}  {entry.get('who', '')}: {said}"
