@@ -19,6 +19,7 @@ Exit status: 0 all is right, 1 faults, 2 the record cannot be read, 3 no faults,
 """
 
 import argparse
+import signal
 import sys
 from collections.abc import Mapping
 from pathlib import Path
@@ -209,8 +210,7 @@ class Audit:  # pylint: disable=too-many-instance-attributes  # others read what
 
 def in_circles(points: dict[str, str]) -> list[str]:
     """The people who are in a circle, if each person points to one person."""
-    inside: list[str] = []
-    seen: set[str] = set()
+    inside, seen = list[str](), set[str]()
     for person in points:
         walk: list[str] = []
         while person not in seen:
@@ -278,12 +278,10 @@ class Record:  # pylint: disable=too-many-instance-attributes  # a list for each
     def __init__(self, text: str) -> None:
         self.number, self.seed, self.last, self.history = 0, "", 0, list[str]()
         self.lines: set[str] = set()  # those that were read, by their first words: each of them comes once
-        self.rooms: dict[str, bool] = {}
         self.homes, self.results = dict[str, str | None](), dict[str, str | None]()
         self.withdrawn, self.going = set[str](), set[str]()
-        self.grades: dict[str, int] = {}
-        self.choices: dict[str, list[str]] = {}
-        self.words: dict[str, str] = {}
+        self.rooms, self.grades = dict[str, bool](), dict[str, int]()
+        self.choices, self.words = dict[str, list[str]](), dict[str, str]()
         for number, line in enumerate(text.split("\n"), 1):
             try:
                 self.read("".join(sign if sign.isprintable() else " " for sign in line).split())
@@ -397,4 +395,6 @@ def main(words: list[str]) -> int:
 
 
 if __name__ == "__main__":
+    if hasattr(signal, "SIGPIPE"):  # if nobody reads on, as after `| head`, the audit ends like other commands
+        signal.signal(signal.SIGPIPE, signal.SIG_DFL)
     sys.exit(main(sys.argv[1:]))

@@ -2,7 +2,7 @@
 
 | ask | fields | answer |
 |---|---|---|
-| view | | the rows of the office (rows.py); server: whether it runs; status, ended: of those that ended by themselves; until |
+| view | | the rows (rows.py); server: whether it runs; status, ended: of those that ended by themselves; until; disk (disk.py) |
 | watch | | faults: what is wrong with the server, the disk and the copies; age: of the newest copy, in seconds |
 | try | lines | answers: of a copy, which is thrown away |
 | do | lines, seen, saw | answers, done, took, copy; unkept: what went wrong with the figures of the round |
@@ -42,6 +42,7 @@ from backups import blank
 from beside_register import BesideRegister
 from copy_requests import CopyRequests
 from dates import Dates
+from disk import short_of_room
 from figures_kept import Before
 from history import history
 from job import Job, body_of, lines_of, saw_in, seen_in, text
@@ -133,7 +134,8 @@ class Requests:
     def view(self, _job: Job) -> Job:
         """The office as it is now."""
         return {**self.worker.view.rows(), "server": self.worker.server is not None, "status": self.worker.status,
-                "ended": self.worker.ended(), "until": self.dates.shown(), "mail": self.post.is_on()}
+                "ended": self.worker.ended(), "until": self.dates.shown(), "mail": self.post.is_on(),
+                "disk": short_of_room(self.copies.file)}
 
     def about(self, job: Job) -> Job:
         """All that is kept of a person."""

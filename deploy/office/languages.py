@@ -148,15 +148,23 @@ def said_of(text: str, other: str, values: dict[str, object]) -> str:
     """A translation with its values."""
     if other == text:
         return filled(text, values)
-    said = Said(filled(other, values))
+    said = Said(Filler().format(other, **values) if values else other)
     said.english = filled(text, {name: in_english(one) if isinstance(one, (Said, Exception)) else one
                                  for name, one in values.items()})
     return said
 
 
 def filled(text: str, values: dict[str, object]) -> str:
-    """A text with its values."""
+    """A text with its values, in English."""
     return text.format(**values) if values else text
+
+
+class Filler(string.Formatter):
+    """Fills values into a text of the language that is spoken. A number whose form has a comma gets the signs of that language."""
+
+    def format_field(self, value: Any, format_spec: str) -> str:
+        """A value in its form."""
+        return numeral(value, format_spec) if "," in format_spec else str(super().format_field(value, format_spec))
 
 
 def _(text: str, /, **values: object) -> str:
@@ -177,3 +185,15 @@ def ngettext(one: str, many: str, count: int, /, **values: object) -> str:
 def N_(text: str) -> str:  # pylint: disable=invalid-name  # as it is called with gettext
     """Marks a text that is translated where it is shown."""
     return text
+
+
+# How a language writes this number says with which signs it writes every one.
+NUMBER = N_("1,000.5")
+SIGNS = re.compile(r"1(\D*)000(\D+)5")
+
+
+def numeral(value: object, form: str = ",") -> str:
+    """A number in the form of the language that is spoken. The form is that of English."""
+    found = SIGNS.fullmatch(_(NUMBER)) or SIGNS.fullmatch(NUMBER)
+    assert found
+    return format(value, form).translate(str.maketrans({",": found[1], ".": found[2]}))

@@ -15,6 +15,7 @@ import argparse
 import contextlib
 import re
 import shutil
+import signal
 import sqlite3
 import sys
 import tempfile
@@ -251,4 +252,6 @@ def main(words: list[str]) -> int:
 
 
 if __name__ == "__main__":
+    if hasattr(signal, "SIGPIPE"):  # as audit.py ends
+        signal.signal(signal.SIGPIPE, signal.SIG_DFL)
     sys.exit(main(sys.argv[1:]))

@@ -3,11 +3,10 @@ watch`)."""
 
 import contextlib
 import http.client
-import os
 import time
-from pathlib import Path
 from typing import Any
 
+from disk import fault_of_disk
 from office import Office
 from placing import beside
 from worker import Worker
@@ -34,21 +33,6 @@ def fault_of_server(port: int) -> str:
             if left < 0:
                 return f"the server does not answer ({why})"
             time.sleep(0.2)
-
-
-def fault_of_disk(probe: Path) -> str:
-    """What is wrong with the disk of the office's file, if anything: a small file is written, flushed and removed."""
-    try:
-        with open(probe, "wb") as held:
-            held.write(bytes(4096))
-            held.flush()
-            os.fsync(held.fileno())
-        return ""
-    except OSError as why:
-        return f"the disk of {probe.parent} takes no writes ({why.strerror})"
-    finally:
-        with contextlib.suppress(OSError):
-            probe.unlink()
 
 
 def fault_of_copies(age: float | None) -> str:

@@ -14,9 +14,12 @@ import tempfile
 from pathlib import Path
 from typing import Any
 
+from office_again import flat
+from office_requests import Page
 from stand import Stand, check, key_of
 
 SIZE = "6m"
+LEFT = 60_000  # bytes: enough for a small file, and not for ten copies
 
 
 @contextlib.contextmanager
@@ -61,6 +64,14 @@ def hand_in(stand):
     return status
 
 
+def overview(stand, room, *says):
+    """The overview says what room there is, and what comes of it; or nothing if there is enough."""
+    shown, disk = flat(Page(stand).get("/office/")[2]), stand.ask(ask="view")["disk"]
+    check(f"the overview with {room}", all(text in shown for text in says) if says else "On the disk" not in shown, shown)
+    free = f"On the disk of the office {disk['free'] / 1e6:.1f} MB are free" if disk else ""
+    check("it says how much is free", bool(disk) == bool(says) and free in shown, (disk, shown))
+
+
 def while_full(stand, name, before, is_program):
     """What reads goes on, and what changes is refused."""
     view = stand.ask(ask="view")
@@ -82,6 +93,7 @@ def while_full(stand, name, before, is_program):
         told, said = refused(stand, **job)
         check(f"full disk: {job} is refused", told, said)
         print(f"      {said}")
+    overview(stand, "a full disk", "Nothing is written now", "Call the administrator, who makes room.")
     told = stand.command("watch")
     check("full disk: the watch says so", told[0] == 1 and "takes no writes" in told[1], told)
     if is_program:
@@ -122,10 +134,16 @@ def try_full(program):
             stand.office("open")
             name = stand.ask(ask="backup")["name"]
             before, journal = stand.ask(ask="view"), (disk / "journal").read_bytes()
+            stand.start_page()
+            stand.start_proxy()
+            overview(stand, "enough room")
             filler = fill_up(disk)
             while_full(stand, name, before, is_program)
+            os.truncate(filler, filler.stat().st_size - LEFT)
+            overview(stand, "room for a line", "copies need", "Once the disk is full, nothing is written")
             filler.unlink()
             with_room_again(stand, journal, is_program)
+            overview(stand, "enough room again")
 
 
 if __name__ == "__main__":

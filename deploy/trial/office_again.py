@@ -92,6 +92,7 @@ def try_faults(page):
     expected = [*range(first, first + 62), first + 63, first + 65, first + 66]
     check("all faults are shown at once, with their rows", rows == expected, (rows, expected))
     check("and nobody who is in the register", "26 people of this list" in shown and "P05" not in shown, shown[:2500])
+    check("nor who is not on the list: the list may still change", "not on this list" not in shown and "P00" not in shown, shown)
     for text in (f"This person is in row {first + 62} of this list already", "No room has this code",
                  f"This room is in row {first + 64} of this list already", "Another person lives in this room"):
         check(f"a fault reads: {text}", text in shown, shown[-6000:])
@@ -153,6 +154,7 @@ def try_same_label(anna, bert):
     again = bring(anna, shown)
     check("the second one reads that the slips are void", "Meanwhile these people came into the register: L01, L02" in again
           and "destroy these" in again, again[:2500])
+    check("and not that no key was made", "no key was made" not in again and "the keys that they have stay good" in again, again)
 
 
 def try_twice(stand, page):
@@ -189,6 +191,19 @@ def try_rooms(stand, page):
     check("and they come in", there == {*ROOMS, "B-201", "B-202"}, there)
 
 
+def try_german(page):
+    """A German clerk reads of rooms, and not of people, where a list of rooms fits and where it does not."""
+    page.form("/office/language", {"language": "de"}, page="/office/")
+    for more, says in ((["C-1"], "<strong>1 ist neu.</strong>"), (["C-1", "C-2"], "<strong>2 sind neu.</strong>"),
+                       (["C-1", "C-1"], "Was schon im Verzeichnis steht, darf in der Liste bleiben")):
+        fields = {"kind": "rooms", "label": "rooms-german"}
+        shown = flat(page.form("/office/lists", fields, files={"list": listed([[one] for one in (*ROOMS, *more)], ["room"])})[2])
+        about = shown.partition("<main")[2]
+        check(f"a German clerk reads: {says}", says in about and "Person" not in about, about)
+    shown = page.get("/office/copies")[2]
+    check("and why a copy was made", "Liste rooms-new (Zimmer) eingelesen" in shown and "(rooms)" not in shown, shown)
+
+
 def try_sum(page):
     """A line with a sum below the people, as a spreadsheet has it."""
     shown = send(page, "people-sum", [["Q01", "Person Q", "", ""], ["Total", "301", "", ""]])
@@ -220,6 +235,7 @@ def try_office_again(program):
         try_twice(stand, anna)
         try_sum(anna)
         try_rooms(stand, anna)
+        try_german(anna)
         check("the page has noted no fault of its own", "rooms-page:" not in stand.log("page"), stand.log("page"))
 
 

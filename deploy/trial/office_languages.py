@@ -226,6 +226,18 @@ def try_restart(stand, pages):
     stand.start()
 
 
+def try_numbers(stand):
+    """A number is in the form of the clerk's language, also in a refusal of the keeper; and in English where that has no form."""
+    page = Page(stand, "bert")
+    for code, most in (("de", "1 bis 3.650 Tage"), (CODE, "1 to 3,650 days"), ("en", "1 to 3,650 days")):
+        page.form("/office/language", {"language": code}, page="/office/")
+        page.get("/office/copies/days/9999")
+        shown = page.get("/office/copies")[2]
+        check(f"a number has the form of the language {code}", most in shown, shown)
+        title = page.get("/office/copies/days/3650")[2].partition("<h1>")[2].partition("</h1>")[0]
+        check("also in a question", most.split()[-2] in title, title)
+
+
 # --- residents
 
 def section_of(text, person, kind):
@@ -298,6 +310,7 @@ def try_office_languages(program):
         with started(program, folder) as stand:
             stand.office("open")
             try_two_clerks(stand)
+            try_numbers(stand)
             try_residents(stand)
 
 

@@ -3,6 +3,7 @@
 import re
 
 from office_college import PEOPLE
+from printed import cut_off
 from stand import check
 
 # A key on a slip, in groups of four signs.
@@ -44,6 +45,8 @@ def bring_people_in(clerk, college):
     check("each slip has a key of its own", len(set(college.keys.values())) == PEOPLE, len(college.keys))
     clerk.shot("04-slips")
     print(f"      the slips are {clerk.pdf('04-slips')} sheets")
+    beyond = cut_off((clerk.shots / "office-04-slips.pdf").read_bytes())
+    check("each line to cut along is on the paper", beyond is not None and beyond < 0, beyond)
     clerk.tick()
     clerk.press("Bring in the list")
     clerk.reads("The list is in, with 300 lines.")

@@ -1,7 +1,8 @@
 """The page that checks a draw (check-draw.html), in headless Chromium: record_browser.py PROGRAM [FOLDER].
 
 It is opened from a file, without a network. Its order of drawn rounds, with grades, leavers and people who have withdrawn,
-has to be the program's own; and it has to find each thing that was changed in a record. The folder gets photographs.
+has to be the program's own; and it has to find each thing that was changed in a record, in each language that it has. The
+folder gets photographs.
 """
 
 import contextlib
@@ -50,7 +51,7 @@ class Council:
     def __init__(self, folder):
         options = webdriver.ChromeOptions()
         for word in ("--headless=new", "--no-sandbox", "--disable-gpu", "--disable-dev-shm-usage", "--no-first-run",
-                     "--host-resolver-rules=MAP * ~NOTFOUND", f"--user-data-dir={folder}/chromium"):
+                     "--host-resolver-rules=MAP * ~NOTFOUND", "--accept-lang=en", f"--user-data-dir={folder}/chromium"):
             options.add_argument(word)
         options.set_capability("goog:loggingPrefs", {"browser": "ALL"})
         self.folder = folder
@@ -61,15 +62,24 @@ class Council:
         """Ends the browser."""
         self.driver.quit()
 
-    def look(self, text, seen=""):
-        """What the page says of a record, and of what the witnesses wrote down: the headline, the rest, and the order."""
+    def ask_for(self, tags):
+        """Lets the browser ask for pages in these languages."""
+        agent = self.driver.execute_script("return navigator.userAgent")
+        self.driver.execute_cdp_cmd("Emulation.setUserAgentOverride", {"userAgent": agent, "acceptLanguage": tags})
+
+    def look(self, text, seen="", press=""):
+        """What the page says of a record, and of what the witnesses wrote down: the headline, the rest, and the order. Before
+        that, the button of another language may be pressed."""
         file = self.folder / "round.txt"
         file.write_text(text, encoding="utf-8")
         self.driver.get(self.page)
+        if press:
+            self.driver.find_element(By.CSS_SELECTOR, f"#languages [lang={press}]").click()
+        before = self.driver.find_element(By.ID, "verdict").text
         self.driver.find_element(By.ID, "seen").send_keys(seen)
         self.driver.find_element(By.ID, "record").send_keys(str(file))
         end = time.monotonic() + 30
-        while (headline := self.driver.find_element(By.ID, "verdict").text) == "Choose the record.":
+        while (headline := self.driver.find_element(By.ID, "verdict").text) == before:
             assert time.monotonic() < end, "the page does not answer"
             time.sleep(0.02)
         rows = self.driver.execute_script(
@@ -145,6 +155,47 @@ def try_changes(council, made):
               and (text != made[0] or given not in ("", made[2])), whole)
 
 
+def english_in(shown, texts):
+    """The parts of English texts that a page shows in another language."""
+    parts = {part.strip() for text in texts["en"].values() for part in re.split(r"\{\w+\}", text)}
+    return [part for part in parts if len(part) > 12 and part in shown]
+
+
+def try_texts(council):
+    """Both languages have the same texts, with the same values, and the page shows those of its own."""
+    texts = council.driver.execute_script("return TEXTS")
+    check("the languages are English and German", sorted(texts) == ["de", "en"], sorted(texts))
+    values = [{name: sorted(re.findall(r"\{\w+\}", text)) for name, text in one.items()} for one in texts.values()]
+    check("they have the same texts, with the same values", values[0] == values[1], values)
+    shown = council.driver.execute_script(
+        "return [...document.querySelectorAll('[data-text]')].map(one => [one.dataset.text, one.textContent])")
+    check("each text that stands still is in German", all(texts["de"][name] == text for name, text in shown), shown)
+    return texts
+
+
+def try_languages(council, made):
+    """The page speaks the first of the browser's languages that it has, and another one after a press. What was changed in a
+    record it finds in each."""
+    text, order, throws, _ = made
+    council.ask_for("fr,de-AT,en")
+    headline, whole, rows = council.look(text, throws)
+    check("a browser that asks for German has it", headline.startswith("Die Auslosung stimmt: ") and rows == order, headline)
+    texts = try_texts(council)
+    check("nothing of the page is in English", not english_in(whole, texts), english_in(whole, texts))
+    for what, changed, given, _ in changes_of(made):
+        headline, whole, _ = council.look(changed, given)
+        check(f"in German, changed: {what}: {headline[:60]}", not english_in(whole, texts)
+              and headline.startswith(("Die Auslosung stimmt nicht.", "Das lässt sich nicht prüfen. ")), whole)
+    headline, *_ = council.look(text, throws, press="en")
+    check("a press leads to English", headline.startswith("The draw is right"), headline)
+    council.ask_for("fr")
+    headline, *_ = council.look(text, throws)
+    check("a browser that asks for neither has English", headline.startswith("The draw is right"), headline)
+    headline, *_ = council.look(text, throws, press="de")
+    check("a press leads to German", headline.startswith("Die Auslosung stimmt: "), headline)
+    council.ask_for("en")
+
+
 def take_photographs(council, shots, made):
     """The page with a record as it is, and with one that was changed."""
     changed = next(text for what, text, *_ in changes_of(made) if what == "the throws")
@@ -168,6 +219,7 @@ def try_record_browser(program, shots=None):
             try_order(council, one)
         for one in made[2:4]:
             try_changes(council, one)
+        try_languages(council, made[2])
         asked = council.driver.execute_script("return performance.getEntriesByType('resource').map(one => one.name)")
         check("the page has loaded nothing", asked == [], asked)
         complaints = council.driver.get_log("browser")

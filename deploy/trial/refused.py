@@ -5,7 +5,9 @@ is led on from results that the audit refuses, and no room off a list counts as 
 """
 
 import contextlib
+import os
 import re
+import signal
 import sqlite3
 import subprocess
 import sys
@@ -84,6 +86,15 @@ def try_signs(record):
               all(sign.isprintable() for sign in said.replace("\n", "")), said)
 
 
+def try_unread(name, *words):
+    """A command whose reader has gone, as by `| head`, says nothing of it, and ends with the status of a broken pipe."""
+    reader, writer = os.pipe()
+    os.close(reader)
+    done = subprocess.run([PYTHON, "-B", OFFICE / name, *words], stdout=writer, stderr=subprocess.PIPE, check=False)
+    os.close(writer)
+    check(f"{name} whose words nobody reads ends quietly", (done.returncode, done.stderr) == (-signal.SIGPIPE, b""), done)
+
+
 def swap(stand, results):
     """Puts other results into the office's file, while nothing runs."""
     stand.stop_keeper()
@@ -137,6 +148,9 @@ def try_refused(program):
         try_seeds(record)
         try_records(record)
         try_signs(record)
+        (stand.folder / "round.txt").write_bytes(record)
+        try_unread("audit.py", stand.folder / "round.txt", *PEOPLE)
+        try_unread("record.py", stand.file)
         try_page(stand, page)
 
 

@@ -8,7 +8,9 @@ from lines import IDENTIFIER
 
 import explaining
 import plain
+import reasons
 from app import app, ask, drawn_order, field, go_to, office_now, saw, show, tell, text_of
+from columns import kind_name
 from keeper_client import KeeperFault, answers_of
 from office_view import Office
 from questions import Question, put_question
@@ -79,7 +81,7 @@ def page_about(ident: str) -> str:
     facts = explainer.facts_of(ident) if explainer else None
     told = explaining.to_resident(facts) if facts else []  # as in a letter: the page may go to the person, and names nobody else
     return show("about", office=office, ident=ident, person=office.people.get(ident), kept=kept, told=told,
-                place=place_of(office, ident))
+                place=place_of(office, ident), kind_name=kind_name, told_who=reasons.told_who)
 
 
 def question_of(office: Office, ident: str, kept: Kept) -> Question:

@@ -174,9 +174,9 @@ def ask_days(days: int) -> str:
     says = [ngettext("One copy is older, and is deleted at once. You cannot take this back.",
                      "{count} copies are older, and are deleted at once. You cannot take this back.", gone)
             if gone else _("No copy is older now."),
-            _("From then on each copy is deleted when it is {days} days old, or earlier if there are enough newer ones of its "
+            _("From then on each copy is deleted when it is {days:,} days old, or earlier if there are enough newer ones of its "
               "kind. Copies that the administrator has taken elsewhere stay there.", days=days)]
-    title = _("Keep copies for {days} days at most?", days=days)
+    title = _("Keep copies for {days:,} days at most?", days=days)
     return put_question(office_now(), Question(title, says, _("Yes: keep them for so long"), "/office/copies"))
 
 
@@ -185,7 +185,7 @@ def set_days(days: int) -> None:
     """Sets for how many days copies stay."""
     gone = days_gone(days, False)
     deleted = ngettext("{count} copy was deleted.", "{count} copies were deleted.", gone) if gone else _("No copies were deleted.")
-    tell("good", f"{_('Copies stay for {days} days at most.', days=days)} {deleted}")
+    tell("good", f"{_('Copies stay for {days:,} days at most.', days=days)} {deleted}")
     go_to("/office/copies")
 
 
@@ -261,4 +261,4 @@ def back(name: str) -> None:
 def journal() -> str:
     """What was done, the newest first."""
     entries = merged(ask("journal", last=SHOWN_ENTRIES)["journal"])
-    return show("journal", office=office_now(), entries=entries[::-1], own=OWN_TEXTS)
+    return show("journal", office=office_now(), entries=entries[::-1], own=OWN_TEXTS, told_who=reasons.told_who)

@@ -254,7 +254,7 @@ def cause(words: list[str], kind: str) -> Meaning:
     texts = FIELDS.get(kind, ())
     columns = KINDS[kind].header.split(",") if kind in KINDS else []
     says = (_("The field {name} is not well written.", name=columns[number - 1]) if number <= len(columns) else
-            _("The field field {number} is not well written.", number=number))
+            _("Field {number} is not well written.", number=number))
     return Meaning(says, _(texts[number - 1]) if number <= len(texts) else _("Correct it."))
 
 

@@ -5,6 +5,8 @@ import re
 import times
 from languages import N_, _, ngettext
 
+from columns import kind_name
+
 # What a line did, by its verb; {what} is the person, the room or the copy that it names.
 LINES = {
     "open": N_("round opened"), "close": N_("round closed"), "cancel": N_("round given up"), "draw": N_("order drawn"),
@@ -35,10 +37,14 @@ def of_copy(why: str) -> str:
     if asked := ASKED_FOR.fullmatch(why):
         return _("Asked for by {who}", who=asked[1])
     if before := BEFORE.fullmatch(why):
-        dated = DATED.fullmatch(before[2])
-        who = _("the date that {who} set", who=dated[1]) if dated else before[2]
-        return _("Before: {what}, by {who}", what=of_lines(before[1]), who=who)
+        return _("Before: {what}, by {who}", what=of_lines(before[1]), who=told_who(before[2]))
     return why or _("Put there by hand")
+
+
+def told_who(who: str) -> str:
+    """Who did something: a clerk, or the keeper at a date."""
+    dated = DATED.fullmatch(who)
+    return _("the date that {who} set", who=dated[1]) if dated else who
 
 
 def of_lines(said: str) -> str:
@@ -62,7 +68,7 @@ def of_line(said: str) -> str:
     """What one line did."""
     verb, *words = said.split()
     if verb == "import" and len(words) >= 2:
-        return _("list {label} of {kind} brought in", label=words[1], kind=words[0])
+        return _("list {label} of {kind} brought in", label=words[1], kind=kind_name(words[0]))
     if verb == "correct" and len(words) >= 2 and (text := CORRECTED.get(" ".join(words[1:]))):
         return _(text, what=words[0].rstrip(":"))
     if counted := re.fullmatch(r"new keys \((\d+)\)", said):

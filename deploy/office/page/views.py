@@ -14,7 +14,7 @@ from typing import Any, NamedTuple
 
 import bottle  # type: ignore[import]  # Debian's bottle has no types
 
-from languages import ENGLISH, _, languages, ngettext, spoken
+from languages import ENGLISH, _, languages, ngettext, numeral, spoken
 
 FOLDER = Path(__file__).resolve().parent / "views"
 # Lines and blocks of code, as bottle's own parser finds them.
@@ -217,4 +217,4 @@ def view(name: str, language: str) -> View:
 
 def render(name: str, **values: Any) -> str:
     """The page of a template in the language that is spoken."""
-    return str(view(name, spoken()).render(_=_, ngettext=ngettext, spoken=spoken, languages=languages, **values))
+    return str(view(name, spoken()).render(_=_, ngettext=ngettext, numeral=numeral, spoken=spoken, languages=languages, **values))
