@@ -22,8 +22,8 @@ def seconds(line, given):
 
 
 def instructions(line, given):
-    """How many thousands of millions of instructions the program takes."""
-    counted = ["valgrind", "--tool=callgrind", "--callgrind-out-file=/dev/null", *line]
+    """How many thousands of millions of instructions the program takes, as Cachegrind counts: Callgrind takes thrice as long."""
+    counted = ["valgrind", "--tool=cachegrind", "--cache-sim=no", "--cachegrind-out-file=/dev/null", *line]
     told = subprocess.run(counted, input=given, text=True, check=True, capture_output=True).stderr
     return int(re.findall(r"refs:\s*([\d,]+)", told)[0].replace(",", "")) / 1e9
 

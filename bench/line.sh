@@ -10,21 +10,7 @@
 # processors. It needs `rustc` and the kit.
 set -euo pipefail
 rounds=${1:-31}
-here=$(CDPATH='' cd -- "$(dirname -- "$0")" && pwd)
-crate=$here/../crates/trade_bench
-scratch=$(mktemp -d)
-trap 'rm -rf "$scratch"' EXIT
-trap 'exit 130' INT
-trap 'exit 143' TERM
-
-echo "line: proving and building the programs" >&2
-if ! (cd "$crate" && rt run) >"$scratch/log" 2>&1 </dev/null; then
-    cat "$scratch/log" >&2
-    exit 3
-fi
-rustc --edition 2021 -O -C target-cpu=x86-64-v2 -o "$scratch/plain" "$here/line/main.rs"
-proved=$crate/out/trade_bench
-plain=$scratch/plain
+. "$(dirname "$0")/line/programs.sh"
 
 "$proved" >"$scratch/proved.txt"
 "$plain" >"$scratch/plain.txt"

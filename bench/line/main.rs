@@ -1,12 +1,14 @@
 //! The yardstick for the time of a run: the mechanism of `crates/trade_line` in plain Rust, on the markets of
-//! `crates/trade_bench`. It prints the columns that `trade_bench` prints.
+//! `crates/trade_bench`. It takes the arguments that `trade_bench` takes, and prints the columns that it prints.
+mod arguments;
 mod generator;
 mod line;
 mod markets;
 
 use crate::line::{run, Outcome};
-use crate::markets::{shapes, Market, NONE};
+use crate::markets::{Market, NONE};
 use std::hint::black_box;
+use std::process::ExitCode;
 use std::time::Instant;
 
 // People and runs of one measurement, multiplied.
@@ -30,9 +32,13 @@ fn time(market: &Market) -> u128 {
     start.elapsed().as_nanos() / repeats as u128
 }
 
-fn main() {
-    let timed = std::env::args().nth(1).is_some_and(|word| word == "times");
-    for shape in shapes() {
+fn main() -> ExitCode {
+    let words: Vec<String> = std::env::args().skip(1).collect();
+    let Some((shapes, timed)) = arguments::parse(&words) else {
+        eprintln!("{}", arguments::USAGE);
+        return ExitCode::FAILURE;
+    };
+    for shape in shapes {
         let market = shape.market();
         let outcome = run(&market);
         print!("{} {} {} ", shape.people, shape.listed, shape.kind);
@@ -42,4 +48,5 @@ fn main() {
         }
         println!();
     }
+    ExitCode::SUCCESS
 }

@@ -31,8 +31,16 @@ pub enum Kind {
     NoTenants,
     /// Nobody lives anywhere, and all list the same rooms.
     OneList,
-    /// Each tenant lists the room of the next, and the last lists a vacant room.
+    /// Each tenant lists the rooms of those who come next, and the last lists a vacant room.
     Chain,
+}
+
+impl Kind {
+    /// The kind of this name, if there is one.
+    pub fn named(name: &str) -> Option<Kind> {
+        let mut kinds = KINDS.iter().map(|&(kind, _)| kind);
+        kinds.find(|kind| kind.to_string() == name)
+    }
 }
 
 impl fmt::Display for Kind {
@@ -150,7 +158,9 @@ impl Shape {
     fn chain(&self) -> Market {
         let mut market = Market::new(self.people + 1, (0..self.people).collect());
         for person in 0..self.people {
-            market.push_list(&[person + 1]);
+            let last = person.saturating_add(self.listed).min(self.people);
+            let list: Vec<usize> = (person + 1..=last).collect();
+            market.push_list(&list);
         }
         market
     }

@@ -33,19 +33,35 @@ pub enum Kind {
     NoTenants,
     /// Nobody has a home, and all have the same list.
     OneList,
-    /// Each tenant lists the home of the next, and the last lists a vacant room.
+    /// Each tenant lists the homes of those who come next, and the last lists a vacant room.
     Chain,
 }
 
-impl fmt::Display for Kind {
-    fn fmt<W: fmt::Write>(&self, f: &mut fmt::Formatter<W>) -> fmt::Result {
-        f.write_str(match self {
+impl Kind {
+    /// Returns the kind with this name, if there is one.
+    pub fn named(name: &str) -> Option<Kind> {
+        for (kind, _) in KINDS {
+            if kind.name() == name {
+                return Some(kind);
+            }
+        }
+        None
+    }
+
+    fn name(self) -> &'static str {
+        match self {
             Kind::AllTenants => "all_tenants",
             Kind::HalfTenants => "half_tenants",
             Kind::NoTenants => "no_tenants",
             Kind::OneList => "one_list",
             Kind::Chain => "chain",
-        })
+        }
+    }
+}
+
+impl fmt::Display for Kind {
+    fn fmt<W: fmt::Write>(&self, f: &mut fmt::Formatter<W>) -> fmt::Result {
+        f.write_str(self.name())
     }
 }
 
@@ -115,7 +131,7 @@ impl Shape {
         let mut lists = Vec::with_capacity(alloc, self.people)?;
         for person in 0..self.people {
             homes.push(Some(person))?;
-            lists.push(vec![in alloc; person + 1]?)?;
+            lists.push(next_rooms(alloc, person, self.people, self.listed)?)?;
         }
         Problem::new(
             alloc,
@@ -125,6 +141,24 @@ impl Shape {
             lists,
         )
     }
+}
+
+// Returns the `listed` rooms after the person's home in a chain of `people` tenants, or all that come after it if there
+// are fewer. The last room is vacant.
+fn next_rooms(
+    alloc: Global,
+    person: usize,
+    people: usize,
+    listed: usize,
+) -> Result<Vec<usize>, AllocError>
+    requires { person < people }
+{
+    let last = person.saturating_add(listed).min(people);
+    let mut list = Vec::with_capacity(alloc, last - person)?;
+    for room in person..last {
+        list.push(room + 1)?;
+    }
+    Ok(list)
 }
 
 // Returns all numbers below `count`, ascending.
