@@ -100,6 +100,11 @@ later_permuted db tables moves lists grades choices words results going p1 p2 p3
   };
 }
 
+-- After a step that changes the tables `tables` into `changed`, the database has the tables `changed`.
+has_changed : (tables changed : Tables) {change : Tables → Tables} {old new : State} → Makes old new change → HasCleanDisk new → change tables ≡ changed
+    → HasTables old.now tables → HasTables new.now changed
+has_changed tables changed {new} makes clean is has = subst (HasTables new.now) is (makes.shown tables clean has)
+
 -- The tables are created again, filled again, and marked with the version that this program creates.
 pub migrates : (layout : Layout) (records : OfficeRecords) (old s0 s1 s2 s3 s4 s5 s6 s7 new : State)
     → (HasCleanDisk s1 → HasCleanDisk s0) → (HasCleanDisk s2 → HasCleanDisk s1) → (HasCleanDisk s3 → HasCleanDisk s2) → (HasCleanDisk s4 → HasCleanDisk s3)
@@ -132,13 +137,13 @@ migrates layout records old s0 s1 s2 s3 s4 s5 s6 s7 new e1 e2 e3 e4 e5 e6 e7 e8 
       let x7 = going_there records.going.items tables.going t6 refl are.going in
       let t7 : Tables = record t6 { going = x7.0 } in
       let h0 : HasTables s0.now t0 = rebuilds.shown tables (e1 c1) was in
-      let h1 = subst (HasTables s1.now) x1.1 (m1.shown t0 c1 h0) in
-      let h2 = subst (HasTables s2.now) x2.1 (m2.shown t1 c2 h1) in
-      let h3 = subst (HasTables s3.now) x3.1 (m3.shown t2 c3 h2) in
-      let h4 = subst (HasTables s4.now) x4.1 (m4.shown t3 c4 h3) in
-      let h5 = subst (HasTables s5.now) x5.1 (m5.shown t4 c5 h4) in
-      let h6 = subst (HasTables s6.now) x6.1 (m6.shown t5 c6 h5) in
-      let h7 = subst (HasTables s7.now) x7.1 (m7.shown t6 c7 h6) in
+      let h1 = has_changed t0 t1 m1 c1 x1.1 h0 in
+      let h2 = has_changed t1 t2 m2 c2 x2.1 h1 in
+      let h3 = has_changed t2 t3 m3 c3 x3.1 h2 in
+      let h4 = has_changed t3 t4 m4 c4 x4.1 h3 in
+      let h5 = has_changed t4 t5 m5 c5 x5.1 h4 in
+      let h6 = has_changed t5 t6 m6 c6 x6.1 h5 in
+      let h7 = has_changed t6 t7 m7 c7 x7.1 h6 in
       m8.shown tables clean (later_permuted s7.now tables x1.0 x2.0 x3.0 x4.0 x5.0 x6.0 x7.0 x1.2 x2.2 x3.2 x4.2 x5.2 x6.2 x7.2 h7);
   mode = λ clean.
       let c7 = e8 clean in

@@ -1,6 +1,6 @@
-use Rattle.std.proofs.Common.{◌≡◌, ℕ, ◌++◌, [], ◌∷◌, sym, ap, ◌∙◌, arith}
+use Rattle.std.proofs.Common.{◌≡◌, ℕ, ap, ◌∙◌, arith}
 use Rattle.rand_core.specs.Stream.{Stream, next_u64}
-use Rattle.draw_order.specs.Words.{next_words, stream_after}
+use Rattle.draw_order.specs.Words.{stream_after}
 use Rattle.draw_order.proofs.draws.Words.{next_words-more, stream_after-more}
 use Rattle.draw_order.proofs.words.words_from.Goals as goal
 
@@ -12,10 +12,8 @@ loop-place-preserved g c =
     let word = ap (λ (p : ℕ × Stream). p.0) answer in
     let left = ap (λ (p : ℕ × Stream). p.1) answer in
     record {
-      drawn =
-          c.in_ok-push.ensures.items ∙ ap (λ ws. ws ++ c.next_word.result ∷ []) c.loop-place.invariant.drawn
-          ∙ ap (λ w. next_words n start ++ w ∷ []) word ∙ sym (next_words-more n start);
-      after = left ∙ sym (stream_after-more n start);
+      drawn = cc (c.in_ok-push.ensures.items, c.loop-place.invariant.drawn, word, next_words-more n start);
+      after = cc (left, stream_after-more n start);
       enough = omega (arith, c.in_ok-push.ensures.capacity, c.loop-place.invariant.enough);
       as_many = omega (arith, c.in_ok-push.ensures.len);
     }

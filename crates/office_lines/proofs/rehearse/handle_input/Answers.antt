@@ -18,7 +18,7 @@ returns-in_err-take_chunk-in-Ok-clause-stopped g c =
 pub returns-in_err-take_chunk-in-Ok-clause-failed : goal.returns-in_err-take_chunk-in-Ok-clause-failed
 returns-in_err-take_chunk-in-Ok-clause-failed g c =
     let p = err_from_is_err_and c.from_residual.result c.from_residual.ensures.1 in
-    rw (p.1, p.2) (OnlyWhereFailed-since _ _ _ _ c.reads.invariant.handled.handled.failed c.in_err-take_chunk-in-Ok.ensures.failed)
+    rw (p.1, p.2) (search (rules, OnlyWhereFailed-since, c.reads.invariant.handled.handled.failed, c.in_err-take_chunk-in-Ok.ensures.failed))
 
 pub returns-in-Err-clause-stopped : goal.returns-in-Err-clause-stopped
 returns-in-Err-clause-stopped g c = Stopped-failed _ _ _ _ _ _ c.reads.invariant.handled c.in-Err.ensures.bytes
@@ -35,7 +35,7 @@ returns-in-Err-clause-failed g c = c.reads.invariant.handled.handled.failed
 
 pub reads-preserved : goal.reads-preserved
 reads-preserved g c = record {
-  handled = InputHandled-more _ _ _ _ _ _ _ _ c.reads.invariant.handled c.in-Ok.ensures.bytes.0 c.in_ok-take_chunk-in-Ok.ensures.handled;
+  handled = search (rules, InputHandled-more, c.reads.invariant.handled, c.in-Ok.ensures.bytes.0, c.in_ok-take_chunk-in-Ok.ensures.handled);
   each = InputHandled-longer _ _ _ _ _ _ _ _ c.reads.invariant.handled c.in-Ok.ensures.bytes.0 c.in_ok-take_chunk-in-Ok.ensures.handled c.reads.counter
       c.reads.invariant.each (grind (arith, common_steps, c.in-Ok.ensures.bound));
   bound = grind (arith, common_steps, c.in_ok-take_chunk-in-Ok.ensures.bound, c.in-Ok.ensures.bound);
@@ -57,7 +57,7 @@ returns-clause-failed g c = c.reads.invariant.handled.handled.failed
 
 pub reads-init : goal.reads-init
 reads-init g c = record {
-  handled = InputHandled-nil _ _ _;
+  handled = search (rules, InputHandled-nil);
   each = omega arith;
   bound = omega (arith, c.requires.sent);
   count = c.requires.reads;

@@ -1,4 +1,4 @@
-use Rattle.std.proofs.Common.{rules, ◌≡◌, arith, ap, sym, subst}
+use Rattle.std.proofs.Common.{rules, ◌≡◌, arith, sym, subst}
 use Rattle.sqlite.specs.Effect.{Database}
 use Rattle.sqlite.specs.Held.{state}
 use Rattle.sqlite.specs.State.{State, HasCleanDisk}
@@ -20,7 +20,7 @@ returns-clause-made g c =
     let new = state g.S.Store c.commit.new.self.0 in
     let same : c.conn-2-1.given.0 ≡ c.commit.new.self.0 = search rules in
     let done = committed c.args.layout c.args.records.now old begun mid new c.in_ok-migrate_tables.ensures.made
-    (ap (λ k. (state g.S.Store k).now) c.transaction-tx.ensures.begun)
+    (cc (c.transaction-tx.ensures.begun))
     (λ clean. omega (arith, clean, c.commit.ensures.survives.clean))
     (λ clean. (c.in_ok-commit.ensures.ok clean).1.now_is) c.requires c.in_ok-commit.ensures.ended in
     subst (λ k. Migrates c.args.layout c.args.records.now old (state g.S.Store k)) (sym same) done
@@ -38,7 +38,7 @@ returns-in_err-commit-clause-crash g c =
     let mid = state g.S.Store c.migrate_tables.new.tx.conn.now in
     let new = state g.S.Store c.commit.new.self.0 in
     let same : c.conn-2-1.given.0 ≡ c.commit.new.self.0 = search rules in
-    let what = records_inside c.args.layout c.args.records.now old begun mid (ap (λ k. (state g.S.Store k).now) c.transaction-tx.ensures.begun) c.in_ok-migrate_tables.ensures.made in
+    let what = records_inside c.args.layout c.args.records.now old begun mid (cc (c.transaction-tx.ensures.begun)) c.in_ok-migrate_tables.ensures.made in
     subst (λ k. LeavesOldOr (HoldsRecords c.args.layout c.args.records.now old.now) old (state g.S.Store k)) (sym same)
     (committed_once (HoldsRecords c.args.layout c.args.records.now old.now) old begun mid new (search rules) c.migrate_tables.ensures.inside what c.commit.ensures.survives)
 
@@ -49,6 +49,6 @@ returns-clause-crash g c =
     let mid = state g.S.Store c.migrate_tables.new.tx.conn.now in
     let new = state g.S.Store c.commit.new.self.0 in
     let same : c.conn-2-1.given.0 ≡ c.commit.new.self.0 = search rules in
-    let what = records_inside c.args.layout c.args.records.now old begun mid (ap (λ k. (state g.S.Store k).now) c.transaction-tx.ensures.begun) c.in_ok-migrate_tables.ensures.made in
+    let what = records_inside c.args.layout c.args.records.now old begun mid (cc (c.transaction-tx.ensures.begun)) c.in_ok-migrate_tables.ensures.made in
     subst (λ k. LeavesOldOr (HoldsRecords c.args.layout c.args.records.now old.now) old (state g.S.Store k)) (sym same)
     (committed_once (HoldsRecords c.args.layout c.args.records.now old.now) old begun mid new (search rules) c.migrate_tables.ensures.inside what c.commit.ensures.survives)

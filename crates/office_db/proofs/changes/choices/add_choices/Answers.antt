@@ -1,11 +1,10 @@
-use Rattle.std.proofs.Common.{◌≡◌, ◌∷◌, [], ◌+◌, ◌<◌, length, drop, sym, ap, ◌∙◌, subst, arith, refl}
+use Rattle.std.proofs.Common.{◌≡◌, ◌∷◌, [], ◌+◌, ◌<◌, length, drop, ap, ◌∙◌, subst, arith, refl}
 use Rattle.std.proofs.lemmas.List.{drop_all}
 use Rattle.sqlite.specs.Held.{state}
 use Rattle.office_schema.specs.cells.WellFormed.{IsWellFormed}
 use Rattle.office_schema.specs.tables.Edits.{with_choice}
 use Rattle.office_schema.specs.tables.Tables.{HasTables}
 use Rattle.office_schema.proofs.statements.Steps.{inside_then, inside_none}
-use Rattle.office_db.specs.changes.Inner.Choosing.{with_choices}
 use Rattle.office_db.proofs.alike_tables.WellFormed.{choice_well_formed}
 use Rattle.office_db.proofs.changes.choices.add_choices.Goals as goal
 use Rattle.office_schema.proofs.statements.Refilled.{next_of}
@@ -38,7 +37,7 @@ loop-room-preserved g c =
             rw c.loop-room.invariant.counted at shown,
             choice_well_formed m.0 m.2 person i room c.lemma_text.ensures
                 c.lemma_text-in-loop-room.ensures,
-            ap (λ l. with_choices person i l m.0) (sym here) ∙ m.3,
+            rw here at m.3,
           );
       mode = λ clean. c.in_ok-add_choice.ensures.made.mode clean
           ∙ c.loop-room.invariant.mode (omega (arith, c.add_choice.ensures.inside.survives.clean));
@@ -53,8 +52,7 @@ returns-clause-made g c =
     record {
       shown = λ tables clean well_formed was.
           let m = c.loop-room.invariant.made tables clean well_formed was in
-          let end = ap (λ l. with_choices c.args.person.now i l m.0) (sym done) ∙ m.3
-          ∙ ap (λ l. with_choices c.args.person.now 0 l tables) c.as_slice-rooms.ensures.rooms in
+          let end = rw c.as_slice-rooms.ensures.rooms at (rw done at m.3) in
           (subst (HasTables (state g.S.Store c.loop-room.tx.conn.now).now) end m.1, subst IsWellFormed end m.2);
       mode = c.loop-room.invariant.mode;
     }

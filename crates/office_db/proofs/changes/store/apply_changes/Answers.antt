@@ -1,7 +1,7 @@
-use Rattle.std.proofs.Common.{◌≡◌, ◌∷◌, [], ◌+◌, ◌<◌, length, drop, refl, sym, ap, ◌∙◌, subst, arith}
+use Rattle.std.proofs.Common.{◌≡◌, ◌∷◌, [], ◌+◌, ◌<◌, length, drop, refl, ◌∙◌, subst, arith}
 use Rattle.std.proofs.lemmas.List.{drop_all}
 use Rattle.sqlite.specs.Held.{state}
-use Rattle.office_state.specs.Change.{applied, applied_all, AllFit}
+use Rattle.office_state.specs.Change.{applied, AllFit}
 use Rattle.office_schema.specs.cells.WellFormed.{IsWellFormed}
 use Rattle.office_schema.specs.rows.Tables.{rows_of}
 use Rattle.office_schema.specs.tables.Tables.{HoldsOffice}
@@ -34,7 +34,7 @@ loop-change-preserved g c =
           (omega (arith, c.apply_change.ensures.inside.survives.clean)) fits well_formed was in
           let fit : AllFit first m.0 (change ∷ drop (i + 1) xs) = subst (AllFit first m.0) here m.1 in
           let now = c.in_ok-apply_change.ensures.made.shown m.0 clean fit.0 m.2 m.3 in
-          (applied m.0 change, fit.1, now.1, now.0, ap (applied_all m.0) (sym here) ∙ m.4);
+          (applied m.0 change, fit.1, now.1, now.0, rw here at m.4);
       mode = λ clean. c.in_ok-apply_change.ensures.made.mode clean
           ∙ c.loop-change.invariant.mode (omega (arith, c.apply_change.ensures.inside.survives.clean));
       was_open = λ some. was_open_then (state g.S.Store c.args.tx.now.conn.now) (state g.S.Store c.loop-change.tx.conn.now) (state g.S.Store c.apply_change.new.tx.conn.now)
@@ -51,7 +51,7 @@ returns-clause-made g c =
     record {
       shown = λ office clean fits well_formed was.
           let m = c.loop-change.invariant.made office clean fits well_formed was in
-          let end = ap (applied_all m.0) (sym done) ∙ m.4 in (
+          let end = rw done at m.4 in (
             subst (HoldsOffice (state g.S.Store c.loop-change.tx.conn.now).now) end m.3,
             subst
                 (λ o. IsWellFormed (rows_of o)) end m.2,

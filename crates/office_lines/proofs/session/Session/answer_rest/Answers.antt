@@ -7,12 +7,11 @@ use Rattle.office_lines.proofs.session.Session.answer_rest.Goals as goal
 pub returns-clause-finished : goal.returns-clause-finished
 returns-clause-finished g c =
     let some : 0 < length c.args.self.now.partial_line.items = search (rules, tests) in
-    MatchResult-weaker c.answer_line.result c.answer_line.ensures.answered (λ x h. Finished-answered _ _ _ some h) (λ e h. tt)
+    search (rules, MatchResult-weaker, Finished-answered, c.answer_line.ensures.answered, some)
 
 pub returns-clause-unfinished : goal.returns-clause-unfinished
 returns-clause-unfinished g c =
     let line = c.args.self.now.partial_line in
     let some : 0 < length line.items = search (rules, tests) in
     let short : length line.items ≤ line_limit = omega (arith, line.ok.0, c.args.self.now.short) in
-    MatchResult-weaker c.answer_line.result c.answer_line.ensures.broken
-    (λ x h. tt) (λ e h. Unfinished-broken _ _ _ _ e some short h)
+    search (rules, MatchResult-weaker, Unfinished-broken, c.answer_line.ensures.broken, some, short)

@@ -1,4 +1,5 @@
 use Rattle.std.proofs.Common.{◌≡◌, ◌-◌, ◌+◌, ◌∙◌, suc, refl, subst, arith}
+use native.Mathlib.Numerals.{unary_clauses}
 use Rattle.sqlite.specs.Held.{state}
 use Rattle.sqlite.specs.State.{HasCleanDisk}
 use Rattle.office_schema.specs.tables.Declaring.{LeavesFirst}
@@ -12,7 +13,7 @@ loop-step-init g c =
     let start = state g.S.Store c.args.tx.now.conn.now in
     record {
       same_reference = refl;
-      change = subst (λ n. LeavesFirst c.args.layout n start start) (omega arith) (whole_layout c.args.layout start);
+      change = simp unary_clauses (whole_layout c.args.layout start);
       inside = inside_none start;
     }
 

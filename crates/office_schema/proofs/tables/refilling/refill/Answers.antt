@@ -1,7 +1,6 @@
-use Rattle.std.proofs.Common.{◌≡◌, ◌∷◌, [], ◌+◌, ◌<◌, length, drop, refl, sym, ap, ◌∙◌, subst, arith}
+use Rattle.std.proofs.Common.{◌≡◌, ◌∷◌, [], ◌+◌, ◌<◌, length, drop, refl, ◌∙◌, subst, arith}
 use Rattle.std.proofs.lemmas.List.{drop_all}
 use Rattle.sqlite.specs.Held.{state}
-use Rattle.office_schema.specs.tables.Refilling.{with_all}
 use Rattle.office_schema.specs.tables.Tables.{HasTables}
 use Rattle.office_schema.proofs.statements.Refilled.{next_of}
 use Rattle.office_schema.proofs.statements.Steps.{inside_then, inside_none}
@@ -27,7 +26,7 @@ loop-row-preserved g c =
       made = λ tables clean was.
           let m = c.loop-row.invariant.made tables (omega (arith, c.add_again.ensures.inside.survives.clean)) was in
           let shown = c.in_ok-add_again.ensures.made.shown m.0 clean m.1 in
-          (g.R.Refilled.with_row row m.0, shown, ap (λ l. with_all g.R.Refilled.with_row l m.0) (sym here) ∙ m.2);
+          (g.R.Refilled.with_row row m.0, shown, rw here at m.2);
       mode = λ clean. c.in_ok-add_again.ensures.made.mode clean ∙ c.loop-row.invariant.mode (omega (arith, c.add_again.ensures.inside.survives.clean));
       inside = inside_then _ _ _ c.loop-row.invariant.inside c.add_again.ensures.inside;
     }
@@ -40,7 +39,6 @@ returns-clause-made g c =
     record {
       shown = λ tables clean was.
           let m = c.loop-row.invariant.made tables clean was in
-          let end = ap (λ l. with_all g.R.Refilled.with_row l m.0) (sym done) ∙ m.2 in
-          subst (HasTables (state g.S.Store c.loop-row.tx.conn.now).now) end m.1;
+          subst (HasTables (state g.S.Store c.loop-row.tx.conn.now).now) (rw done at m.2) m.1;
       mode = c.loop-row.invariant.mode;
     }

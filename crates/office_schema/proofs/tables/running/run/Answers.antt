@@ -1,4 +1,4 @@
-use Rattle.std.proofs.Common.{inl, inr, sym, ◌∙◌, subst}
+use Rattle.std.proofs.Common.{inl, inr, sym, ◌∙◌, subst, rules}
 use Rattle.std.proofs.lemmas.Bool.{cases_Bool}
 use Rattle.std.proofs.lemmas.Result.{err_from_is_err_and}
 use Rattle.sqlite.specs.Held.{state}
@@ -12,7 +12,7 @@ returns-clause-ran g c clean =
       | inl inside ↦
           let runs = c.in_ok-execute.ensures.runs clean inside in
           record { count = c.in_ok-execute.field-0; ran = runs.0; mode = runs.1.mode ∙ sym inside }
-      | inr ended ↦ let e = (c.in_ok-execute.ensures.ended ended).0 in absurd (cc)
+      | inr ended ↦ let e = (c.in_ok-execute.ensures.ended ended).0 in search rules
     ]
 
 pub returns-in_err-execute-clause-undone : goal.returns-in_err-execute-clause-undone
