@@ -24,7 +24,7 @@ module _ {F S : Type 0} (access : FileAccess F S) where
   -- The program opened the file at the path, whose database had an empty schema. It made the tables of the empty
   -- office, and printed `ok`. If the disk returned what was written to it, the desk shows the empty office. The
   -- program closed the desk's connection with no transaction open. If the connection was open until then, it showed
-  -- what was committed last (`committed`), so the empty office was committed.
+  -- what was committed last (`begins.committed`), so the empty office was committed.
   pub record MakesNew (files : F) (path : Text) (status : ℕ) (files' : F) (out out' : Output) : Type 0 where
     pub desk : DeskState S
     pub between : F
@@ -32,7 +32,6 @@ module _ {F S : Type 0} (access : FileAccess F S) where
     pub shows : HasCleanDisk (state access.base desk.conn) → Shows access.base desk empty_office
     pub prints : Prints (line_of (codes "ok" ∷ [])) 0 status out out'
     pub outside : desk.conn.in_transaction ≡ false
-    pub committed : ShowsCommitted (state access.base desk.conn)
     pub closed : access.closes between desk.conn files'
 
   -- The program makes an empty office in the file, or prints the reason why it cannot.
@@ -43,14 +42,13 @@ module _ {F S : Type 0} (access : FileAccess F S) where
 
   -- The program opened the file at the path, migrated the tables of its office to this program's version, and printed
   -- `ok`. It closed the desk's connection with no transaction open. If the connection was open until then, it showed
-  -- what was committed last (`committed`).
+  -- what was committed last (`begins.committed`).
   pub record MigratesOffice (files : F) (path : Text) (status : ℕ) (files' : F) (out out' : Output) : Type 0 where
     pub desk : DeskState S
     pub between : F
     pub begins : OpensMigrated access files path desk between
     pub prints : Prints (line_of (codes "ok" ∷ [])) 0 status out out'
     pub outside : desk.conn.in_transaction ≡ false
-    pub committed : ShowsCommitted (state access.base desk.conn)
     pub closed : access.closes between desk.conn files'
 
   -- The program migrates the tables to its own version, or prints the reason why it cannot.

@@ -11,7 +11,7 @@ use Rattle.office_store.specs.Adopting.{CommitsAdopted, IsFaultOf, MayRefuse, Ha
 use Rattle.office_store.specs.Desk.{DeskState, Shows}
 use Rattle.office_store.specs.declared.desk.faults.DeskFault.{DeskFault}
 use Rattle.office_store.specs.declared.desk.faults.DeskFault.TheVariants.{NotAnOffice, OtherVersion, Unavailable}
-use Rattle.office_schema.specs.tables.Crashes.{LeavesOldOr}
+use Rattle.office_schema.specs.tables.Crashes.{LeavesOldOr, ShowsCommitted}
 use Rattle.office_schema.specs.tables.Layouts.{schema_of}
 use Rattle.office_schema.specs.tables.Steps.{Follows, IsIntact}
 use Rattle.office_schema.specs.tables.Tables.{HoldsOfficeIn}
@@ -56,17 +56,18 @@ module _ {S : Type 0} (g : Ghosts S) where
     pub crash : LeavesOldOr (CommitsAdopted (state g connection).now) (state g connection) (state g refused)
 
 module _ {F S : Type 0} (access : FileAccess F S) where
-  -- The desk uses the database that was opened. Its tables had a layout of the version of this program (`laid`). The
-  -- desk caches an office (`cached`). It shows the office that the tables held (`shows`), and leaves tables in the
-  -- layout that this program creates unchanged (`unchanged`); `ShowsFound` and `LeavesFound` state the premises. If
-  -- the first three tables are an office's and the row of table `round` holds another version, the disk did not
-  -- return what was written (`other`). A crash leaves what it could leave before, or the same office in tables made
-  -- anew (`crash`).
+  -- The desk uses the database that was opened. Its tables had a layout of the version of this program (`laid`). While
+  -- its connection is open, the desk shows what was committed last (`committed`). It caches an office (`cached`). It
+  -- shows the office that the tables held (`shows`), and leaves tables in the layout that this program creates
+  -- unchanged (`unchanged`); `ShowsFound` and `LeavesFound` state the premises. If the first three tables are an
+  -- office's and the row of table `round` holds another version, the disk did not return what was written (`other`). A
+  -- crash leaves what it could leave before, or the same office in tables made anew (`crash`).
   pub record OpensFound (files : F) (path : List ℕ) (desk : DeskState S) (files' : F) : Type 0 where
     pub connection : Held S
     pub opened : access.finds files path connection files'
     pub laid : HasOwnLayout (state access.base connection).now.schema
     pub follows : Follows (state access.base connection) (state access.base desk.conn)
+    pub committed : ShowsCommitted (state access.base desk.conn)
     pub cached : IsSome desk.cached
     pub shows : ShowsFound access.base connection desk
     pub unchanged : LeavesFound access.base connection desk

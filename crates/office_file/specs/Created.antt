@@ -8,7 +8,7 @@ use Rattle.office_file.specs.Access.{FileAccess}
 use Rattle.office_store.specs.Desk.{DeskState}
 use Rattle.office_store.specs.declared.desk.faults.DeskFault.{DeskFault}
 use Rattle.office_store.specs.declared.desk.faults.DeskFault.TheVariants.{AlreadyThere, Unavailable}
-use Rattle.office_schema.specs.tables.Crashes.{LeavesOldOr}
+use Rattle.office_schema.specs.tables.Crashes.{LeavesOldOr, ShowsCommitted}
 use Rattle.office_schema.specs.tables.Schema.{no_schema}
 use Rattle.office_schema.specs.tables.Steps.{Follows, IsIntact}
 use Rattle.office_schema.specs.tables.Tables.{HoldsOffice}
@@ -30,13 +30,14 @@ module _ {S : Type 0} (g : Ghosts S) where
     pub crash : LeavesOldOr (λ after. HoldsOffice after empty_office) (state g connection) (state g refused)
 
 module _ {F S : Type 0} (access : FileAccess F S) where
-  -- The desk uses the database that was opened, whose schema was empty. A crash leaves what it could leave before, or
-  -- the empty office (`crash`).
+  -- The desk uses the database that was opened, whose schema was empty. While its connection is open, it shows what was
+  -- committed last (`committed`). A crash leaves what it could leave before, or the empty office (`crash`).
   pub record OpensBlank (files : F) (path : List ℕ) (desk : DeskState S) (files' : F) : Type 0 where
     pub connection : Held S
     pub opened : access.opens files path connection files'
     pub blank : (state access.base connection).now.schema ≡ no_schema
     pub follows : Follows (state access.base connection) (state access.base desk.conn)
+    pub committed : ShowsCommitted (state access.base desk.conn)
     pub crash : LeavesOldOr (λ after. HoldsOffice after empty_office) (state access.base connection)
         (state access.base desk.conn)
 

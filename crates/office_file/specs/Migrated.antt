@@ -9,13 +9,13 @@ use Rattle.office_db.specs.loading.Finding.{AreWhole, names_round}
 use Rattle.office_db.specs.loading.FirstTables.{BeginsOffice}
 use Rattle.office_migration.specs.Causes.{AreRowsAsStated, HoldsLayoutVersion, StatesVersion, HoldsEarlierFirst}
 use Rattle.office_migration.specs.Names.{uses_missing_name}
-use Rattle.office_migration.specs.Renewed.{HoldsMigratedOffice}
+use Rattle.office_migration.specs.Renewed.{CommitsMigrated}
 use Rattle.office_migration.specs.Versions.{HasEarlierLayout, IsNotEarlier, IsOfVersion}
 use Rattle.office_store.specs.Desk.{DeskState, Shows}
 use Rattle.office_store.specs.Migrating.{IsFaultOfMigration, MayNotMigrate}
 use Rattle.office_store.specs.declared.desk.faults.DeskFault.{DeskFault}
 use Rattle.office_store.specs.declared.desk.faults.DeskFault.TheVariants.{AlreadyThere, NotAnOffice, OtherVersion, Unavailable}
-use Rattle.office_schema.specs.tables.Crashes.{LeavesOldOr}
+use Rattle.office_schema.specs.tables.Crashes.{LeavesOldOr, ShowsCommitted}
 use Rattle.office_schema.specs.tables.Layouts.{schema_of, version_of}
 use Rattle.office_schema.specs.tables.Steps.{Follows, IsIntact}
 use Rattle.office_schema.specs.tables.Tables.{HoldsOfficeIn}
@@ -58,20 +58,22 @@ module _ {S : Type 0} (g : Ghosts S) where
     pub rows : fault ≡ AlreadyThere → HasCleanDisk (state g refused) → AreRowsAsStated (state g connection).now
     pub other : (version : ℤ) → StatesVersion (state g connection).now version → IsNotEarlier version
         → HasCleanDisk (state g refused) → (fault ≡ Unavailable) ⊎ (fault ≡ OtherVersion version)
-    pub crash : LeavesOldOr (HoldsMigratedOffice (state g connection).now) (state g connection) (state g refused)
+    pub crash : LeavesOldOr (CommitsMigrated (state g connection).now) (state g connection) (state g refused)
 
 module _ {F S : Type 0} (access : FileAccess F S) where
-  -- The desk uses the database that was opened. Its tables had a layout of an earlier version (`laid`). The desk
-  -- caches an office (`cached`), and shows the one that the tables held (`shows`). If the disk returned what was
-  -- written, the row of table `round` held the version of that layout (`stated`). In two cases the disk did not
-  -- return what was written: the row of table `round` held a version other than 1 and 2 (`other`); or the database
-  -- began with the rows of an office of an earlier version, and something had the name of a table that this version
-  -- lacks (`taken`). A crash leaves what it could leave before, or the same office in migrated tables (`crash`).
+  -- The desk uses the database that was opened. Its tables had a layout of an earlier version (`laid`). While its
+  -- connection is open, the desk shows what was committed last (`committed`). It caches an office (`cached`), and shows
+  -- the one that the tables held (`shows`). If the disk returned what was written, the row of table `round` held the
+  -- version of that layout (`stated`). In two cases the disk did not return what was written: the row of table `round`
+  -- held a version other than 1 and 2 (`other`); or the database began with the rows of an office of an earlier
+  -- version, and something had the name of a table that this version lacks (`taken`). A crash leaves what it could
+  -- leave before, or the same office in migrated tables (`crash`).
   pub record OpensMigrated (files : F) (path : List ℕ) (desk : DeskState S) (files' : F) : Type 0 where
     pub connection : Held S
     pub opened : access.finds files path connection files'
     pub laid : HasEarlierLayout (state access.base connection).now.schema
     pub follows : Follows (state access.base connection) (state access.base desk.conn)
+    pub committed : ShowsCommitted (state access.base desk.conn)
     pub cached : IsSome desk.cached
     pub stated : HasCleanDisk (state access.base desk.conn) → HoldsLayoutVersion (state access.base connection).now
     pub shows : ShowsMigrated access.base connection desk
@@ -80,7 +82,7 @@ module _ {F S : Type 0} (access : FileAccess F S) where
         → ¬ HasCleanDisk (state access.base desk.conn)
     pub other : (version : ℤ) → StatesVersion (state access.base connection).now version → IsNotEarlier version
         → ¬ HasCleanDisk (state access.base desk.conn)
-    pub crash : LeavesOldOr (HoldsMigratedOffice (state access.base connection).now) (state access.base connection)
+    pub crash : LeavesOldOr (CommitsMigrated (state access.base connection).now) (state access.base connection)
         (state access.base desk.conn)
 
   -- The file was opened, its database was refused with this fault (`RefusesMigration`), and the connection was

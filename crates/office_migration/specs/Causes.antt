@@ -47,6 +47,11 @@ IsLaid version schema =
     ((layout : Layout) × (schema ≡ schema_of layout))
     × (uses_missing_name version schema ≡ false)
 
+-- Each table of this version is declared, in whatever tree and order.
+abbrev pub DeclaresVersion : ℕ → Schema → Type 0
+DeclaresVersion version schema =
+    (layout : Layout) → version_of layout ≡ version → DeclaresTables layout schema
+
 -- A table of this version is absent or declared in another way.
 abbrev pub LacksTable : ℕ → Schema → Type 0
 LacksTable version schema =
@@ -91,12 +96,13 @@ pub record HoldsNoEarlier (db : Database) : Type 0 where
       → BeginsAt version db.schema ⊎ IsLaid version db.schema ⊎ LacksTable version db.schema
   pub none : (layout : Layout) (office : Office) → ¬ HoldsEarlierFirst layout db office
 
--- The row of table `round` holds an earlier version, something has the name of a table that this version lacks, and
--- `AreEarlierRows` holds for this version.
+-- The row of table `round` holds an earlier version, each table of this version is declared, something has the name of a
+-- table that the version lacks, and `AreEarlierRows` holds for the version.
 pub record HasNameTaken (db : Database) : Type 0 where
   pub version : ℕ
   pub earlier : IsEarlier version
   pub states : StatesVersion db (pos version)
+  pub declared : DeclaresVersion version db.schema
   pub taken : IsTrue (uses_missing_name version db.schema)
   pub rows : AreEarlierRows version db
 

@@ -18,7 +18,7 @@ ghost use Rattle.office_migration.specs.Causes.{HasCause, HoldsEarlier, HoldsLay
 ghost use Rattle.office_migration.specs.Causes.{AreRowsAsStated, StatesVersion, HoldsEarlierFirst};
 ghost use Rattle.office_db.specs.loading.FirstTables.{BeginsOffice};
 ghost use Rattle.office_migration.specs.Names.{uses_missing_name, takes_name};
-ghost use Rattle.office_migration.specs.Renewed.{HoldsMigratedOffice};
+ghost use Rattle.office_migration.specs.Renewed.{CommitsMigrated};
 ghost use Rattle.office_migration.specs.Versions.{HasEarlierLayout, IsEarlier, IsNotEarlier, IsOfVersion};
 ghost use Rattle.sqlite_catalog.specs.Change.{is_used};
 
@@ -99,7 +99,7 @@ pub fn migrate<S: Alter>(alloc: Global, conn: &mut Connection<S>) -> Result<Offi
         × HoldsOffice (state S.Store conn.new).now office) }
     ensures undone { OnErr result (IsIntact (state S.Store conn.new)
         → (state S.Store conn.new).now ≡ (state S.Store conn.old).now) }
-    ensures crash { LeavesOldOr (HoldsMigratedOffice (state S.Store conn.old).now)
+    ensures crash { LeavesOldOr (CommitsMigrated (state S.Store conn.old).now)
         (state S.Store conn.old) (state S.Store conn.new) }
     ensures cause { IfErr result (λ fault. HasCleanDisk (state S.Store conn.new)
         → HasCause (state S.Store conn.old).now fault) }

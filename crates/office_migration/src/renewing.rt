@@ -15,7 +15,7 @@ ghost use Rattle.office_schema.specs.tables.Refilling.{Migrates};
 ghost use Rattle.office_schema.specs.tables.Steps.{Follows, IsIntact};
 ghost use Rattle.office_schema.specs.tables.Tables.{HasTables, HasTablesIn, HoldsOffice, HoldsOfficeIn};
 ghost use Rattle.office_migration.specs.Inner.Renewed.{HoldsRecords, HoldsSameTables};
-ghost use Rattle.office_migration.specs.Renewed.{HoldsSameOffice};
+ghost use Rattle.office_migration.specs.Renewed.{CommitsRenewed};
 ghost use Rattle.office_migration.specs.Versions.{IsOfVersion};
 
 use crate::versions::is_of_version;
@@ -61,7 +61,7 @@ pub fn renewed_office<S: Alter>(
         → (state S.Store conn.new).now ≡ (state S.Store conn.old).now) }
     ensures undone { OnErr result (IsIntact (state S.Store conn.new)
         → (state S.Store conn.new).now ≡ (state S.Store conn.old).now) }
-    ensures crash { LeavesOldOr (HoldsSameOffice layout (state S.Store conn.old).now)
+    ensures crash { LeavesOldOr (CommitsRenewed layout (state S.Store conn.old).now)
         (state S.Store conn.old) (state S.Store conn.new) }
 {
     let Some(office) = held(alloc, conn, layout)? else {

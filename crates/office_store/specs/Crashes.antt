@@ -14,15 +14,19 @@ use Rattle.office_store.specs.Requests.{IsRun, office_after}
 use Rattle.office_store.specs.declared.requests.Answer.{Answer}
 use Rattle.office_store.specs.declared.requests.Request.{Request}
 
--- In this run of requests, the request `asked` came when the office was `before`.
-abbrev pub IsAsked : Office → List Request → List Answer → Office → Request → Type 0
-IsAsked office (request ∷ requests) (answer ∷ answers) before asked =
-    ((before ≡ office) × (asked ≡ request))
-    ⊎ ((next : Office) × HandlesLawfully office request answer next × IsAsked next requests answers before asked)
-IsAsked office [] answers before asked = ⊥
-IsAsked office (request ∷ requests) [] before asked = ⊥
-
 module _ {S : Type 0} (g : Ghosts S) where
+  -- In this run of requests, which begins at the desk `old` when the office is `office`, a fault closed the connection
+  -- during the request `asked`. The office was `before` when this request came. (`run.0` is the desk after the first
+  -- request, and `run.2` the run of the others.)
+  abbrev pub IsClosedDuring : (old : DeskState S) → Office → (requests : List Request) (answers : List Answer) (new : DeskState S)
+      → IsRun (HandlesAt g) old requests answers new → Office → Request → Type 0
+  IsClosedDuring old office (request ∷ requests) (answer ∷ answers) new run before asked =
+      (IsTrue (state g old.conn).is_open × ((state g run.0.conn).is_open ≡ false) × (before ≡ office) × (asked ≡ request))
+      ⊎ (IsTrue (state g run.0.conn).is_open
+      × (next : Office) × HandlesLawfully office request answer next × IsClosedDuring run.0 next requests answers new run.2 before asked)
+  IsClosedDuring old office [] answers new run before asked = ⊥
+  IsClosedDuring old office (request ∷ requests) [] new run before asked = ⊥
+
   -- A crash leaves tables that hold the rows of this office, and nothing else.
   abbrev pub LeavesOffice : DeskState S → Office → Type 0
   LeavesOffice desk office = (db : Trees) → (state g desk.conn).may_leave db → AreHeld db (rows_of office)
@@ -53,15 +57,15 @@ module _ {S : Type 0} (g : Ghosts S) where
       → (state g old.conn).is_open ≡ false → LeavesNothingNew (state g old.conn) (state g new.conn)
 
   -- After a run of requests, if the disk returned what was written: either the connection is open, and a crash leaves
-  -- the office after all requests. Or a fault has closed the connection, and for one of the requests, a crash leaves
-  -- the office before it or the office after it.
+  -- the office after all requests. Or a fault closed the connection during one of the requests, and a crash leaves the
+  -- office before this request or the office after it.
   abbrev pub LeavesAfterRun : Type 0
   LeavesAfterRun =
       (old new : DeskState S) (requests : List Request) (answers : List Answer) (office : Office)
-      → IsRun (HandlesAt g) old requests answers new → HasCleanDisk (state g new.conn)
+      (run : IsRun (HandlesAt g) old requests answers new) → HasCleanDisk (state g new.conn)
       → ShowsCommitted (state g old.conn) → Shows g old office
       → (IsTrue (state g new.conn).is_open
       × (last : Office) × IsRun HandlesLawfully office requests answers last × LeavesOffice new last)
       ⊎ (((state g new.conn).is_open ≡ false)
-      × (before : Office) × (asked : Request) × IsAsked office requests answers before asked
+      × (before : Office) × (asked : Request) × IsClosedDuring old office requests answers new run before asked
       × LeavesBeforeOrAfter new before asked)

@@ -18,8 +18,8 @@ pub fn crash_leaves_before_or_after<S: Alter>()
 {}
 
 /// Theorem: after a run of requests over which the connection stayed open, a crash leaves the office after all of
-/// them. If a fault has closed the connection, a crash leaves the office before one of the requests or the office after
-/// it.
+/// them. If a fault closed the connection during one of the requests, a crash leaves the office before this request or
+/// the office after it.
 pub fn crash_leaves_a_run<S: Alter>()
     ensures { LeavesAfterRun S.Store }
 {}

@@ -5,7 +5,6 @@ use Rattle.sqlite.specs.State.{HasCleanDisk}
 use Rattle.office_cli.specs.AtDesk.{PrintsMade}
 use Rattle.office_cli.specs.InFile.{MakesInFile, MigratesInFile}
 use Rattle.office_state.specs.Office.{empty_office}
-use Rattle.office_schema.specs.tables.Crashes.{ShowsCommitted}
 use Rattle.office_file.specs.Access.{FileAccess}
 use Rattle.office_file.specs.Created.{OpensBlank, IsCreateFault}
 use Rattle.office_file.specs.Migrated.{OpensMigrated, IsMigrateFault}
@@ -17,18 +16,16 @@ module _ {F S : Type 0} (access : FileAccess F S) (files : F) (path : List ℕ) 
   pub made_in_file : (made : Result (DeskState S) DeskFault) (status : ℕ) (out out' : Output)
       → IfOk made (λ desk. HasCleanDisk (state access.base desk.conn) → Shows access.base desk empty_office)
       → IfOk made (λ desk. OpensBlank access files path desk between) → IsCreateFault access files path made between → PrintsMade made status out out'
-      → IfOk made (λ desk. desk.conn.in_transaction ≡ false)
-      → IfOk made (λ desk. ShowsCommitted (state access.base desk.conn)) → IfOk made (λ desk. access.closes between desk.conn files') → OnErr made (files' ≡ between) → MakesInFile access files path status files' out out'
-  made_in_file (Ok desk) status out out' shows begins cause prints outside committed closed same =
-      inl (record { desk = desk; between = between; begins = begins; shows = shows; prints = prints; outside = outside; committed = committed; closed = closed })
-  made_in_file (Err fault) status out out' shows begins cause prints outside committed closed same =
+      → IfOk made (λ desk. desk.conn.in_transaction ≡ false) → IfOk made (λ desk. access.closes between desk.conn files') → OnErr made (files' ≡ between) → MakesInFile access files path status files' out out'
+  made_in_file (Ok desk) status out out' shows begins cause prints outside closed same =
+      inl (record { desk = desk; between = between; begins = begins; shows = shows; prints = prints; outside = outside; closed = closed })
+  made_in_file (Err fault) status out out' shows begins cause prints outside closed same =
       inr (fault, subst (λ (f : F). IsCreateFault access files path (Err fault) f) (sym same) cause, prints)
 
   pub migrated_in_file : (migrated : Result (DeskState S) DeskFault) (status : ℕ) (out out' : Output)
       → IfOk migrated (λ desk. OpensMigrated access files path desk between) → IsMigrateFault access files path migrated between → PrintsMade migrated status out out'
-      → IfOk migrated (λ desk. desk.conn.in_transaction ≡ false)
-      → IfOk migrated (λ desk. ShowsCommitted (state access.base desk.conn)) → IfOk migrated (λ desk. access.closes between desk.conn files') → OnErr migrated (files' ≡ between) → MigratesInFile access files path status files' out out'
-  migrated_in_file (Ok desk) status out out' begins cause prints outside committed closed same =
-      inl (record { desk = desk; between = between; begins = begins; prints = prints; outside = outside; committed = committed; closed = closed })
-  migrated_in_file (Err fault) status out out' begins cause prints outside committed closed same =
+      → IfOk migrated (λ desk. desk.conn.in_transaction ≡ false) → IfOk migrated (λ desk. access.closes between desk.conn files') → OnErr migrated (files' ≡ between) → MigratesInFile access files path status files' out out'
+  migrated_in_file (Ok desk) status out out' begins cause prints outside closed same =
+      inl (record { desk = desk; between = between; begins = begins; prints = prints; outside = outside; closed = closed })
+  migrated_in_file (Err fault) status out out' begins cause prints outside closed same =
       inr (fault, subst (λ (f : F). IsMigrateFault access files path (Err fault) f) (sym same) cause, prints)

@@ -1,7 +1,6 @@
 -- The tests of a declaration decide whether a table is declared as an office's.
-use Rattle.std.proofs.Common.{◌≡◌, ◌≢◌, ◌⊎◌, ◌<◌, ◌≤◌, ◌+◌, ℕ, zero, suc, Bool, true, false, not, ◌&&◌, ◌==◌, List, [], ◌∷◌, drop, get_or, length, map, take, Option, Some, None, Decides, refl, sym, ap, ap₂, ◌∙◌, subst, inl, inr, true≢false, arith}
-use Rattle.std.specs.List.{AllByRecursion}
-use Rattle.std.proofs.lemmas.Bool.Decides.{Decides-and, Decides-eqb, Decides-like, eqb_tells, not_from_Decides}
+use Rattle.std.proofs.Common.{◌≡◌, ℕ, zero, suc, Bool, true, false, ◌&&◌, ◌==◌, List, [], ◌∷◌, length, map, Option, Some, None, Decides, refl, sym, ap, ◌∙◌, arith}
+use Rattle.std.proofs.lemmas.Bool.Decides.{Decides-and, Decides-eqb, Decides-like, not_from_Decides}
 use Rattle.std.proofs.lemmas.Slice.Eq.{bytes_eq-Decides}
 use Rattle.sqlite_value.specs.Keys.{plain}
 use Rattle.sqlite_value.specs.declared.keys.Collation.{Collation}
@@ -17,58 +16,12 @@ use Rattle.sqlite_schema.specs.declared.schema.Kind.TheVariants as kind
 use Rattle.sqlite_schema.specs.declared.schema.Reference.{Reference}
 use Rattle.sqlite_schema.specs.declared.schema.Stamps.{Stamps}
 use Rattle.sqlite_schema.specs.declared.schema.Table.{Table}
-use Rattle.sqlite_schema.specs.declared.schema.Schema.{Schema}
-use Rattle.office_schema.specs.tables.Layouts.{table_count}
-use Rattle.office_schema.specs.declared.tables.layouts.Layout.{Layout}
-use Rattle.office_schema.specs.declared.tables.layouts.Layout.TheVariants.{Own, Documented, DocumentedSecond, DocumentedFirst, EarlierFirst}
-use Rattle.office_db.specs.declared.loading.declared.Form.{Form}
-use Rattle.office_db.specs.declared.loading.declared.OfficeTable.{OfficeTable}
-use Rattle.office_db.specs.declared.loading.declared.OfficeTable.TheVariants.{Rooms, People, Rounds, Choices, Words, Results, Moves, Lists, Grades, Leavers}
-use Rattle.office_db.specs.loading.Finding.{DeclaresTables}
-use Rattle.office_db.specs.loading.Inner.Declared.{IsAmong, are_places, checks_of, column_of, has_columns, has_rules, is_binary, is_column, is_null, is_only_name, is_only_place, is_plain, is_reference, is_unstamped, kind_code, office_table, reference_of, same_bool, same_key, table_in, takes_no_action}
+use Rattle.office_db.specs.declared.loading.declared.forms.Form.{Form}
+use Rattle.office_db.specs.loading.Inner.Declared.{are_places, checks_of, column_of, has_columns, has_rules, is_binary, is_column, is_null, is_only_name, is_only_place, is_plain, is_reference, is_unstamped, kind_code, reference_of, same_bool, same_key, table_in, takes_no_action}
 use Rattle.office_db.specs.loading.Inner.Lists.{pass_all}
-
--- ---- lists
-
-heads : {A : Type 0} (x y : A) (xs ys : List A) → x ∷ xs ≡ y ∷ ys → x ≡ y
-heads x y xs ys e = ap (λ l. get_or l 0 x) e
-
-tails : {A : Type 0} (x y : A) (xs ys : List A) → x ∷ xs ≡ y ∷ ys → xs ≡ ys
-tails x y xs ys e = ap (λ l. drop 1 l) e
-
--- A test that fails decides what cannot be.
-pub never : {P : Type 0} → (P → ⊥) → Decides false P
-never not_so = (λ e. absurd (true≢false (sym e)), λ p. absurd (not_so p))
-
-no_items : {A : Type 0} (xs : List A) → length xs ≡ 0 → xs ≡ []
-no_items [] e = refl
-no_items (x ∷ xs) e = absurd (omega (arith, e))
-
-pub empty-Decides : {A : Type 0} (xs : List A) → Decides (length xs == 0) (xs ≡ [])
-empty-Decides xs = Decides-like (length xs == 0) (no_items xs) (λ p. ap length p) (Decides-eqb (length xs) 0)
-
-module _ {X Y : Type 0} (test : Y → X → Bool) (f : Y → X) (each : (own : Y) (x : X) → Decides (test own x) (x ≡ f own)) where
-  pub pass_all-Decides : (owns : List Y) (xs : List X) → Decides (pass_all test owns xs) (xs ≡ map f owns)
-  pass_all-Decides [] [] = (λ _. refl, λ _. refl)
-  pass_all-Decides [] (x ∷ xs) = never (λ p. omega (arith, ap length p))
-  pass_all-Decides (own ∷ owns) [] = never (λ p. omega (arith, ap length p))
-  pass_all-Decides (own ∷ owns) (x ∷ xs) =
-      Decides-like (test own x && pass_all test owns xs) (λ h. ap₂ (λ y ys. y ∷ ys) h.0 h.1)
-      (λ p. (heads x (f own) xs (map f owns) p, tails x (f own) xs (map f owns) p))
-      (Decides-and (test own x) (pass_all test owns xs) (each own x) (pass_all-Decides owns xs))
-
-same_map : {A : Type 0} (xs : List A) → map (λ x. x) xs ≡ xs
-same_map [] = refl
-same_map (x ∷ xs) = ap (λ ys. x ∷ ys) (same_map xs)
+use Rattle.office_db.proofs.found_offices.Deciding.{bool-Decides, empty-Decides, heads, never, not-Decides, pass_all-Decides, same_map}
 
 -- ---- values of few kinds
-
-bool-Decides : (b : Bool) → Decides b (b ≡ true)
-bool-Decides b = (λ e. e, λ e. e)
-
-not-Decides : (b : Bool) → Decides (not b) (b ≡ false)
-not-Decides true = never (λ e. true≢false e)
-not-Decides false = (λ _. refl, λ _. refl)
 
 same_bool-Decides : (own b : Bool) → Decides (same_bool own b) (b ≡ own)
 same_bool-Decides true b = bool-Decides b
@@ -308,97 +261,3 @@ module _ (own : Form) (table : Table) where
       })
       (λ p. ((columns_of p, rules_of p), ap (λ (t : Table). t.checks) p))
       (Decides-and _ _ (Decides-and _ _ columns-Decides rules-Decides) checks)
-
--- ---- tests one after another
-
-module _ {P : Type 0} where
-  -- The last test decides where those before it pass.
-  pub last_decides : (a b r : Bool) → a ≡ true → b ≡ true → Decides (a && b && r) P → Decides r P
-  last_decides true true r e f d = d
-  last_decides true false r e f d = absurd (true≢false (sym f))
-  last_decides false b r e f d = absurd (true≢false (sym e))
-
--- ---- tables among others
-
--- Within a list the default does not matter.
-pub same_default : {A : Type 0} (xs : List A) (k : ℕ) (d e : A) → k < length xs → get_or xs k d ≡ get_or xs k e
-same_default [] k d e low = absurd (omega (arith, low))
-same_default (x ∷ xs) zero d e low = refl
-same_default (x ∷ xs) (suc k) d e low = same_default xs k d e (omega (arith, low))
-
-tree_of_table : (own : OfficeTable) (tree : ℕ) → (office_table own tree).tree ≡ tree
-tree_of_table Rooms tree = refl
-tree_of_table People tree = refl
-tree_of_table Rounds tree = refl
-tree_of_table Choices tree = refl
-tree_of_table Words tree = refl
-tree_of_table Results tree = refl
-tree_of_table Moves tree = refl
-tree_of_table Lists tree = refl
-tree_of_table Grades tree = refl
-tree_of_table Leavers tree = refl
-
-module _ (own : OfficeTable) (table : Table) where
-  -- The table is in the tree that it names.
-  pub in_own_tree : (tree : ℕ) → table ≡ office_table own tree → table ≡ office_table own table.tree
-  in_own_tree tree e = e ∙ ap (office_table own) (sym (ap (λ (t : Table). t.tree) e ∙ tree_of_table own tree))
-
-  pub in_tree : (tree : ℕ) → table.tree ≡ tree → table ≡ office_table own table.tree → table ≡ office_table own tree
-  in_tree tree e p = p ∙ ap (office_table own) e
-
-  pub tree_is : (tree : ℕ) → table ≡ office_table own tree → table.tree ≡ tree
-  tree_is tree e = ap (λ (t : Table). t.tree) e ∙ tree_of_table own tree
-
-apart_or_equal : (a b : ℕ) → (a ≡ b) ⊎ (a ≢ b)
-apart_or_equal a b = elim (eqb_tells a b) [
-  | inl e ↦ inl e.1
-  | inr e ↦ inr e.1
-]
-
--- None of the tables before this place is this table of an office.
-abbrev pub IsNotBefore : List Table → OfficeTable → ℕ → Type 0
-IsNotBefore tables own place = (k tree : ℕ) → k < place → get_or tables k (office_table own tree) ≡ office_table own tree → ⊥
-
-module _ (tables : List Table) (own : OfficeTable) (k : ℕ) (table : Table) (low : k < length tables) (here : table ≡ get_or tables k table) where
-  -- The table at this place is.
-  pub among_here : table ≡ office_table own table.tree → IsAmong tables own
-  among_here is = (table.tree, (k, low, ap (get_or tables k) (sym is) ∙ sym here ∙ is))
-
-  -- The table at this place is not, either.
-  pub not_here : (table ≡ office_table own table.tree → ⊥) → IsNotBefore tables own k → IsNotBefore tables own (k + 1)
-  not_here differs before j tree less is =
-      elim (apart_or_equal j k) [
-        | inl e ↦
-            let there : get_or tables k (office_table own tree) ≡ office_table own tree = subst (λ n. get_or tables n (office_table own tree) ≡ office_table own tree) e is in
-            differs (in_own_tree own table tree (here ∙ same_default tables k table (office_table own tree) low ∙ there))
-        | inr apart ↦ before j tree (omega (arith, less, apart)) is
-      ]
-
-pub no_digits : (n : ℕ) → n ≢ 0 → (n == 0) ≡ false
-no_digits n some = elim (eqb_tells n 0) [
-  | inl e ↦ absurd (some e.1)
-  | inr e ↦ e.0
-]
-
-pub not_among : (tables : List Table) (own : OfficeTable) (k : ℕ) → length tables ≤ k → IsNotBefore tables own k → IsAmong tables own → ⊥
-not_among tables own k past before h = let below = h.1.1 in before h.1.0 h.0 (omega (arith, past, below)) h.1.2
-
--- ---- the tables of a layout
-
-abbrev pub all_ten : List OfficeTable
-all_ten = Rooms ∷ People ∷ Rounds ∷ Choices ∷ Words ∷ Results ∷ Moves ∷ Lists ∷ Grades ∷ Leavers ∷ []
-
-pub declares-Decides : (layout : Layout) (schema : Schema) (r : Bool) → Decides r (AllByRecursion (IsAmong schema.tables) (take (table_count layout) all_ten))
-    → Decides r (DeclaresTables layout schema)
-declares-Decides Own schema r d = d
-declares-Decides Documented schema r d = d
-declares-Decides DocumentedSecond schema r d = d
-declares-Decides DocumentedFirst schema r d = d
-declares-Decides EarlierFirst schema r d = d
-
-pub few_tables : (layout : Layout) → table_count layout ≤ 10
-few_tables Own = omega arith
-few_tables Documented = omega arith
-few_tables DocumentedSecond = omega arith
-few_tables DocumentedFirst = omega arith
-few_tables EarlierFirst = omega arith

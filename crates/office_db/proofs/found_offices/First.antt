@@ -29,7 +29,7 @@ first_if_has layout db tables has = record { schema = begins_if_laid layout db.s
 
 -- The first tables are unchanged.
 pub still_first : (layout : Layout) (a b : State) (tables : Tables) → OnlyReads a b → IsIntact b → HasTablesFirst layout a.now tables → HasTablesFirst layout b.now tables
-still_first layout a b tables p intact has = subst (λ (d : Database). HasTablesFirst layout d tables) (sym (p.same intact)) has
+still_first layout a b tables p intact has = subst (λ (d : Database). HasTablesFirst layout d tables) (sym (p.keeps.same intact)) has
 
 pub laid_first : (layout : Layout) (db : Database) → IsLaidOut layout db → IsLaidFirst layout db
 laid_first layout db laid = record { schema = begins_if_laid layout db.schema laid.schema; rows = laid.rows }

@@ -83,8 +83,10 @@ module _ (sql : List ℕ) (params : Row) (old new : State) where
   pub reads_shown : Survives old new (CommitsShowing sql params old) → (rows : List Row) → OnlyAsks sql
       → (HasCleanDisk new → Shown sql params old new rows) → OnlyReads old new
   reads_shown survives rows asks h = record {
-    follows = survivor_follows (CommitsShowing sql params old) survives (λ clean o. shown_was_open rows (h clean));
-    same = λ intact. (shown_unchanged rows (asks old.now.schema) (h intact.0)).0.now_is;
+    keeps = record {
+      follows = survivor_follows (CommitsShowing sql params old) survives (λ clean o. shown_was_open rows (h clean));
+      same = λ intact. (shown_unchanged rows (asks old.now.schema) (h intact.0)).0.now_is;
+    };
     crash = asks_nothing_new asks survives;
   }
 
@@ -92,7 +94,9 @@ module _ (sql : List ℕ) (params : Row) (old new : State) where
   pub reads_failed : (Commits : Trees → Type 0) → Survives old new Commits → LeavesNothingNew old new → (e : Error) → ShowsCommitted old
       → (HasCleanDisk new → FailsToQuery sql params old new e) → OnlyReads old new
   reads_failed Commits survives nothing e settled h = record {
-    follows = survivor_follows Commits survives (λ clean o. (failed_stays e (h clean) o).0);
-    same = λ intact. let stays = failed_stays e (h intact.0) intact.1 in stays.1 stays.0 (settled stays.0);
+    keeps = record {
+      follows = survivor_follows Commits survives (λ clean o. (failed_stays e (h clean) o).0);
+      same = λ intact. let stays = failed_stays e (h intact.0) intact.1 in stays.1 stays.0 (settled stays.0);
+    };
     crash = nothing;
   }

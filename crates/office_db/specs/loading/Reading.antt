@@ -24,8 +24,7 @@ pub record KeepsDatabase (old new : State) : Type 0 where
 
 -- The same, and nothing was committed.
 pub record OnlyReads (old new : State) : Type 0 where
-  pub follows : Follows old new
-  pub same : IsIntact new → new.now ≡ old.now
+  pub keeps : KeepsDatabase old new
   pub crash : LeavesNothingNew old new
 
 -- If the table exists, its listed rows are these records. If it does not exist, there are no records.

@@ -8,7 +8,12 @@ ghost use Rattle.office_db.specs.loading.Inner.Lists.{pass_all};
 ghost use Rattle.office_schema.specs.tables.Layouts.{schema_of};
 ghost use Rattle.office_schema.specs.declared.tables.layouts.Layout.{Layout as AnyLayout};
 
+mod orders;
+
 use crate::loading::declared::{OfficeTable, is_declared};
+use crate::loading::layout::orders::{
+    DOCUMENTED_INDEXES, DOCUMENTED_TABLES, EARLIER_INDEXES, EARLIER_TABLES, OWN_INDEXES, OWN_TABLES,
+};
 use office_schema::tables::layouts::Layout;
 use sqlite_catalog::layout::is_used;
 use sqlite_schema::schema::{Index, Schema, Table};
@@ -107,76 +112,11 @@ pub(crate) fn has_tables(tables: &[Table], layout: Layout) -> bool
     ensures { Decides result (tables.now ≡ (schema_of layout).tables) }
 {
     match layout {
-        Layout::Own => are_these_tables(
-            tables,
-            &[
-                (OfficeTable::Rooms, 0),
-                (OfficeTable::People, 2),
-                (OfficeTable::Rounds, 6),
-                (OfficeTable::Moves, 7),
-                (OfficeTable::Lists, 9),
-                (OfficeTable::Grades, 11),
-                (OfficeTable::Words, 13),
-                (OfficeTable::Results, 15),
-                (OfficeTable::Choices, 18),
-                (OfficeTable::Leavers, 21),
-            ],
-        ),
-        Layout::Documented => are_these_tables(
-            tables,
-            &[
-                (OfficeTable::Rooms, 0),
-                (OfficeTable::People, 2),
-                (OfficeTable::Rounds, 6),
-                (OfficeTable::Choices, 7),
-                (OfficeTable::Words, 10),
-                (OfficeTable::Results, 12),
-                (OfficeTable::Moves, 15),
-                (OfficeTable::Lists, 17),
-                (OfficeTable::Grades, 19),
-                (OfficeTable::Leavers, 21),
-            ],
-        ),
-        Layout::DocumentedSecond => are_these_tables(
-            tables,
-            &[
-                (OfficeTable::Rooms, 0),
-                (OfficeTable::People, 2),
-                (OfficeTable::Rounds, 6),
-                (OfficeTable::Choices, 7),
-                (OfficeTable::Words, 10),
-                (OfficeTable::Results, 12),
-                (OfficeTable::Moves, 15),
-                (OfficeTable::Lists, 17),
-                (OfficeTable::Grades, 19),
-            ],
-        ),
-        Layout::DocumentedFirst => are_these_tables(
-            tables,
-            &[
-                (OfficeTable::Rooms, 0),
-                (OfficeTable::People, 2),
-                (OfficeTable::Rounds, 6),
-                (OfficeTable::Choices, 7),
-                (OfficeTable::Words, 10),
-                (OfficeTable::Results, 12),
-                (OfficeTable::Moves, 15),
-                (OfficeTable::Lists, 17),
-            ],
-        ),
-        Layout::EarlierFirst => are_these_tables(
-            tables,
-            &[
-                (OfficeTable::Rooms, 0),
-                (OfficeTable::People, 2),
-                (OfficeTable::Rounds, 6),
-                (OfficeTable::Moves, 7),
-                (OfficeTable::Lists, 9),
-                (OfficeTable::Words, 11),
-                (OfficeTable::Results, 13),
-                (OfficeTable::Choices, 16),
-            ],
-        ),
+        Layout::Own => are_these_tables(tables, &OWN_TABLES),
+        Layout::Documented => are_these_tables(tables, &DOCUMENTED_TABLES),
+        Layout::DocumentedSecond => are_these_tables(tables, &DOCUMENTED_TABLES[..9]),
+        Layout::DocumentedFirst => are_these_tables(tables, &DOCUMENTED_TABLES[..8]),
+        Layout::EarlierFirst => are_these_tables(tables, &EARLIER_TABLES),
     }
 }
 
@@ -211,91 +151,11 @@ pub(crate) fn has_indexes(indexes: &[Index], layout: Layout) -> bool
     ensures { result ≡ has_indexes layout indexes.now }
 {
     match layout {
-        Layout::Own => are_these_indexes(
-            indexes,
-            &[
-                ("sqlite_autoindex_room_1", 1, 0, &[1]),
-                ("sqlite_autoindex_person_1", 3, 2, &[1]),
-                ("sqlite_autoindex_person_2", 4, 2, &[3]),
-                ("sqlite_autoindex_person_3", 5, 2, &[4]),
-                ("sqlite_autoindex_move_1", 8, 7, &[1, 2]),
-                ("sqlite_autoindex_list_1", 10, 9, &[1]),
-                ("sqlite_autoindex_grade_1", 12, 11, &[1]),
-                ("sqlite_autoindex_word_1", 14, 13, &[1]),
-                ("sqlite_autoindex_result_1", 16, 15, &[1]),
-                ("sqlite_autoindex_result_2", 17, 15, &[2]),
-                ("sqlite_autoindex_choice_1", 19, 18, &[1, 2]),
-                ("sqlite_autoindex_choice_2", 20, 18, &[1, 3]),
-                ("sqlite_autoindex_going_1", 22, 21, &[1]),
-            ],
-        ),
-        Layout::Documented => are_these_indexes(
-            indexes,
-            &[
-                ("sqlite_autoindex_room_1", 1, 0, &[1]),
-                ("sqlite_autoindex_person_1", 3, 2, &[1]),
-                ("sqlite_autoindex_person_2", 4, 2, &[3]),
-                ("sqlite_autoindex_person_3", 5, 2, &[4]),
-                ("sqlite_autoindex_choice_1", 8, 7, &[1, 2]),
-                ("sqlite_autoindex_choice_2", 9, 7, &[1, 3]),
-                ("sqlite_autoindex_word_1", 11, 10, &[1]),
-                ("sqlite_autoindex_result_1", 13, 12, &[1]),
-                ("sqlite_autoindex_result_2", 14, 12, &[2]),
-                ("sqlite_autoindex_move_1", 16, 15, &[1, 2]),
-                ("sqlite_autoindex_list_1", 18, 17, &[1]),
-                ("sqlite_autoindex_grade_1", 20, 19, &[1]),
-                ("sqlite_autoindex_going_1", 22, 21, &[1]),
-            ],
-        ),
-        Layout::DocumentedSecond => are_these_indexes(
-            indexes,
-            &[
-                ("sqlite_autoindex_room_1", 1, 0, &[1]),
-                ("sqlite_autoindex_person_1", 3, 2, &[1]),
-                ("sqlite_autoindex_person_2", 4, 2, &[3]),
-                ("sqlite_autoindex_person_3", 5, 2, &[4]),
-                ("sqlite_autoindex_choice_1", 8, 7, &[1, 2]),
-                ("sqlite_autoindex_choice_2", 9, 7, &[1, 3]),
-                ("sqlite_autoindex_word_1", 11, 10, &[1]),
-                ("sqlite_autoindex_result_1", 13, 12, &[1]),
-                ("sqlite_autoindex_result_2", 14, 12, &[2]),
-                ("sqlite_autoindex_move_1", 16, 15, &[1, 2]),
-                ("sqlite_autoindex_list_1", 18, 17, &[1]),
-                ("sqlite_autoindex_grade_1", 20, 19, &[1]),
-            ],
-        ),
-        Layout::DocumentedFirst => are_these_indexes(
-            indexes,
-            &[
-                ("sqlite_autoindex_room_1", 1, 0, &[1]),
-                ("sqlite_autoindex_person_1", 3, 2, &[1]),
-                ("sqlite_autoindex_person_2", 4, 2, &[3]),
-                ("sqlite_autoindex_person_3", 5, 2, &[4]),
-                ("sqlite_autoindex_choice_1", 8, 7, &[1, 2]),
-                ("sqlite_autoindex_choice_2", 9, 7, &[1, 3]),
-                ("sqlite_autoindex_word_1", 11, 10, &[1]),
-                ("sqlite_autoindex_result_1", 13, 12, &[1]),
-                ("sqlite_autoindex_result_2", 14, 12, &[2]),
-                ("sqlite_autoindex_move_1", 16, 15, &[1, 2]),
-                ("sqlite_autoindex_list_1", 18, 17, &[1]),
-            ],
-        ),
-        Layout::EarlierFirst => are_these_indexes(
-            indexes,
-            &[
-                ("sqlite_autoindex_room_1", 1, 0, &[1]),
-                ("sqlite_autoindex_person_1", 3, 2, &[1]),
-                ("sqlite_autoindex_person_2", 4, 2, &[3]),
-                ("sqlite_autoindex_person_3", 5, 2, &[4]),
-                ("sqlite_autoindex_move_1", 8, 7, &[1, 2]),
-                ("sqlite_autoindex_list_1", 10, 9, &[1]),
-                ("sqlite_autoindex_word_1", 12, 11, &[1]),
-                ("sqlite_autoindex_result_1", 14, 13, &[1]),
-                ("sqlite_autoindex_result_2", 15, 13, &[2]),
-                ("sqlite_autoindex_choice_1", 17, 16, &[1, 2]),
-                ("sqlite_autoindex_choice_2", 18, 16, &[1, 3]),
-            ],
-        ),
+        Layout::Own => are_these_indexes(indexes, &OWN_INDEXES),
+        Layout::Documented => are_these_indexes(indexes, &DOCUMENTED_INDEXES),
+        Layout::DocumentedSecond => are_these_indexes(indexes, &DOCUMENTED_INDEXES[..12]),
+        Layout::DocumentedFirst => are_these_indexes(indexes, &DOCUMENTED_INDEXES[..11]),
+        Layout::EarlierFirst => are_these_indexes(indexes, &EARLIER_INDEXES),
     }
 }
 

@@ -18,7 +18,7 @@ module _ {F S : Type 0} (base : Ghosts S) (opens finds : Held S → Type 0) (fai
   system = file_access base (λ _ _ connection _. opens connection) (λ _ _ connection _. finds connection) (λ _ _ _. ⊤) (λ _ _ _. ⊤)
 
   pub begins_blank : (made : Result (DeskState S) DeskFault) → IfOk made (λ desk. OpensBlank place files path desk files') → IfOk made (λ desk. OpensBlank system tt path desk tt)
-  begins_blank (Ok desk) h = record { connection = h.connection; opened = h.opened; blank = h.blank; follows = h.follows; crash = h.crash }
+  begins_blank (Ok desk) h = record { connection = h.connection; opened = h.opened; blank = h.blank; follows = h.follows; committed = h.committed; crash = h.crash }
   begins_blank (Err fault) h = tt
 
   pub create_fault : (made : Result (DeskState S) DeskFault) → IsCreateFault place files path made files' → IsCreateFault system tt path made tt
@@ -33,6 +33,7 @@ module _ {F S : Type 0} (base : Ghosts S) (opens finds : Held S → Type 0) (fai
     opened = h.opened;
     laid = h.laid;
     follows = h.follows;
+    committed = h.committed;
     cached = h.cached;
     shows = h.shows;
     unchanged = h.unchanged;
@@ -53,6 +54,7 @@ module _ {F S : Type 0} (base : Ghosts S) (opens finds : Held S → Type 0) (fai
     opened = h.opened;
     laid = h.laid;
     follows = h.follows;
+    committed = h.committed;
     cached = h.cached;
     stated = h.stated;
     shows = h.shows;

@@ -13,13 +13,13 @@ use Rattle.office_db.specs.loading.Finding.{DeclaresTables, HoldsVersion}
 use Rattle.office_db.proofs.found_offices.Versions.{one_version}
 use Rattle.office_db.proofs.found_offices.Versions.{layout_states_version}
 use Rattle.office_db.specs.loading.FirstTables.{BeginsOffice}
-use Rattle.office_migration.specs.Causes.{AreEarlierRows, AreNoEarlierRows, BeginsAt, HasCause, HoldsEarlier}
+use Rattle.office_migration.specs.Causes.{AreEarlierRows, AreNoEarlierRows, BeginsAt, DeclaresVersion, HasCause, HoldsEarlier}
 use Rattle.office_migration.specs.Causes.{HoldsNoEarlier, IsAllowed, IsLaid, IsNameFault, IsVersionFault, HoldsEarlierFirst, LacksTable}
 use Rattle.office_migration.specs.Names.{uses_missing_name, takes_name}
 use Rattle.office_migration.specs.Versions.{IsEarlier, IsNotEarlier}
 use Rattle.office_migration.specs.declared.migrating.MigrateFault.{MigrateFault}
 use Rattle.office_migration.specs.declared.migrating.MigrateFault.TheVariants.{Unavailable, OtherVersion, NotAnOffice, AlreadyThere}
-use Rattle.office_migration.proofs.earlier.First.{declares_first, of_version, first_if_holds, first_is_laid, holds_if_first}
+use Rattle.office_migration.proofs.earlier.First.{declares_first, declares_version, of_version, first_if_holds, first_is_laid, holds_if_first}
 
 -- In a layout of an earlier version, the names of the tables that it lacks are free.
 pub own_names_free : (layout : Layout) → IsEarlier (version_of layout)
@@ -92,6 +92,14 @@ declared_then schema start version first second all is same one two low high fai
           true≢false (sym (two.1 (here.1 above)) ∙ sym (high above) ∙ fails)
     ]
 
+-- Each table of the version is declared, where the test passes.
+pub declares_then : (schema start : Schema) (version : ℕ) (first second all : Bool) → IsEarlier version → schema ≡ start
+    → Decides first (DeclaresTables DocumentedFirst schema) → Decides second (DeclaresTables DocumentedSecond schema)
+    → (version < 2 → all ≡ first) → (2 ≤ version → all ≡ second) → all ≡ true → DeclaresVersion version start
+declares_then schema start version first second all is same one two low high passes layout of_it =
+    subst (DeclaresTables layout) same
+    (declares_version version layout schema is of_it (λ below. one.0 (sym (low below) ∙ passes)) (λ above. two.0 (sym (high above) ∙ passes)))
+
 module _ (db : Database) (first_tables : BeginsOffice db.schema) where
   -- where there is not exactly one row in table `round`
   pub none_without_version : ((version : ℤ) → HoldsVersion db version → ⊥) → HoldsNoEarlier db
@@ -122,16 +130,17 @@ module _ (db : Database) (first_tables : BeginsOffice db.schema) where
     }
 
     -- the cause for which such tables are refused if the name of a table that they lack is taken
-    pub name_cause : (fault : MigrateFault) → IsNameFault fault → IsTrue (uses_missing_name version db.schema)
+    pub name_cause : (fault : MigrateFault) → IsNameFault fault → DeclaresVersion version db.schema → IsTrue (uses_missing_name version db.schema)
         → (fault ≡ NotAnOffice → BeginsAt version db.schema) → (fault ≡ NotAnOffice → AreNoEarlierRows version db)
         → (fault ≡ AlreadyThere → AreEarlierRows version db) → HasCause db fault
-    name_cause Unavailable is taken known none rows = tt
-    name_cause (OtherVersion other) is taken known none rows = absurd is
-    name_cause NotAnOffice is taken known none rows = inr (none_first (inl (known refl)) (none refl))
-    name_cause AlreadyThere is taken known none rows = record {
+    name_cause Unavailable is declared taken known none rows = tt
+    name_cause (OtherVersion other) is declared taken known none rows = absurd is
+    name_cause NotAnOffice is declared taken known none rows = inr (none_first (inl (known refl)) (none refl))
+    name_cause AlreadyThere is declared taken known none rows = record {
       version = version;
       earlier = is_earlier;
       states = (first_tables, holds);
+      declared = declared;
       taken = taken;
       rows = rows refl;
     }

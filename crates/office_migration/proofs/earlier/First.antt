@@ -257,6 +257,17 @@ of_version version DocumentedSecond schema is same h = (λ low. absurd (omega (a
 of_version version DocumentedFirst schema is same h = (λ low. h, λ high. absurd (omega (arith, high, same)))
 of_version version EarlierFirst schema is same h = (λ low. h, λ high. absurd (omega (arith, high, same)))
 
+pub declares_version : (version : ℕ) (layout : Layout) (schema : Schema) → IsEarlier version → version_of layout ≡ version
+    → (version < 2 → DeclaresTables DocumentedFirst schema) → (2 ≤ version → DeclaresTables DocumentedSecond schema)
+    → DeclaresTables layout schema
+declares_version version Own schema (inl e) same first second = absurd (omega (arith, e, same))
+declares_version version Own schema (inr e) same first second = absurd (omega (arith, e, same))
+declares_version version Documented schema (inl e) same first second = absurd (omega (arith, e, same))
+declares_version version Documented schema (inr e) same first second = absurd (omega (arith, e, same))
+declares_version version DocumentedSecond schema is same first second = second (omega (arith, same))
+declares_version version DocumentedFirst schema is same first second = first (omega (arith, same))
+declares_version version EarlierFirst schema is same first second = first (omega (arith, same))
+
 -- If no missing name is in use, a database that begins with the tables of a layout has exactly those.
 pub first_is_laid : (layout other : Layout) → IsEarlier (version_of other)
     → uses_missing_name (version_of other) (schema_of layout) ≡ false

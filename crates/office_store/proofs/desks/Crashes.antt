@@ -1,5 +1,5 @@
 -- What a crash leaves of the office of a desk.
-use Rattle.std.proofs.Common.{◌≡◌, ◌⊎◌, Bool, true, false, List, [], ◌∷◌, IsTrue, inl, inr, refl, sym, ap, ◌∙◌, subst}
+use Rattle.std.proofs.Common.{◌≡◌, Bool, true, false, List, [], ◌∷◌, IsTrue, inl, inr, refl, sym, ap, ◌∙◌, subst}
 use Rattle.std.proofs.lemmas.Bool.{cases_Bool}
 use Rattle.sqlite_trees.specs.Tree.{Trees}
 use Rattle.sqlite_trees.specs.declared.store.Store.{Ghosts}
@@ -8,11 +8,9 @@ use Rattle.sqlite.specs.Held.{state}
 use Rattle.sqlite.specs.State.{HasCleanDisk}
 use Rattle.office_state.specs.declared.office.Office.{Office}
 use Rattle.office_schema.specs.rows.Tables.{rows_of}
-use Rattle.office_schema.specs.tables.Crashes.{LeavesNothingNew, ShowsCommitted}
 use Rattle.office_schema.specs.tables.Tables.{AreHeld, HoldsOffice}
-use Rattle.office_store.specs.Crashes.{IsAsked, LeavesAfterRequest, LeavesAfterRun, LeavesBeforeOrAfter, LeavesNothingOnceClosed, LeavesOffice, LeavesWhatIsShown}
-use Rattle.office_store.specs.Desk.{DeskState, HandlesAt, Represents, Shows}
-use Rattle.office_store.specs.LawfulSteps.{HandlesLawfully}
+use Rattle.office_store.specs.Crashes.{LeavesAfterRequest, LeavesAfterRun, LeavesNothingOnceClosed, LeavesOffice, LeavesWhatIsShown}
+use Rattle.office_store.specs.Desk.{DeskState, HandlesAt, Represents}
 use Rattle.office_store.specs.Requests.{IsRun, office_after}
 use Rattle.office_store.specs.declared.requests.Answer.{Answer}
 use Rattle.office_store.specs.declared.requests.Request.{Request}
@@ -76,7 +74,7 @@ module _ {S : Type 0} (g : Ghosts S) where
         elim (cases_Bool (state g run.0.conn).is_open) [
           | inl is_open ↦ elim (leaves_after_run run.0 new rs more step.0 run.2 clean run.1.committed (shows_if_open g run.0 step.0 is_open step.2)) [
             | inl whole ↦ inl (whole.0, whole.1, (step.0, step.1, whole.2), whole.3)
-            | inr cut ↦ inr (cut.0, cut.1, cut.2, inr (step.0, step.1, cut.3), cut.4)
+            | inr cut ↦ inr (cut.0, cut.1, cut.2, inr (is_open, step.0, step.1, cut.3), cut.4)
           ]
           | inr shut ↦
               let rest = run_closed run.0 new rs more run.2 shut clean in
@@ -84,7 +82,7 @@ module _ {S : Type 0} (g : Ghosts S) where
                 rest.0,
                 office,
                 r,
-                inl (refl, refl),
+                inl (shows.is_open, shut, refl, refl),
                 λ db may. leaves_after_request old run.0 r a office run.1 early committed shows db (rest.1 db may),
               )
         ]

@@ -47,14 +47,16 @@ module _ (sql : List ℕ) (params : Row) (old new : State) where
 
   reads_prepared : Survives old new (λ _. ⊥) → (HasCleanDisk new → IsUnchanged old new) → OnlyReads old new
   reads_prepared survives same = record {
-    follows = record {
-      clean = λ h. omega (arith, h, survives.clean);
-      was_open = λ clean o. (same clean).0.was_open;
-      counts = survives.counts;
-      limit = survives.limit;
-      closes = survives.closes;
+    keeps = record {
+      follows = record {
+        clean = λ h. omega (arith, h, survives.clean);
+        was_open = λ clean o. (same clean).0.was_open;
+        counts = survives.counts;
+        limit = survives.limit;
+        closes = survives.closes;
+      };
+      same = λ intact. (same intact.0).0.now_is;
     };
-    same = λ intact. (same intact.0).0.now_is;
     crash = survives_nothing_new old new survives;
   }
 
@@ -65,29 +67,31 @@ module _ (sql : List ℕ) (params : Row) (old new : State) where
 
 module _ {S : Type 0} (g : Ghosts S) (old new : Held S) (cached : Option Office) (survives : Survives (state g old) (state g new) (λ _. ⊥)) where
   -- what the desk says if its connection prepared the empty statement
-  pub tells_open : (HasCleanDisk (state g new) → IsUnchanged (state g old) (state g new))
+  pub tells_open : ShowsCommitted (state g new) → (HasCleanDisk (state g new) → IsUnchanged (state g old) (state g new))
       → TellsIfOpen g (record { conn = old; cached = cached }) (Ok true) (record { conn = new; cached = cached })
-  tells_open same =
+  tells_open committed same =
       let reads = reads_prepared [] [] (state g old) (state g new) survives same in
       record {
         reads = reads;
+        committed = committed;
         cached = refl;
         right = λ clean. sym (same clean).0.is_open;
-        represents = λ clean office represents. represents_still g old new cached office clean reads.follows reads.same represents;
+        represents = λ clean office represents. represents_still g old new cached office clean reads.keeps.follows reads.keeps.same represents;
       }
 
   -- what the desk says if its connection did not prepare it
-  pub tells_failed : ShowsCommitted (state g old) → (e : Error)
+  pub tells_failed : ShowsCommitted (state g new) → ShowsCommitted (state g old) → (e : Error)
       → (HasCleanDisk (state g new) → (params : Row) → IsNotRun (state g old) (state g new) [] params e)
       → (answer : Result Bool NoAnswer) → IfOk answer (λ is_open. (is_open ≡ false) × (e ≡ SqliteFailure code.Closed))
       → TellsIfOpen g (record { conn = old; cached = cached }) answer (record { conn = new; cached = cached })
-  tells_failed settled e failed answer said =
+  tells_failed committed settled e failed answer said =
       let reads = reads_not_run [] [] (state g old) (state g new) survives e settled (λ clean. failed clean []) in
       record {
         reads = reads;
+        committed = committed;
         cached = refl;
-        right = λ clean. right_of answer said clean (reads.follows.was_open clean);
-        represents = λ clean office represents. represents_still g old new cached office clean reads.follows reads.same represents;
+        right = λ clean. right_of answer said clean (reads.keeps.follows.was_open clean);
+        represents = λ clean office represents. represents_still g old new cached office clean reads.keeps.follows reads.keeps.same represents;
       }
     where
       right_of : (answer : Result Bool NoAnswer) → IfOk answer (λ is_open. (is_open ≡ false) × (e ≡ SqliteFailure code.Closed))

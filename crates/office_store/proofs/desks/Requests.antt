@@ -3,7 +3,7 @@ use Rattle.std.proofs.Common.{◌≡◌, ◌<◌, true, false, ◌==◌, List, [
 use Rattle.sqlite_trees.specs.declared.store.Store.{Ghosts}
 use Rattle.sqlite.specs.Effect.{Database}
 use Rattle.sqlite.specs.Held.{Held, state}
-use Rattle.sqlite.specs.State.{State, HasCleanDisk}
+use Rattle.sqlite.specs.State.{HasCleanDisk}
 use Rattle.office_state.specs.Change.{LeadsTo, AllFit, applied_all}
 use Rattle.office_state.specs.Empty.{is_empty}
 use Rattle.office_state.specs.Office.Invariants.{IsLawful}
@@ -23,7 +23,7 @@ use Rattle.office_schema.proofs.statements.Crashes.{old_or_then, old_or_weaker}
 use Rattle.office_schema.proofs.statements.Steps.{follows-refl, follows_then}
 use Rattle.office_db.specs.changes.StoresChanges.{CommitsChanges, StoresChanges}
 use Rattle.office_db.specs.loading.Reading.{KeepsDatabase, OnlyReads}
-use Rattle.office_db.proofs.found_offices.Following.{keeps_after_reading, reads-refl, reads_then}
+use Rattle.office_db.proofs.found_offices.Following.{keeps_then, reads-refl, reads_then}
 use Rattle.office_store.proofs.desks.Certain.{false_is_not_true}
 use Rattle.office_store.specs.Caching.{changes_allocate}
 use Rattle.office_store.specs.Desk.{CommitsRequest, DeskState, HandlesAt, IsAnsweredBy, UpdatesCache, Shows, Represents}
@@ -125,9 +125,6 @@ cached_office_through (Some o) mid A B C cached a b both = both o a (subst (λ k
 nothing_cached : (cached : Option Office) (A : Office → Type 0) → cached ≡ None → IfSome cached A
 nothing_cached cached A none = subst (λ k. IfSome k A) (sym none) tt
 
-only_keeps : (a b : State) → OnlyReads a b → KeepsDatabase a b
-only_keeps a b reads = record { follows = reads.follows; same = reads.same }
-
 -- A list that is not empty has a length above 0.
 some_length : (changes : List Change) → is_empty changes ≡ false → 0 < length changes
 some_length [] some = absurd (false_is_not_true (sym some))
@@ -200,7 +197,7 @@ module _ {S : Type 0} (g : Ghosts S) where
   pub unavailable_uncached : (old new : DeskState S) (request : Request) → old.cached ≡ None → OnlyReads (state g old.conn) (state g new.conn)
       → (HasCleanDisk (state g new.conn) → (office : Office) → Represents g old office → Represents g new office) → ShowsCommitted (state g new.conn) → HandlesAt g old request Unavailable new
   unavailable_uncached old new request none reads still shows =
-      unavailable_keeps_desk old new request (only_keeps (state g old.conn) (state g new.conn) reads) (nothing_cached old.cached (λ office. UpdatesCache office request Unavailable new.cached) none)
+      unavailable_keeps_desk old new request reads.keeps (nothing_cached old.cached (λ office. UpdatesCache office request Unavailable new.cached) none)
       (nothing_cached old.cached (λ office. changes_nothing office request ≡ true → new.conn ≡ old.conn) none) still shows (commits_nothing old new request reads.crash)
 
   -- an answer of the cached office, if nothing is stored
@@ -225,7 +222,7 @@ module _ {S : Type 0} (g : Ghosts S) where
                   stored = λ stored clean. absurd (none stored);
                 },
               )
-          | inr want ↦ inr (want.0, only_keeps (state g desk.conn) (state g desk.conn) (reads-refl (state g desk.conn)))
+          | inr want ↦ inr (want.0, (reads-refl (state g desk.conn)).keeps)
         ];
         keeps = subst (λ k. IfSome k (λ office. UpdatesCache office request answer k)) (sym is) keeps;
         untouched = subst (λ k. IfSome k (λ o. changes_nothing o request ≡ true → desk.conn ≡ desk.conn)) (sym is) (λ nothing. refl);
@@ -267,11 +264,11 @@ module _ {S : Type 0} (g : Ghosts S) where
   handles_after old mid new request answer reads cached same still h =
       let still_represents : HasCleanDisk (state g new.conn) → (office : Office) → Represents g old office → Represents g mid office = λ clean. still (h.follows.clean clean) in
       record {
-        follows = follows_then _ _ _ reads.follows h.follows;
+        follows = follows_then _ _ _ reads.keeps.follows h.follows;
         committed = h.committed;
         returned = elim h.returned [
           | inl some ↦ inl (some.0, answered_after old mid new request answer some.0 reads cached still_represents some.1)
-          | inr none ↦ inr (none.0, keeps_after_reading _ _ _ reads none.1)
+          | inr none ↦ inr (none.0, keeps_then _ _ _ reads.keeps none.1)
         ];
         keeps = keeps_after old.cached mid.cached request answer new.cached cached h.keeps;
         untouched =
@@ -281,7 +278,7 @@ module _ {S : Type 0} (g : Ghosts S) where
         crash =
             old_or_then (CommitsRequest g old request) (state g old.conn) (state g mid.conn) (state g new.conn) h.follows.clean reads.crash
             (old_or_weaker (CommitsRequest g mid request) (CommitsRequest g old request) (state g mid.conn) (state g new.conn)
-            (λ clean after it. committed_after old mid request after cached (still_represents clean) (reads.follows.was_open (h.follows.clean clean)) it) h.crash);
+            (λ clean after it. committed_after old mid request after cached (still_represents clean) (reads.keeps.follows.was_open (h.follows.clean clean)) it) h.crash);
       }
 
   -- what a command commits whose changes are stored, or may be

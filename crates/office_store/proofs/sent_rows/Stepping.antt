@@ -90,8 +90,10 @@ export_follows a b Commits survives was_open = record {
 pub reads_refused : (sql : List ℕ) (params : Row) (a b : State) (Commits : Trees → Type 0) (e : Error) → Survives a b Commits → LeavesNothingNew a b → ShowsCommitted a
     → (HasCleanDisk b → FailsToQuery sql params a b e) → OnlyReads a b
 reads_refused sql params a b Commits e survives nothing settled h = record {
-  follows = export_follows a b Commits survives (λ clean o. (keeps_failed sql params a b e (h clean) o).0);
-  same = λ intact. let keeps = keeps_failed sql params a b e (h intact.0) intact.1 in (keeps.1 (settled keeps.0)).0;
+  keeps = record {
+    follows = export_follows a b Commits survives (λ clean o. (keeps_failed sql params a b e (h clean) o).0);
+    same = λ intact. let keeps = keeps_failed sql params a b e (h intact.0) intact.1 in (keeps.1 (settled keeps.0)).0;
+  };
   crash = nothing;
 }
 
@@ -107,13 +109,15 @@ pub reads_through : {S : Type 0} (g : Ghosts S) (sql : List ℕ) (params : Row) 
 reads_through g sql params a b c asks first begun settled next keeps =
     let before : HasCleanDisk (state g c) → HasCleanDisk (state g b) = λ clean. omega (arith, clean, next.clean) in
     record {
-      follows = follows_then (state g a) (state g b) (state g c)
-          (export_follows (state g a) (state g b) (CommitsShowing sql params (state g a)) first (λ clean o. was_open (begun clean)))
-          (export_follows (state g b) (state g c) (λ _. ⊥) next (λ clean o. (keeps clean o).0));
-      same = λ intact.
-          let same = unchanged (begun (before intact.0)) in
-          let kept = keeps_then (state g a) (state g b) (state g c) (keeps_unchanged _ _ same) (keeps intact.0) intact.1 in
-          (kept.1 (settled kept.0)).0;
+      keeps = record {
+        follows = follows_then (state g a) (state g b) (state g c)
+            (export_follows (state g a) (state g b) (CommitsShowing sql params (state g a)) first (λ clean o. was_open (begun clean)))
+            (export_follows (state g b) (state g c) (λ _. ⊥) next (λ clean o. (keeps clean o).0));
+        same = λ intact.
+            let same = unchanged (begun (before intact.0)) in
+            let kept = keeps_then (state g a) (state g b) (state g c) (keeps_unchanged _ _ same) (keeps intact.0) intact.1 in
+            (kept.1 (settled kept.0)).0;
+      };
       crash = nothing_new_then (state g a) (state g b) (state g c) before (asks_nothing_new sql params (state g a) (state g b) asks first)
           (survives_nothing_new (state g b) (state g c) next);
     }

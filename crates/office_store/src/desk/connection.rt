@@ -19,13 +19,17 @@ impl<S: Alter> Desk<S> {
     pub fn is_open(&mut self) -> Result<bool, Unavailable>
         ensures tells { TellsIfOpen S.Store self.old result self.new }
     {
-        // The proof needs these two lines: outside a transaction, an open connection shows what is committed.
-        let outside = self.conn.is_autocommit();
-        prove!(outside);
-        match self.conn.prepare("") {
+        // The proof needs these two lines, and the same two after the statement is prepared: outside a transaction, an
+        // open connection shows what is committed.
+        let before = self.conn.is_autocommit();
+        prove!(before);
+        let answer = match self.conn.prepare("") {
             Ok(_) => Ok(true),
             Err(error) => openness_after(error),
-        }
+        };
+        let after = self.conn.is_autocommit();
+        prove!(after);
+        answer
     }
 }
 

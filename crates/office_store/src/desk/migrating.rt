@@ -3,7 +3,7 @@ ghost use Rattle.std.specs.Prelude.{◌≡◌, ◌⊎◌, ℤ, false, IfErr, IfO
 ghost use Rattle.sqlite.specs.Held.{state};
 ghost use Rattle.sqlite.specs.State.{HasCleanDisk};
 ghost use Rattle.office_state.specs.declared.office.Office.{Office as AnyOffice};
-ghost use Rattle.office_schema.specs.tables.Crashes.{LeavesOldOr};
+ghost use Rattle.office_schema.specs.tables.Crashes.{LeavesOldOr, ShowsCommitted};
 ghost use Rattle.office_schema.specs.tables.Layouts.{schema_of, version_of};
 ghost use Rattle.office_schema.specs.tables.Steps.{Follows, IsIntact};
 ghost use Rattle.office_schema.specs.tables.Tables.{HoldsOfficeIn};
@@ -12,7 +12,7 @@ ghost use Rattle.office_db.specs.loading.Finding.{AreWhole, names_round};
 ghost use Rattle.office_migration.specs.Causes.{AreRowsAsStated, HoldsEarlier, HoldsLayoutVersion, StatesVersion, HoldsEarlierFirst};
 ghost use Rattle.office_db.specs.loading.FirstTables.{BeginsOffice};
 ghost use Rattle.office_migration.specs.Names.{uses_missing_name};
-ghost use Rattle.office_migration.specs.Renewed.{HoldsMigratedOffice};
+ghost use Rattle.office_migration.specs.Renewed.{CommitsMigrated};
 ghost use Rattle.office_migration.specs.Versions.{HasEarlierLayout, IsNotEarlier, IsOfVersion};
 ghost use Rattle.office_store.specs.Desk.{Shows};
 ghost use Rattle.office_store.specs.Migrating.{IsFaultOfMigration, MayNotMigrate, migrating_fault};
@@ -58,6 +58,7 @@ impl<S: Alter> Desk<S> {
         requires { connection.in_transaction ≡ false }
         ensures follows { IfOk result
             (λ desk. Follows (state S.Store connection) (state S.Store desk.conn)) }
+        ensures committed { IfOk result (λ desk. ShowsCommitted (state S.Store desk.conn)) }
         ensures cached { IfOk result (λ desk. IsSome desk.cached) }
         ensures laid { OnOk result (HasEarlierLayout (state S.Store connection).now.schema) }
         ensures stated { IfOk result (λ desk. HasCleanDisk (state S.Store desk.conn)
@@ -74,9 +75,9 @@ impl<S: Alter> Desk<S> {
         ensures undone { IfErr result (λ back. IsIntact (state S.Store back.connection)
             → (state S.Store back.connection).now ≡ (state S.Store connection).now) }
         ensures crash { MatchResult result
-            (λ desk. LeavesOldOr (HoldsMigratedOffice (state S.Store connection).now)
+            (λ desk. LeavesOldOr (CommitsMigrated (state S.Store connection).now)
             (state S.Store connection) (state S.Store desk.conn))
-            (λ back. LeavesOldOr (HoldsMigratedOffice (state S.Store connection).now)
+            (λ back. LeavesOldOr (CommitsMigrated (state S.Store connection).now)
             (state S.Store connection) (state S.Store back.connection)) }
         ensures allowed { IfErr result
             (λ back. IsFaultOfMigration (state S.Store connection).now.schema back.fault) }
@@ -110,10 +111,15 @@ impl<S: Alter> Desk<S> {
     {
         let mut conn = connection;
         match migrate(alloc, &mut conn) {
-            Ok(office) => Ok(Desk {
-                conn,
-                cached: Some(office),
-            }),
+            Ok(office) => {
+                // The proof needs these two lines: outside a transaction, an open connection shows what is committed.
+                let outside = conn.is_autocommit();
+                prove!(outside);
+                Ok(Desk {
+                    conn,
+                    cached: Some(office),
+                })
+            }
             Err(fault) => Err(Back {
                 fault: migrating_fault(fault),
                 connection: conn,

@@ -38,7 +38,8 @@ pub trait Listener {
         printed: &Watched<W>,
         desk: &Desk<S>,
     ) -> Option<Watched<Self::Stream>>
-        ensures accepts { accepts self.old (output_of W.contents printed.now) (seen S.Store desk.now) result self.new }
+        ensures accepts { accepts self.old (output_of W.contents printed.now)
+            (seen S.Store desk.now) result self.new }
         ensures unused { IfSome result IsUnused };
 
     /// Closes a connection. `printed` is the output written so far, and `desk` the desk at which the connection was
@@ -49,7 +50,8 @@ pub trait Listener {
         printed: &Watched<W>,
         desk: &Desk<S>,
     )
-        ensures { closes self.old (output_of W.contents printed.now) (seen S.Store desk.now) connection self.new };
+        ensures { closes self.old (output_of W.contents printed.now)
+            (seen S.Store desk.now) connection self.new };
 }
 
 impl Listener for TcpListener {

@@ -20,9 +20,9 @@ use Rattle.office_schema.specs.tables.Schema.{room, person, round, choice, word,
 use Rattle.office_db.specs.declared.loading.declared.OfficeTable.{OfficeTable}
 use Rattle.office_db.specs.declared.loading.declared.OfficeTable.TheVariants.{Rooms, People, Rounds, Choices, Words}
 use Rattle.office_db.specs.declared.loading.declared.OfficeTable.TheVariants.{Results, Moves, Lists, Grades, Leavers}
-use Rattle.office_db.specs.declared.loading.declared.Checks.{Checks}
-use Rattle.office_db.specs.declared.loading.declared.Checks.TheVariants.{Free, Flag, Digit, One}
-use Rattle.office_db.specs.declared.loading.declared.Form.{Form}
+use Rattle.office_db.specs.declared.loading.declared.forms.Checks.{Checks}
+use Rattle.office_db.specs.declared.loading.declared.forms.Checks.TheVariants.{Free, Flag, Digit, One}
+use Rattle.office_db.specs.declared.loading.declared.forms.Form.{Form}
 use Rattle.office_db.specs.loading.Inner.Lists.{pass_all}
 
 -- the table of an office, in this tree

@@ -7,6 +7,7 @@ returns-in-Ok-adopt-clause-shows g c = record {
   opened = c.in-Ok.ensures.found;
   laid = c.in-Ok-adopt.ensures.laid;
   follows = c.in-Ok-adopt.ensures.follows;
+  committed = c.in-Ok-adopt.ensures.committed;
   cached = c.in-Ok-adopt.ensures.cached;
   shows = c.in-Ok-adopt.ensures.shows;
   unchanged = c.in-Ok-adopt.ensures.unchanged;

@@ -7,6 +7,7 @@ returns-in-Ok-migrate-clause-shows g c = record {
   opened = c.in-Ok.ensures.found;
   laid = c.in-Ok-migrate.ensures.laid;
   follows = c.in-Ok-migrate.ensures.follows;
+  committed = c.in-Ok-migrate.ensures.committed;
   cached = c.in-Ok-migrate.ensures.cached;
   stated = c.in-Ok-migrate.ensures.stated;
   shows = c.in-Ok-migrate.ensures.shows;

@@ -20,7 +20,7 @@ returns-then-is_of_version-clause-rows g c already clean other same begins whole
     let layout = c.in-Some.layout in
     let begun = subst (Begins layout) c.schema.ensures.value c.in-Some.ensures.begun in
     let is = begins_is_found c.args.version c.requires.earlier start.now layout begun c.in-Some.ensures.version other same begins in
-    let open_ = c.held.ensures.reads.follows.was_open clean (c.in-Ok-Some.ensures.is_open clean) in
+    let open_ = c.held.ensures.reads.keeps.follows.was_open clean (c.in-Ok-Some.ensures.is_open clean) in
     let sound = (c.schema.ensures.live open_).0 in
     let laid = first_if_sound layout start.now sound (subst (λ l. Begins l start.now.schema) (sym is) begins)
     (subst (λ l. AreWhole l start.now.trees) (sym is) whole) in

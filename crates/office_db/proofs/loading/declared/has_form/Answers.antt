@@ -1,5 +1,6 @@
 use Rattle.std.proofs.Common.{sym, ◌∙◌}
-use Rattle.office_db.proofs.found_offices.Declarations.{form-Decides, last_decides, no_columns, no_rules}
+use Rattle.office_db.proofs.found_offices.Deciding.{last_decides}
+use Rattle.office_db.proofs.found_offices.Declarations.{form-Decides, no_columns, no_rules}
 use Rattle.office_db.proofs.loading.declared.has_form.Goals as goal
 
 pub returns : goal.returns

@@ -22,7 +22,7 @@ returns-in-Ok-clause-held g c clean wide =
     let start = state g.S.Store c.args.conn.now in
     let layout = c.in-Some.layout in
     let laid = sym c.schema-2.ensures.value ∙ c.in-Some.ensures.laid in
-    let sound = (c.schema-2.ensures.live (c.read.ensures.reads.follows.was_open clean (c.in-Ok.ensures.is_open clean))).0 in
+    let sound = (c.schema-2.ensures.live (c.read.ensures.reads.keeps.follows.was_open clean (c.in-Ok.ensures.is_open clean))).0 in
     c.in-Ok.ensures.held clean (laid_if_sound layout start.now sound laid wide)
 
 pub returns-in-Ok-clause-found : goal.returns-in-Ok-clause-found

@@ -46,8 +46,8 @@ pub returns-in-Ok-None-held-clause-cause : goal.returns-in-Ok-None-held-clause-c
 returns-in-Ok-None-held-clause-cause g c clean has =
     let start = state g.S.Store c.args.conn.now in
     let layout = c.args.layout in
-    let between = intact_before (state g.S.Store c.other_version.new.conn) (state g.S.Store c.held.new.conn) c.held.ensures.reads.follows (clean, c.in-Ok-None-held.ensures.is_open clean) in
-    let same = c.other_version.ensures.reads.same between in
+    let between = intact_before (state g.S.Store c.other_version.new.conn) (state g.S.Store c.held.new.conn) c.held.ensures.reads.keeps.follows (clean, c.in-Ok-None-held.ensures.is_open clean) in
+    let same = c.other_version.ensures.reads.keeps.same between in
     let front = same_begins_office layout start.now.schema has in
     let returned = (rw c.in-Ok-None.field-0-is at c.in-Ok-None.ensures.returned) between.0 front in
     record {
@@ -70,10 +70,10 @@ returns-then-version-ne3-clause-other g c clean version front other =
 
 pub returns-in-Ok-None-held-clause-other : goal.returns-in-Ok-None-held-clause-other
 returns-in-Ok-None-held-clause-other g c clean version front other =
-    let before = c.held.ensures.reads.follows.clean clean in
+    let before = c.held.ensures.reads.keeps.follows.clean clean in
     absurd (none_some version ((rw c.in-Ok-None.field-0-is at c.in-Ok-None.ensures.returned) before front version other))
 
 pub returns-in-Ok-Some-held-clause-other : goal.returns-in-Ok-Some-held-clause-other
 returns-in-Ok-Some-held-clause-other g c clean version front other =
-    let before = c.held.ensures.reads.follows.clean clean in
+    let before = c.held.ensures.reads.keeps.follows.clean clean in
     absurd (none_some version ((rw c.in-Ok-None.field-0-is at c.in-Ok-None.ensures.returned) before front version other))

@@ -1,6 +1,6 @@
 use Rattle.std.proofs.Common.{List, sym, ap, length, ◌∙◌, ◌==◌, true≢false}
 use Rattle.sqlite_schema.specs.declared.schema.View.{View}
-use Rattle.office_db.proofs.found_offices.Declarations.{never}
+use Rattle.office_db.proofs.found_offices.Deciding.{never}
 use Rattle.office_db.proofs.found_offices.LayoutTests.{begins_if}
 use Rattle.office_db.proofs.loading.first_tables.begins_office.Goals as goal
 

@@ -1,6 +1,6 @@
 use Rattle.std.proofs.Common.{sym, ◌∙◌, true≢false}
 use Rattle.std.proofs.lemmas.Bool.Decides.{not_from_Decides}
-use Rattle.office_db.proofs.found_offices.Declarations.{never}
+use Rattle.office_db.proofs.found_offices.Deciding.{never}
 use Rattle.office_db.proofs.found_offices.LayoutTests.{begins_indexes, begins_tables, begins_views, begins_with_layout}
 use Rattle.office_db.proofs.loading.first_tables.begins_with.Goals as goal
 

@@ -2,7 +2,7 @@ use Rattle.std.proofs.Common.{arith, refl}
 use Rattle.std.proofs.lemmas.Bool.Decides.{not_from_Decides}
 use Rattle.office_db.specs.declared.loading.declared.OfficeTable.TheVariants.{Rooms}
 use Rattle.office_db.specs.loading.Inner.Declared.{IsAmong}
-use Rattle.office_db.proofs.found_offices.Declarations.{never}
+use Rattle.office_db.proofs.found_offices.Deciding.{never}
 use Rattle.office_db.proofs.found_offices.Passing.{all_here, all_more, all_tested}
 use Rattle.office_db.proofs.loading.layout.are_declared.Goals as goal
 

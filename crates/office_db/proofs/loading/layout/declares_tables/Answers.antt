@@ -1,4 +1,4 @@
-use Rattle.office_db.proofs.found_offices.Declarations.{declares-Decides}
+use Rattle.office_db.proofs.found_offices.Among.{declares-Decides}
 use Rattle.office_db.proofs.loading.layout.declares_tables.Goals as goal
 
 pub returns : goal.returns

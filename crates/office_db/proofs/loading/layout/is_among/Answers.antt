@@ -1,6 +1,7 @@
 use Rattle.std.proofs.Common.{arith, refl}
 use Rattle.std.proofs.lemmas.Bool.Decides.{not_from_Decides}
-use Rattle.office_db.proofs.found_offices.Declarations.{among_here, never, not_among, not_here}
+use Rattle.office_db.proofs.found_offices.Among.{among_here, not_among, not_here}
+use Rattle.office_db.proofs.found_offices.Deciding.{never}
 use Rattle.office_db.proofs.loading.layout.is_among.Goals as goal
 
 pub loop-place-init : goal.loop-place-init

@@ -1,4 +1,4 @@
-use Rattle.office_db.proofs.found_offices.Declarations.{IsNotBefore}
+use Rattle.office_db.proofs.found_offices.Among.{IsNotBefore}
 use Rattle.office_db.proofs.loading.layout.is_among.Given as goal
 
 -- None of the tables so far is this one.

@@ -1,7 +1,7 @@
 use Rattle.std.proofs.Common.{sym, ap, ◌∙◌, true≢false}
 use Rattle.std.proofs.lemmas.Bool.Decides.{not_from_Decides}
 use Rattle.sqlite_schema.specs.declared.schema.Schema.{Schema}
-use Rattle.office_db.proofs.found_offices.Declarations.{never}
+use Rattle.office_db.proofs.found_offices.Deciding.{never}
 use Rattle.office_db.proofs.found_offices.LayoutTests.{has_no_views, has_own_indexes, schema_is}
 use Rattle.office_db.proofs.loading.layout.is_laid_out.Goals as goal
 

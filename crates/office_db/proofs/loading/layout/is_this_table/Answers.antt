@@ -1,5 +1,6 @@
 use Rattle.std.proofs.lemmas.Bool.Decides.{Decides-eqb, Decides-like, not_from_Decides}
-use Rattle.office_db.proofs.found_offices.Declarations.{in_own_tree, in_tree, never, tree_is}
+use Rattle.office_db.proofs.found_offices.Among.{in_own_tree, in_tree, tree_is}
+use Rattle.office_db.proofs.found_offices.Deciding.{never}
 use Rattle.office_db.proofs.loading.layout.is_this_table.Goals as goal
 
 pub returns : goal.returns

@@ -3,7 +3,7 @@ use Rattle.std.proofs.lemmas.Result.{IfOk-weaker, on_ok_weaker}
 use Rattle.sqlite.specs.Held.{state}
 use Rattle.office_schema.specs.declared.tables.layouts.Layout.TheVariants.{Own}
 use Rattle.office_schema.proofs.statements.Crashes.{old_or_weaker}
-use Rattle.office_migration.specs.Renewed.{HoldsSameOffice}
+use Rattle.office_migration.specs.Renewed.{CommitsRenewed}
 use Rattle.office_store.proofs.desk.adopting.ensure_own_layout.Goals as goal
 
 pub returns-in_default : goal.returns-in_default
@@ -18,6 +18,6 @@ returns-in_default g c = record {
   undone = c.renew_office.ensures.undone;
   crash =
       let before = (state g.S.Store c.args.conn.now).now in
-      old_or_weaker (HoldsSameOffice c.args.found.layout before) (λ after. (c.args.found.layout ≢ Own) × HoldsSameOffice c.args.found.layout before after)
+      old_or_weaker (CommitsRenewed c.args.found.layout before) (λ after. (c.args.found.layout ≢ Own) × CommitsRenewed c.args.found.layout before after)
       (state g.S.Store c.args.conn.now) (state g.S.Store c.renew_office.new.conn) (λ clean after holds. (c.in_default.not-Own, holds)) c.renew_office.ensures.crash;
 }

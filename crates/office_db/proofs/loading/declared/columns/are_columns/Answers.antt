@@ -1,7 +1,7 @@
 use Rattle.std.proofs.Common.{sym}
 use Rattle.office_db.specs.loading.Inner.Declared.{is_column}
 use Rattle.office_db.proofs.found_offices.Passing.{fails_at, passes_at}
-use Rattle.office_db.proofs.loading.declared.are_columns.Goals as goal
+use Rattle.office_db.proofs.loading.declared.columns.are_columns.Goals as goal
 
 pub returns-then-not-is_column : goal.returns-then-not-is_column
 returns-then-not-is_column c =

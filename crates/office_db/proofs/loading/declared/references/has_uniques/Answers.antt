@@ -2,7 +2,7 @@ use Rattle.std.proofs.Common.{sym, ap, map, ◌∙◌}
 use Rattle.office_db.specs.loading.Inner.Declared.{are_places}
 use Rattle.office_db.specs.loading.Inner.Lists.{pass_all}
 use Rattle.office_db.proofs.found_offices.Passing.{fails_at, passes_at}
-use Rattle.office_db.proofs.loading.declared.has_uniques.Goals as goal
+use Rattle.office_db.proofs.loading.declared.references.has_uniques.Goals as goal
 
 pub returns-then-not-are_places : goal.returns-then-not-are_places
 returns-then-not-are_places c =

@@ -1,9 +1,9 @@
 use Rattle.std.proofs.Common.{sym, ◌<◌, [], length, get_or, arith}
 use Rattle.std.proofs.lemmas.Bool.Decides.{Decides-eqb}
 use Rattle.office_db.specs.loading.Inner.Declared.{is_plain}
-use Rattle.office_db.proofs.found_offices.Declarations.{no_digits, same_default}
+use Rattle.office_db.proofs.found_offices.Deciding.{no_digits, same_default}
 use Rattle.office_db.proofs.found_offices.Passing.{fails_at, passes_at}
-use Rattle.office_db.proofs.loading.declared.are_plain.Goals as goal
+use Rattle.office_db.proofs.loading.declared.references.are_plain.Goals as goal
 
 pub returns-then-orders-place-ne0 : goal.returns-then-orders-place-ne0
 returns-then-orders-place-ne0 c =

@@ -2,7 +2,7 @@ use Rattle.std.proofs.Common.{◌≡◌, Decides, ap₂, subst, List, ◌∙◌}
 use Rattle.sqlite_sql.specs.Term.{Term}
 use Rattle.sqlite_schema.specs.Code.{terms_in}
 use Rattle.office_db.specs.loading.Inner.Declared.{checks_of}
-use Rattle.office_db.proofs.loading.declared.has_checks.Goals as goal
+use Rattle.office_db.proofs.loading.declared.checks.has_checks.Goals as goal
 
 pub returns : goal.returns
 returns c =

@@ -1,7 +1,7 @@
 use Rattle.std.proofs.Common.{rules, arith, sym, ◌∙◌, ◌≢◌, ◌<◌, length}
-use Rattle.office_db.proofs.found_offices.Declarations.{same_default}
+use Rattle.office_db.proofs.found_offices.Deciding.{same_default}
 use Rattle.office_db.proofs.found_offices.Operands.{other_operator}
-use Rattle.office_db.proofs.loading.declared.operands.Goals as goal
+use Rattle.office_db.proofs.loading.declared.checks.operands.Goals as goal
 
 pub returns-then-ne-clause-other : goal.returns-then-ne-clause-other
 returns-then-ne-clause-other c none a b e =

@@ -1,7 +1,7 @@
 use Rattle.std.proofs.Common.{◌≡◌, drop, length, map}
 use Rattle.office_db.specs.loading.Inner.Declared.{are_places}
 use Rattle.office_db.specs.loading.Inner.Lists.{pass_all}
-use Rattle.office_db.proofs.loading.declared.has_uniques.Given as goal
+use Rattle.office_db.proofs.loading.declared.references.has_uniques.Given as goal
 
 -- The rest of the lists passes if and only if the whole lists pass.
 abbrev pub invariant-loop-place : goal.invariant-loop-place

@@ -1,7 +1,7 @@
 use Rattle.std.proofs.Common.{◌≡◌, drop, length, map}
 use Rattle.office_db.specs.loading.Inner.Declared.{is_reference}
 use Rattle.office_db.specs.loading.Inner.Lists.{pass_all}
-use Rattle.office_db.proofs.loading.declared.are_references.Given as goal
+use Rattle.office_db.proofs.loading.declared.references.are_references.Given as goal
 
 -- The rest of the lists passes if and only if the whole lists pass.
 abbrev pub invariant-loop-place : goal.invariant-loop-place

@@ -1,7 +1,7 @@
 use Rattle.std.proofs.Common.{sym}
 use Rattle.office_db.specs.loading.Inner.Declared.{is_reference}
 use Rattle.office_db.proofs.found_offices.Passing.{fails_at, passes_at}
-use Rattle.office_db.proofs.loading.declared.are_references.Goals as goal
+use Rattle.office_db.proofs.loading.declared.references.are_references.Goals as goal
 
 pub returns-then-not-is_reference : goal.returns-then-not-is_reference
 returns-then-not-is_reference c =

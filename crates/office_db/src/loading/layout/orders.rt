@@ -1,0 +1,90 @@
+//! The tables and the indexes of each order in which the tables of an office may have been created. The versions of an
+//! order have the first of them.
+use crate::loading::declared::OfficeTable;
+
+// Each table, with its tree.
+
+pub(crate) const OWN_TABLES: [(OfficeTable, u32); 10] = [
+    (OfficeTable::Rooms, 0),
+    (OfficeTable::People, 2),
+    (OfficeTable::Rounds, 6),
+    (OfficeTable::Moves, 7),
+    (OfficeTable::Lists, 9),
+    (OfficeTable::Grades, 11),
+    (OfficeTable::Words, 13),
+    (OfficeTable::Results, 15),
+    (OfficeTable::Choices, 18),
+    (OfficeTable::Leavers, 21),
+];
+
+pub(crate) const DOCUMENTED_TABLES: [(OfficeTable, u32); 10] = [
+    (OfficeTable::Rooms, 0),
+    (OfficeTable::People, 2),
+    (OfficeTable::Rounds, 6),
+    (OfficeTable::Choices, 7),
+    (OfficeTable::Words, 10),
+    (OfficeTable::Results, 12),
+    (OfficeTable::Moves, 15),
+    (OfficeTable::Lists, 17),
+    (OfficeTable::Grades, 19),
+    (OfficeTable::Leavers, 21),
+];
+
+pub(crate) const EARLIER_TABLES: [(OfficeTable, u32); 8] = [
+    (OfficeTable::Rooms, 0),
+    (OfficeTable::People, 2),
+    (OfficeTable::Rounds, 6),
+    (OfficeTable::Moves, 7),
+    (OfficeTable::Lists, 9),
+    (OfficeTable::Words, 11),
+    (OfficeTable::Results, 13),
+    (OfficeTable::Choices, 16),
+];
+
+// Each index, with its name, its tree, the tree of its table, and its columns.
+
+pub(crate) const OWN_INDEXES: [(&str, u32, u32, &[usize]); 13] = [
+    ("sqlite_autoindex_room_1", 1, 0, &[1]),
+    ("sqlite_autoindex_person_1", 3, 2, &[1]),
+    ("sqlite_autoindex_person_2", 4, 2, &[3]),
+    ("sqlite_autoindex_person_3", 5, 2, &[4]),
+    ("sqlite_autoindex_move_1", 8, 7, &[1, 2]),
+    ("sqlite_autoindex_list_1", 10, 9, &[1]),
+    ("sqlite_autoindex_grade_1", 12, 11, &[1]),
+    ("sqlite_autoindex_word_1", 14, 13, &[1]),
+    ("sqlite_autoindex_result_1", 16, 15, &[1]),
+    ("sqlite_autoindex_result_2", 17, 15, &[2]),
+    ("sqlite_autoindex_choice_1", 19, 18, &[1, 2]),
+    ("sqlite_autoindex_choice_2", 20, 18, &[1, 3]),
+    ("sqlite_autoindex_going_1", 22, 21, &[1]),
+];
+
+pub(crate) const DOCUMENTED_INDEXES: [(&str, u32, u32, &[usize]); 13] = [
+    ("sqlite_autoindex_room_1", 1, 0, &[1]),
+    ("sqlite_autoindex_person_1", 3, 2, &[1]),
+    ("sqlite_autoindex_person_2", 4, 2, &[3]),
+    ("sqlite_autoindex_person_3", 5, 2, &[4]),
+    ("sqlite_autoindex_choice_1", 8, 7, &[1, 2]),
+    ("sqlite_autoindex_choice_2", 9, 7, &[1, 3]),
+    ("sqlite_autoindex_word_1", 11, 10, &[1]),
+    ("sqlite_autoindex_result_1", 13, 12, &[1]),
+    ("sqlite_autoindex_result_2", 14, 12, &[2]),
+    ("sqlite_autoindex_move_1", 16, 15, &[1, 2]),
+    ("sqlite_autoindex_list_1", 18, 17, &[1]),
+    ("sqlite_autoindex_grade_1", 20, 19, &[1]),
+    ("sqlite_autoindex_going_1", 22, 21, &[1]),
+];
+
+pub(crate) const EARLIER_INDEXES: [(&str, u32, u32, &[usize]); 11] = [
+    ("sqlite_autoindex_room_1", 1, 0, &[1]),
+    ("sqlite_autoindex_person_1", 3, 2, &[1]),
+    ("sqlite_autoindex_person_2", 4, 2, &[3]),
+    ("sqlite_autoindex_person_3", 5, 2, &[4]),
+    ("sqlite_autoindex_move_1", 8, 7, &[1, 2]),
+    ("sqlite_autoindex_list_1", 10, 9, &[1]),
+    ("sqlite_autoindex_word_1", 12, 11, &[1]),
+    ("sqlite_autoindex_result_1", 14, 13, &[1]),
+    ("sqlite_autoindex_result_2", 15, 13, &[2]),
+    ("sqlite_autoindex_choice_1", 17, 16, &[1, 2]),
+    ("sqlite_autoindex_choice_2", 18, 16, &[1, 3]),
+];
