@@ -13,7 +13,7 @@ from dataclasses import dataclass, field
 from multiprocessing.pool import ThreadPool
 from pathlib import Path
 
-# What a command without lines of input is given: only a rehearsal reads it.
+# What a command without lines of input is given: only `rehearse` and `lines` read it.
 UNREAD = "room LEFT\n"
 # The files next to a session that its commands may read.
 READ = (".csv", ".out", ".sql", ".txt")

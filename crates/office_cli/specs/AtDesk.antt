@@ -6,13 +6,15 @@ use Rattle.sqlite_trees.specs.declared.store.Store.{Ghosts}
 use Rattle.office_cli.specs.DeskFaults.{RefusesDesk}
 use Rattle.office_cli.specs.ListAccess.{ImportsPath, ListAccess}
 use Rattle.office_cli.specs.Actions.{Action}
-use Rattle.office_cli.specs.Actions.Action.{does, imports, exports, serves}
+use Rattle.office_cli.specs.Actions.Action.{does, does_lines, imports, exports, serves}
 use Rattle.office_state.specs.declared.office.Office.{Office}
 use Rattle.office_store.specs.exports.Ending.{EndsBetween, PutsCount, PutsPrefix, has_failed, sent_of}
 use Rattle.office_store.specs.exports.Exports.{exported}
 use Rattle.office_store.specs.declared.exports.ending.ExportEnd.{ExportEnd}
 use Rattle.office_lines.specs.Printing.{Prints}
+use Rattle.office_lines.specs.Rehearsals.{Rehearses}
 use Rattle.office_lines.specs.SingleLines.{DoesWords}
+use Rattle.office_lines.specs.declared.ending.Ending.{Ending}
 use Rattle.office_lists.specs.Exports.{export_bytes, header_of}
 use Rattle.office_lists.specs.Records.{Record}
 use Rattle.office_lists.specs.declared.exports.ExportKind.{ExportKind}
@@ -24,7 +26,7 @@ use Rattle.office_schema.specs.tables.Steps.{Follows}
 use Rattle.office_lines.specs.render.OutputLines.{line_of}
 use Rattle.resident_http.specs.server.Network.{Network}
 use Rattle.resident_http.specs.server.Serving.{ServesPort}
-use Rattle.room_types.specs.Streams.{Output}
+use Rattle.room_types.specs.Streams.{Input, Output}
 use Rattle.room_types.specs.Texts.{Text}
 use Rattle.room_types.specs.declared.kinds.ListKind.{ListKind}
 
@@ -64,6 +66,17 @@ module _ {S : Type 0} (g : Ghosts S) where
     pub done : HasCleanDisk (state g new.conn) → (office : Office) → Represents g old office
         → (next : Office) × DoesWords HandlesLawfully office words status next out out' × Represents g new next
 
+  -- The desk handles the lines of the input as in a rehearsal. So a byte of an answer is written only once its line has
+  -- been handled, and what the line changed is committed (`committed` of `HandlesAt`). If the disk returned what was
+  -- written to it, the office that the desk represents may handle the lines in the same way. The desk then represents
+  -- the office after the handled lines, however the input and the output ended.
+  pub record HandlesLines (old new : DeskState S) (status : ℕ) (input input' : Input) (out out' : Output) : Type 0 where
+    pub ending : Ending
+    pub follows : Follows (state g old.conn) (state g new.conn)
+    pub handled : Rehearses (HandlesAt g) ending status old new input input' out out'
+    pub done : HasCleanDisk (state g new.conn) → (office : Office) → Represents g old office
+        → (next : Office) × Rehearses HandlesLawfully ending status office next input input' out out' × Represents g new next
+
   -- The desk imports the list at a path. If the disk returned what was written to it, the office that the desk
   -- represents may import the list in the same way. The desk then represents the office after this import.
   pub record ImportsDesk {L : Type 0} (list_access : ListAccess L) (lists : L) (old : DeskState S) (lists' : L) (new : DeskState S) (kind : ListKind) (label path : Text) (status : ℕ) (out out' : Output)
@@ -82,13 +95,16 @@ module _ {S : Type 0} (g : Ghosts S) where
         → SendsExport (export_bytes (exported kind office)) status out out' × Represents g new office
 
   module _ {L P : Type 0} (list_access : ListAccess L) (network : Network P) where
-    -- The action is performed at the desk. Only an import opens a list, and only serving listens on a port.
-    abbrev pub Performs : Action → L → P → DeskState S → ℕ → L → P → DeskState S → Output → Output → Type 0
-    Performs (does words) lists ports old status lists' ports' new out out' =
-        HandlesWords old new words status out out' × (lists' ≡ lists) × (ports' ≡ ports)
-    Performs (imports kind label list) lists ports old status lists' ports' new out out' =
-        ImportsDesk list_access lists old lists' new kind label list status out out' × (ports' ≡ ports)
-    Performs (exports kind) lists ports old status lists' ports' new out out' =
-        ExportsDesk old new kind status out out' × (lists' ≡ lists) × (ports' ≡ ports)
-    Performs (serves port count) lists ports old status lists' ports' new out out' =
-        ServesPort g network ports old ports' new port count status out out' × (lists' ≡ lists)
+    -- The action is performed at the desk. Only an import opens a list, only serving listens on a port, and only
+    -- `does_lines` reads the input.
+    abbrev pub Performs : Action → L → P → DeskState S → ℕ → L → P → DeskState S → Input → Input → Output → Output → Type 0
+    Performs (does words) lists ports old status lists' ports' new input input' out out' =
+        HandlesWords old new words status out out' × (lists' ≡ lists) × (ports' ≡ ports) × (input' ≡ input)
+    Performs does_lines lists ports old status lists' ports' new input input' out out' =
+        HandlesLines old new status input input' out out' × (lists' ≡ lists) × (ports' ≡ ports)
+    Performs (imports kind label list) lists ports old status lists' ports' new input input' out out' =
+        ImportsDesk list_access lists old lists' new kind label list status out out' × (ports' ≡ ports) × (input' ≡ input)
+    Performs (exports kind) lists ports old status lists' ports' new input input' out out' =
+        ExportsDesk old new kind status out out' × (lists' ≡ lists) × (ports' ≡ ports) × (input' ≡ input)
+    Performs (serves port count) lists ports old status lists' ports' new input input' out out' =
+        ServesPort g network ports old ports' new port count status out out' × (lists' ≡ lists) × (input' ≡ input)

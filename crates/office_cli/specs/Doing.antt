@@ -44,8 +44,7 @@ module _ {F S L P : Type 0} (access : FileAccess F S) (list_access : ListAccess 
   DoesLine (Some (migrates path)) files lists ports status files' lists' ports' input input' out out' error error' =
       MigratesInFile access files path status files' out out' × (error' ≡ error) × (input' ≡ input) × (lists' ≡ lists) × (ports' ≡ ports)
   DoesLine (Some (performs path action)) files lists ports status files' lists' ports' input input' out out' error error' =
-      PerformsInFile access list_access network files path action lists ports status files' lists' ports' out out' × (error' ≡ error)
-      × (input' ≡ input)
+      PerformsInFile access list_access network files path action lists ports status files' lists' ports' input input' out out' × (error' ≡ error)
   DoesLine (Some rehearses) files lists ports status files' lists' ports' input input' out out' error error' =
       RehearsesAnew status input input' out out' × (error' ≡ error) × (files' ≡ files) × (lists' ≡ lists) × (ports' ≡ ports)
   DoesLine (Some (prints seed count)) files lists ports status files' lists' ports' input input' out out' error error' =

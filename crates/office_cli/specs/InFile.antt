@@ -17,7 +17,7 @@ use Rattle.office_store.specs.Desk.{DeskState, Shows}
 use Rattle.office_store.specs.declared.desk.faults.DeskFault.{DeskFault}
 use Rattle.office_lines.specs.render.OutputLines.{line_of}
 use Rattle.resident_http.specs.server.Network.{Network}
-use Rattle.room_types.specs.Streams.{Output}
+use Rattle.room_types.specs.Streams.{Input, Output}
 use Rattle.room_types.specs.Texts.{Text}
 
 module _ {F S : Type 0} (access : FileAccess F S) where
@@ -71,8 +71,9 @@ module _ {F S : Type 0} (access : FileAccess F S) where
     pub closed : access.closes between last.conn files'
 
   -- Either the program performs the action at the desk of the file's office. Or the file gives no desk: then the
-  -- program prints the reason, opens no list, and listens on no port.
-  abbrev pub PerformsInFile : {L P : Type 0} → ListAccess L → Network P → F → Text → Action → L → P → ℕ → F → L → P → Output → Output → Type 0
-  PerformsInFile list_access network files path action lists ports status files' lists' ports' out out' =
-      AtFound (λ desk last. Performs access.base list_access network action lists ports desk status lists' ports' last out out') files path files'
-      ⊎ ((fault : DeskFault) × IsFileFault access files path (Err fault) files' × RefusesDesk fault status out out' × (lists' ≡ lists) × (ports' ≡ ports))
+  -- program prints the reason, opens no list, listens on no port, and reads no input.
+  abbrev pub PerformsInFile : {L P : Type 0} → ListAccess L → Network P → F → Text → Action → L → P → ℕ → F → L → P → Input → Input → Output → Output → Type 0
+  PerformsInFile list_access network files path action lists ports status files' lists' ports' input input' out out' =
+      AtFound (λ desk last. Performs access.base list_access network action lists ports desk status lists' ports' last input input' out out') files path files'
+      ⊎ ((fault : DeskFault) × IsFileFault access files path (Err fault) files' × RefusesDesk fault status out out' × (lists' ≡ lists) × (ports' ≡ ports)
+      × (input' ≡ input))

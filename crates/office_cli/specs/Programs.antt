@@ -5,7 +5,7 @@ use Rattle.std.specs.Str.Parse.{digits_value, without_leading_plus}
 use Rattle.clap.specs.ValueTests.{is_unsigned_in}
 use Rattle.clap.specs.Words.{Kinds, Row, all_of, fault_of, first_of, one_of, subcommand_of}
 use Rattle.office_cli.specs.Actions.{Action}
-use Rattle.office_cli.specs.Actions.Action.{does, imports, exports, serves}
+use Rattle.office_cli.specs.Actions.Action.{does, does_lines, imports, exports, serves}
 use Rattle.office_cli.specs.declared.usage.Program.{Program}
 use Rattle.office_cli.specs.declared.usage.Program.TheVariants as program
 use Rattle.office_cli.specs.Seeds.{parse_seed}
@@ -34,6 +34,7 @@ pub data Line : Type 0 where
 abbrev pub line_of : Program → Line
 line_of (program.New path) = makes path.now
 line_of (program.Do path words) = performs path.now (does (map (λ word. word.now) words.items))
+line_of (program.Lines path) = performs path.now does_lines
 line_of program.Rehearse = rehearses
 line_of (program.Words seed count) = prints seed count
 line_of (program.Import path kind label list) = performs path.now (imports kind label list.now)
@@ -58,6 +59,10 @@ new_program rows = option_map makes (first_of (codes "db") rows)
 -- the subcommand `do --db FILE WORD..` with the arguments in these rows
 abbrev pub do_program : List Row → Option Line
 do_program rows = option_and_then (λ path. option_map (λ words. performs path (does words)) (all_of (codes "word") rows)) (first_of (codes "db") rows)
+
+-- the subcommand `lines --db FILE` with the arguments in these rows
+abbrev pub lines_program : List Row → Option Line
+lines_program rows = option_map (λ path. performs path does_lines) (first_of (codes "db") rows)
 
 -- the subcommand `words --seed HEX --count N` with the arguments in these rows
 abbrev pub words_program : List Row → Option Line
@@ -114,6 +119,7 @@ migrate_program rows = option_map migrates (first_of (codes "db") rows)
 abbrev pub entered_line : Text × List Row → Option Line
 entered_line (name, rows) = if bytes_eq name (codes "new") then new_program rows
     else if bytes_eq name (codes "do") then do_program rows
+    else if bytes_eq name (codes "lines") then lines_program rows
     else if bytes_eq name (codes "rehearse") then Some rehearses
     else if bytes_eq name (codes "words") then words_program rows
     else if bytes_eq name (codes "import") then import_program rows

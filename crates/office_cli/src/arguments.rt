@@ -2,7 +2,7 @@
 ghost use Rattle.std.specs.Prelude.{◌≡◌, ◌≢◌, ◌<◌, ◌≤◌, IfErr, IfSome, length, map, option_map};
 ghost use Rattle.clap.specs.Words.{all_of, first_of, found_of, kind_of, rows_of};
 ghost use Rattle.office_cli.specs.Programs.{do_program, entered_line, export_program, import_program, export_kind_named, label_given, line_of};
-ghost use Rattle.office_cli.specs.Programs.{list_kind_given, migrate_program, new_program, number_of, program_of, serve_program, words_program};
+ghost use Rattle.office_cli.specs.Programs.{lines_program, list_kind_given, migrate_program, new_program, number_of, program_of, serve_program, words_program};
 ghost use Rattle.office_lines.specs.parse.Understanding.{Understands, UnderstandsAs};
 
 use crate::seeds::parse_seed;
@@ -53,6 +53,7 @@ fn entered_line<'a>(
     match name {
         "new" => understood(new_program(entries)),
         "do" => do_program(alloc, entries),
+        "lines" => understood(lines_program(entries)),
         "rehearse" => Ok(Program::Rehearse),
         "words" => understood(words_program(entries)),
         "import" => import_program(alloc, entries),
@@ -85,6 +86,13 @@ fn do_program<'a>(alloc: Global, entries: &ArgMatches<'a>) -> Result<Program<'a>
     let words = texts(entries, "word").ok_or(WordFault::NotUnderstood)?;
     let words = words.to_vec(alloc)?;
     Ok(Program::Do { database, words })
+}
+
+fn lines_program<'a>(entries: &ArgMatches<'a>) -> Option<Program<'a>>
+    ensures { option_map line_of result ≡ lines_program (rows_of (found_of entries.now)) }
+{
+    let database = text(entries, "db")?;
+    Some(Program::Lines { database })
 }
 
 fn words_program<'a>(entries: &ArgMatches<'a>) -> Option<Program<'a>>

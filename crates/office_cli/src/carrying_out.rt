@@ -172,7 +172,11 @@ pub fn carry_out_from<
         Ok(Program::Migrate { database }) => migrate_in_file(alloc, files, database, output),
         Ok(Program::Do { database, words }) => {
             let line = Action::Line(words);
-            with_office(alloc, files, database, line, lists, ports, output)
+            with_office(alloc, files, database, line, lists, ports, input, output)
+        }
+        Ok(Program::Lines { database }) => {
+            let lines = Action::Lines;
+            with_office(alloc, files, database, lines, lists, ports, input, output)
         }
         Ok(
             Program::Import {
@@ -183,11 +187,11 @@ pub fn carry_out_from<
             },
         ) => {
             let import = Action::Import { kind, label, list };
-            with_office(alloc, files, database, import, lists, ports, output)
+            with_office(alloc, files, database, import, lists, ports, input, output)
         }
         Ok(Program::Export { database, kind }) => {
             let export = Action::Export(kind);
-            with_office(alloc, files, database, export, lists, ports, output)
+            with_office(alloc, files, database, export, lists, ports, input, output)
         }
         Ok(
             Program::Serve {
@@ -197,7 +201,7 @@ pub fn carry_out_from<
             },
         ) => {
             let serve = Action::Serve { port, count };
-            with_office(alloc, files, database, serve, lists, ports, output)
+            with_office(alloc, files, database, serve, lists, ports, input, output)
         }
         Ok(Program::Rehearse) => rehearse_anew(alloc, input, output),
         Ok(Program::Words { seed, count }) => match words_text(alloc, seed, count as usize) {

@@ -1,7 +1,7 @@
 //! The subcommands of the program, as `clap` parses them.
 ghost use Rattle.std.specs.Prelude.{◌≡◌, IfOk, false};
 ghost use Rattle.clap.specs.Words.{app_of, rule_of};
-ghost use Rattle.office_cli.specs.Usage.{IsCommand, do_usage, export_usage, import_usage, new_usage};
+ghost use Rattle.office_cli.specs.Usage.{IsCommand, do_usage, export_usage, import_usage, lines_usage, new_usage};
 ghost use Rattle.office_cli.specs.Usage.{number as number_rule, operand as operand_rule, option as option_rule};
 ghost use Rattle.office_cli.specs.Usage.{migrate_usage, plain_usage, serve_usage, usage, words_usage};
 ghost use Rattle.office_cli.specs.Usage.{IsLocal, with_file_usages, with_line_usages, with_usage};
@@ -23,6 +23,10 @@ pub enum Program<'a> {
     Do {
         database: &'a str,
         words: Vec<&'a str>,
+    },
+    /// Lets the office in the file at this path handle the lines of standard input.
+    Lines {
+        database: &'a str,
     },
     /// Lets an empty office handle the lines of standard input.
     Rehearse,
@@ -73,12 +77,13 @@ pub fn rooms_command<'a>(alloc: Global) -> Result<Command<'a>, AllocError>
     with_command(files, migrate_command(alloc)?)
 }
 
-// Adds the subcommands `new`, `do`, `rehearse` and `words`.
+// Adds the subcommands `new`, `do`, `lines`, `rehearse` and `words`.
 fn add_line_commands<'a>(alloc: Global, command: Command<'a>) -> Result<Command<'a>, AllocError>
     ensures { IfOk result (λ added. app_of added ≡ with_line_usages (app_of command.entry)) }
 {
     let command = with_command(command, new_command(alloc)?)?;
     let command = with_command(command, do_command(alloc)?)?;
+    let command = with_command(command, lines_command(alloc)?)?;
     let command = with_command(command, Command::new(alloc, "rehearse"))?;
     with_command(command, words_command(alloc)?)
 }
@@ -118,6 +123,13 @@ fn do_command<'a>(alloc: Global) -> Result<Command<'a>, AllocError>
     Command::new(alloc, "do")
         .arg(option(alloc, "db"))?
         .arg(words)
+}
+
+// Returns the command `lines --db FILE`.
+fn lines_command<'a>(alloc: Global) -> Result<Command<'a>, AllocError>
+    ensures { IfOk result (IsCommand lines_usage) }
+{
+    Command::new(alloc, "lines").arg(option(alloc, "db"))
 }
 
 // Returns the command `words --seed HEX --count N`.

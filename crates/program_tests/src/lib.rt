@@ -21,6 +21,8 @@ mod lines;
 #[cfg(test)]
 mod lines_at_desk;
 #[cfg(test)]
+mod lines_in_file;
+#[cfg(test)]
 mod migrate_lines;
 #[cfg(test)]
 mod one_file;

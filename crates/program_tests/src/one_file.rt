@@ -17,6 +17,8 @@ use std::test::Fail;
 
 const OFFICE: &str = "office.db";
 
+const INPUT: &str = "room H1\nroom L1\n";
+
 // One file, which the first call of `open` creates. `connection` is `None` while the file is open. The file counts
 // how often it was opened and closed.
 #[derive(Drop)]
@@ -157,12 +159,14 @@ impl Ports for OnePort {
     }
 }
 
-// Runs of the program in turn. Each has its status, its output, and how often the program opens and closes the file.
-const LINES: [(&[&str], u8, &str, u32); 17] = [
+// Runs of the program in turn, each with `INPUT` as its standard input. Each has its status, its output, and how often
+// the program opens and closes the file.
+const LINES: [(&[&str], u8, &str, u32); 20] = [
     (&["do", "--db", OFFICE, "rooms"], 3, "unavailable\n", 0),
     (&["new", "--db", "other.db"], 3, "unavailable\n", 0),
     (&["export", "--db", OFFICE, "rooms"], 3, "unavailable\n", 0),
     (&["migrate", "--db", OFFICE], 3, "unavailable\n", 0),
+    (&["lines", "--db", OFFICE], 3, "unavailable\n", 0),
     (&["new", "--db", OFFICE], 0, "ok\n", 1),
     (&["new", "--db", OFFICE], 1, "refused 23 AlreadyThere\n", 1),
     (
@@ -209,8 +213,20 @@ const LINES: [(&[&str], u8, &str, u32); 17] = [
         "room,state,tenant\nH1,free,\nH2,free,\nV,free,\n",
         1,
     ),
+    (
+        &["lines", "--db", OFFICE],
+        1,
+        "refused 4 DuplicateRoom\nok\n",
+        1,
+    ),
+    (
+        &["export", "--db", OFFICE, "rooms"],
+        0,
+        "room,state,tenant\nH1,free,\nH2,free,\nL1,free,\nV,free,\n",
+        1,
+    ),
     (&["do", "--db", "other.db", "rooms"], 3, "unavailable\n", 0),
-    (&["rehearse"], 0, "ok\n", 0),
+    (&["rehearse"], 0, "ok\nok\n", 0),
 ];
 
 // Runs the program and returns its status and its output.
@@ -221,7 +237,7 @@ fn run_program(
     lists: &mut OneList,
     ports: &mut OnePort,
 ) -> (u8, Vec<u8>) {
-    let mut input = Watched::new(b"room H1\n".as_slice());
+    let mut input = Watched::new(INPUT.as_bytes());
     let mut output = Watched::new(Vec::new(alloc));
     let mut error = Watched::new(Vec::new(alloc));
     let status = carry_out_from(

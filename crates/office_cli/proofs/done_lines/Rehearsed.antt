@@ -3,6 +3,7 @@ use Rattle.std.proofs.Common.{ℕ, List, [], ◌∷◌, refl, sym, subst}
 use Rattle.sqlite.specs.Held.{state}
 use Rattle.sqlite.specs.State.{HasCleanDisk}
 use Rattle.sqlite_trees.specs.declared.store.Store.{Ghosts}
+use Rattle.office_cli.specs.AtDesk.{HandlesLines}
 use Rattle.office_lines.proofs.handled.Steps.{answers_shown}
 use Rattle.office_lines.proofs.rehearsals.Simulations.{rehearsal_of_runs, run_shown}
 use Rattle.office_lines.specs.Rehearsals.{Rehearses}
@@ -51,3 +52,12 @@ module _ {S : Type 0} (g : Ghosts S) where
     rehearsal_represented h clean =
         rehearsal_of_runs (HandlesAt g) HandlesLawfully (Represents g) old new (λ lines all run. run_represented old new lines all run clean)
         ending status input input' out out' h
+
+    -- the desk handled the lines of the input
+    pub handles_lines : Rehearses (HandlesAt g) ending status old new input input' out out' → HandlesLines g old new status input input' out out'
+    handles_lines h = record {
+      ending = ending;
+      follows = rehearsal_follows h;
+      handled = h;
+      done = rehearsal_represented h;
+    }
