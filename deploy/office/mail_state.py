@@ -77,7 +77,8 @@ class State:
             return None
         lost = run.state == RUNNING and not self.sender.is_at_work()
         state, why = (PAUSED, UNWRITTEN) if lost else (run.state, run.why)
-        return {"kind": run.kind, "round": run.round, "who": run.who, "state": state, "at": run.at,
+        waits = [one for one, (was, *_) in self.book.states(run.kind, run.round, run.turn).items() if was == WAITING]
+        return {"kind": run.kind, "round": run.round, "who": run.who, "state": state, "at": run.at, "waits": waits,
                 "why": self.stopped(why, run.kind, run.round), **self.sender.count(run)}
 
     def stopped(self, why: str, kind: str, number: int) -> str:

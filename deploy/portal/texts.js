@@ -232,7 +232,7 @@ export const TEXTS = {
       RoomShut: "A room on your list has been shut. Remove the marked rooms and hand it in again.",
       Unavailable: "The server can't do this at the moment. Please try again in a few minutes.",
       400: "The server did not understand this page. Nothing was changed. Please load the page again.",
-      401: "Your sign-in with your college account has ended. Please sign in again.",
+      401: "You are not signed in with your college account, or no longer. Please sign in again.",
       403: "This key is not known. Please look at it again, or ask the accommodation office.",
       NoPerson: "Your college account is with nobody in the register. Please sign in with your key, or ask the accommodation "
         + "office.",
@@ -484,7 +484,7 @@ export const TEXTS = {
         + "Liste erneut ab.",
       Unavailable: "Der Server kann das im Augenblick nicht. Bitte versuchen Sie es in ein paar Minuten noch einmal.",
       400: "Der Server hat diese Seite nicht verstanden. Es wurde nichts geändert. Bitte laden Sie die Seite neu.",
-      401: "Ihre Anmeldung mit dem Konto der Hochschule ist zu Ende. Bitte melden Sie sich erneut an.",
+      401: "Sie sind nicht oder nicht mehr mit dem Konto der Hochschule angemeldet. Bitte melden Sie sich erneut an.",
       403: "Dieser Zugangscode ist nicht bekannt. Bitte prüfen Sie ihn, oder fragen Sie die Wohnheimverwaltung.",
       NoPerson: "Ihr Konto der Hochschule gehört zu niemandem im Verzeichnis. Bitte melden Sie sich mit Ihrem Zugangscode an, "
         + "oder fragen Sie die Wohnheimverwaltung.",

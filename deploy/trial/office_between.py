@@ -90,6 +90,10 @@ def try_settling(stand, page, server):
     shown = flat(page.get(FORM)[2])
     check("once it is settled the page says that they cannot be sent", "what waits cannot be sent any more" in shown
           and "Nothing is lost" not in shown, shown)
+    shown = page.get(FORM)[2]
+    names = shown.partition("Have not got it: 3")[2].partition("</details>")[0]
+    check("and to whom, and offers nothing but to give them up", all(f"Person {one}" in names for one in ("T01", "T03", "T04"))
+          and 'value="give-up"' in shown and 'value="go-on"' not in shown, shown)
 
 
 def try_strangers(stand, page):

@@ -101,7 +101,7 @@ def try_people_list(stand, page):
     rows = [[person, f"Person {person}", key_of(person), "", mail_of(person)] for person in PEOPLE[:8]]
     rows[1][1], rows[6][4], rows[7][4] = NAME, "t07 at college.example", "T01.Resident@college.example"
     shown = bring_in(page, "people", "people-1", ["person", "name", "key", "home", "E-Mail"], rows)
-    said = ("mail address, kept beside the register", "7 mail addresses come in with the list", "1 line without a good address",
+    said = ("mail address, kept beside the register", "7 mail addresses come in with the list", "1 line with a fault",
             "t07 at college.example", "more than once: T01 T08")
     missing = [one for one in said if one not in " ".join(shown.split())]
     check("the page says which addresses come in, and which do not", not missing, (missing, shown))
@@ -222,10 +222,11 @@ def try_languages(stand, page):
 
 def try_language_list(stand, page):
     """Languages come in with a list of addresses."""
-    rows = f"T09,{mail_of('T09')},Deutsch\nT10,{mail_of('T10')},\nT11,,de\nT12,{mail_of('T12')},xx\n"
+    rows = f"T09,{mail_of('T09')},Deutsch\nT10,{mail_of('T10')},\nT11,,de\nT12,{mail_of('T12')},xx\nT08,,yy\n"
     place, shown = send_file(page, f"person,email,language\n{rows}".encode())
     said = ("0 people get an address, and 0 get another one", "2 people get another language", "There is no such language here")
     check("a column of languages is understood", all(one in " ".join(shown.split()) for one in said), shown)
+    check("and each that is none is shown", all(f">{one}</code>" in shown for one in ("xx", "yy")), shown)
     page.form(f"{FORM}/addresses/bring", {"held": place.rpartition("/")[2]}, page=place)
     spoken = stand.ask(ask="languages")["residents"]
     check("and then they are in", (spoken.get("T09"), spoken.get("T11"), "T10" in spoken) == ("de", "de", False), spoken)

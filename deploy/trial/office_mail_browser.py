@@ -30,7 +30,7 @@ def bring_people_in(clerk, college):
     rows[4][4] = f"a.rather-long-name.of-a-resident-{LONG.lower()}@students.accommodation.college.example"
     rows[6][4], rows[9][4] = "t07 at college.example", ""
     clerk.try_list("people", college.write("people.csv", ["person", "name", "key", "home", "E-Mail"], rows))
-    clerk.reads("22 mail addresses come in with the list.", "1 line without a good address")
+    clerk.reads("22 mail addresses come in with the list.", "1 line with a fault")
     clerk.reads("mail address, kept beside the register")
     clerk.shot("40-mail-people")
     clerk.tick()

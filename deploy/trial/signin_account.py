@@ -18,6 +18,7 @@ import urllib.parse
 from pathlib import Path
 
 from provider import CLIENT_SECRET
+from signin_back import try_back, try_guide
 from signin_names import LISTED, OTHER_NAMES, signed_in_as, try_list, try_names, try_person, try_tokens
 from signin_stand import APACHE, BARE, SIGN_IN, SIGN_OUT, Browser, SignInStand, named
 from stand import HOST, PYTHON, Stand, check, key_of
@@ -298,6 +299,8 @@ def try_away(stand):
     stand.start_helper()
     stand.stop_apache()
     check("without Apache HAProxy says so", browser.whose() == (503, None), browser.whose())
+    shown = browser.ask("GET", SIGN_IN, page=False)
+    check("and leads back to the page", shown.status == 503 and 'content="0; url=/?account"' in shown.text, shown)
     check("and keys work", browser.get("/me", ("Room-Key", key_of("S1"))).status == 200)
     stand.start_apache()
     check("a new start of Apache forgets all sessions", browser.whose() == (401, None), browser.whose())
@@ -326,7 +329,7 @@ def try_certificate(stand):
     stand.start_apache((f"{stand.place}/provider.pem", "/etc/ssl/certs/ca-certificates.crt"))
     browser = Browser(stand)
     told = browser.ask("GET", SIGN_IN, page=False)
-    check("nobody is led to a provider whose certificate is not right", told.status >= 400, told)
+    check("nobody is led to a provider whose certificate is not right", told.fields.get("location") == "/?account", told)
     check("and nobody is signed in", browser.whose() == (401, None), browser.whose())
 
 
@@ -346,6 +349,7 @@ def try_logs(stand, keys):
 def try_signin_account(program, whole=True):
     """All of it, or what the gate tries: without what takes long."""
     try_off(program)
+    try_guide()
     with SignInStand(program) as stand:
         stand.fill(["A-1", "A-2"], PEOPLE)
         stand.tell("open")
@@ -360,6 +364,7 @@ def try_signin_account(program, whole=True):
         try_redirect(browser)
         try_other_site(stand, browser)
         try_sign_out(stand)
+        try_back(stand)
         if whole:
             try_many(stand)
             try_tokens(stand)

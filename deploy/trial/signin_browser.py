@@ -58,7 +58,8 @@ def try_ends(page):
     """T2 is signed in, and the session ends."""
     page.driver.execute_cdp_cmd("Network.clearBrowserCookies", {})
     page.click("ask-again")
-    check("a session that is over is named", page.is_told("Your sign-in with your college account has ended"), page.text("fault"))
+    named = page.is_told("You are not signed in with your college account, or no longer")
+    check("a session that is over is named", named, page.text("fault"))
     check("and the person is gone from the page", is_out(page))
     check("one can sign in again", go_in(page, "t2", "Person T2"), page.text("fault"))
     page.add("A-1")
@@ -86,6 +87,17 @@ def try_others(page):
     page.shot("53-account-nobody")
 
 
+def try_without(page):
+    """Apache is away."""
+    page.stand.stop_apache()
+    page.open()
+    page.click("account")
+    check("without Apache the browser comes back to the page", page.is_told("The server is busy"), page.text("fault"))
+    page.enter_key(key_of("T1"))
+    check("where a key signs in", page.waits(lambda: "Person T1" in page.text("facts")), page.text("fault"))
+    page.stand.start_apache()
+
+
 def try_signin_browser(program, shots):
     """All of it."""
     with SignInStand(program) as stand:
@@ -99,6 +111,7 @@ def try_signin_browser(program, shots):
             try_round(page)
             try_ends(page)
             try_others(page)
+            try_without(page)
         with Page(stand, shots, "de") as page:
             page.open()
             check("the button is there in German", "Konto der Hochschule" in page.text("account"), page.text("account"))

@@ -133,6 +133,7 @@ def try_tokens(stand):
         browser.sign_in("t2")
         check("a token comes", provider.tokens.pop()["preferred_username"] == "t2")
         check(f"which is {what}, and signs nobody in", browser.whose() == (401, None), browser.whose())
+        check("and leads back to the page", browser.been[-1] == "/?account", browser.been)
     provider.twist = as_it_is
     browser = Browser(stand)
     browser.sign_in("t2")

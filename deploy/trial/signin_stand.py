@@ -131,7 +131,7 @@ class SignInStand(Stand):
         for count, old, new in [
             (2, "/run/rooms-sign-in", str(self.place)),
             (1, "Listen 127.0.0.1:292\n", f"Listen 127.0.0.1:{self.apache_port}\n"),
-            (2, "https://rooms.college.example", base),
+            (3, "https://rooms.college.example", base),
             (1, r"https://rooms\.college\.example/", base.replace(".", r"\.") + "/"),
             (1, "https://login.college.example/", f"{self.provider.issuer}/"),
             (2, "/etc/rooms/sign-in/", f"{self.place}/"),

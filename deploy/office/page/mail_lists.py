@@ -21,7 +21,7 @@ SHOWN = 60
 
 
 class AddressFault(NamedTuple):
-    """A line without a good address, which is left out: its row, the person, what the line has, and what is wrong."""
+    """A line without a good address or language, which is left out: its row, the person, what it has, and what is wrong."""
 
     row: int
     ident: str
@@ -59,9 +59,10 @@ def of_rows(read: Understood, known: set[str]) -> Addresses:
             faults.append(AddressFault(record.row, "", "", _("This line has more or fewer fields than the first line.")))
             continue
         ident, text, language = record.fields
-        if says := fault_of(ident, text, known, found) or fault_of_language(language):
-            ident, shown = list_faults.fields_shown([ident, language if is_address(text) else text], "")
-            faults.append(AddressFault(record.row, ident[:SHOWN], shown[:SHOWN], says))
+        says = fault_of(ident, text, known, found)
+        if wrong := says or fault_of_language(language):
+            ident, shown = list_faults.fields_shown([ident, text if says else language], "")
+            faults.append(AddressFault(record.row, ident[:SHOWN], shown[:SHOWN], wrong))
             continue
         found.update({ident: text} if text else {})
         spoken.update({ident: code_of(language)} if language else {})
