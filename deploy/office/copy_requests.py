@@ -4,9 +4,9 @@
 |---|---|---|
 | backup, backups | | name; backups: name, bytes and reason of each; days: how long one stays at most; stays: of each |
 | days | days, only_try | gone: how many copies are older than so many days, and are deleted |
-| compare | name | what becomes of people by going back to a copy (differences.py) |
-| given-up | name of a copy, or none | rounds: copy, number, phase of each that was given up; or what the one in the copy had |
-| back | name, seen, newer_keys | name: of the copy of the office that was taken before; as `compare`, if that could be read |
+| compare | name | what becomes of people by going back to a copy (differences.py); whose key is not kept, as they were removed |
+| given-up | name of a copy, or none | rounds: copy, number, phase of each; or what that one had, and rooms reopened since |
+| back | name, seen, newer_keys | name: of the copy of the office of before; `compare`, if it could be read; newest: lists |
 """
 
 import contextlib
@@ -26,7 +26,10 @@ from rows import rows_of
 from seeds import lines_of, merged
 from seen import Rows
 from settings import Fault
+from since import named_since, way_back_after
 from worker import Change, Worker
+
+REMOVED = ("remove", "forget")  # the lines after which an identifier can be another person's
 
 
 class CopyRequests:
@@ -71,19 +74,32 @@ class CopyRequests:
             found = differences(rows_of(copy), now)
         gone = {lines[0].split()[1] for entry in merged(list(self.journal.entries()))
                 if (lines := lines_of(entry)) and lines[0].startswith("forget ") and len(lines[0].split()) > 1}
-        return {**found, "forgotten": [person for person, _name in found["come"] if person in gone]}
+        removed = named_since(self.journal.entries(), text(job, "name"), *REMOVED)
+        return {**found, "forgotten": [person for person, _name in found["come"] if person in gone],
+                "removed": [person for person in found["keys"] if person in removed]}
 
     def given_up(self, job: Job) -> Job:
         """The rounds that were given up, or what one of them had."""
         return given_up(self.office, self.worker.view, text(job, "name") if "name" in job else None)
 
+    def newest(self, name: str, changed: list[str], now: Rows) -> list[str]:
+        """Whose list of these is the newest one again: if the copy was made before a way back, those who have handed in none since
+        then."""
+        if went := way_back_after(self.journal.entries(), name):
+            with contextlib.suppress(Fault, sqlite3.Error), self.copies.copied() as copy:
+                self.backups.take(went, copy)
+                lists = rows_of(copy)["choices"]
+                return [person for person in changed if lists.get(person) == now["choices"].get(person)]
+        return []
+
     def put_back(self, job: Job) -> Job:
         """Puts a kept copy in the office's place. The present office is copied before, even if it is damaged.
 
         A copy from before an upgrade of the program is brought to the program's version. With `newer_keys` who is in the register
-        then and now keeps the key of now.
+        then and now keeps the key of now, but not somebody who was removed since: the identifier may be another person's now.
         """
-        name, newer, then, found = text(job, "name"), bool(job.get("newer_keys")), Rows(), Job()
+        name, newer, then, before, found = text(job, "name"), bool(job.get("newer_keys")), Rows(), Rows(), Job()
+        removed = named_since(self.journal.entries(), name, *REMOVED)
 
         def carry_out(copy: Path) -> list[Answer]:
             now, keys = None, {}
@@ -94,10 +110,11 @@ class CopyRequests:
             if is_of_earlier_version(answer):
                 answer = self.program.migrate(copy)
             if answer.status == 0 and keys:
-                correct({person: {"key": keys[person]} for person in keys_in(copy) if person in keys}, copy)
+                correct({person: {"key": keys[person]} for person in keys_in(copy).keys() & keys.keys() - removed}, copy)
                 answer = self.program.look(copy)
             if answer.status == 0:
                 then.update(rows_of(copy))
+                before.update(now or {})
                 found.update(differences(then, now) if now else {})
             return [answer]
         line = f"back {name}{', with the newer keys' if newer else ''}"
@@ -107,4 +124,5 @@ class CopyRequests:
             said = change.answers[-1].text.strip()
             raise Fault(_("the program does not take this copy ({said}). Nothing was changed.", said=said))
         self.dates.went_back(then)
-        return {"name": change.copy, **found}
+        newest = self.newest(name, found["lists"], before) if found else []
+        return {"name": change.copy, **found, "newest": newest}

@@ -15,6 +15,7 @@ from placing import beside
 from rows import View, rows_of
 from seen import Rows
 from settings import Fault
+from since import named_since
 
 GIVE_UP, SETTLE = "cancel", "settle"  # the kinds of the copies that are made before a round is given up, or settled
 
@@ -67,4 +68,5 @@ def given_up(office: Office, view: View, name: str | None) -> dict[str, Any]:
         raise Fault(_("no round was given up after this copy was made, or the copy is gone"))
     with office.copies.copied() as copy:
         office.backups.take(name, copy)
-        return had_in(rows_of(copy))
+        # A list that came back before a room was reopened lacks it.
+        return {**had_in(rows_of(copy)), "reopened": sorted(named_since(office.journal.entries(), name, "reopen"))}

@@ -100,6 +100,7 @@ export const TEXTS = {
     trueList: "A true list is a best list. Put the rooms in the order in which you want them: no other list gets you "
       + "one of these rooms that you want more.",
     handsInNothing: "If you hand in nothing, {outcome}.",
+    handsInNoOther: "If you hand in no other list, the one on record counts.",
 
     roomsHeading: "Rooms",
     askForAny: "You may ask for a free room, and also for a room that somebody lives in. Nobody loses a room by that: "
@@ -342,6 +343,7 @@ export const TEXTS = {
     trueList: "Eine ehrliche Liste ist die beste. Ordnen Sie die Zimmer so, wie Sie sie wirklich haben möchten: Mit "
       + "keiner anderen Liste bekommen Sie eines davon, das Sie lieber hätten.",
     handsInNothing: "Wenn Sie nichts abgeben, heißt das: {outcome}.",
+    handsInNoOther: "Wenn Sie keine andere Liste abgeben, gilt die gespeicherte.",
 
     roomsHeading: "Zimmer",
     askForAny: "Sie können sich ein freies Zimmer wünschen und auch eines, in dem jemand wohnt. Niemand wird dadurch "

@@ -97,7 +97,8 @@ export function draw() {
   fill(byId("record"), recordText());
   byId("edit").hidden = !mayEdit(me);
   if (!mayEdit(me)) return;
-  const promises = [byHome("asking"), text("trueList"), text("handsInNothing", { outcome: outcome() })];
+  const otherwise = me.choices.length > 0 ? text("handsInNoOther") : text("handsInNothing", { outcome: outcome() });
+  const promises = [byHome("asking"), text("trueList"), otherwise];
   byId("promises").replaceChildren(...promises.map(promise => element("li", promise)));
   fill(byId("withdraw-text"), byHome("withdrawText"));
   drawFilters();

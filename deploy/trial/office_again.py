@@ -107,7 +107,7 @@ def try_next_year(stand, page):
     shown = send(page, "people-2", STAYED + NEW)
     check("the page says who is new", "26 people of this list" in shown and "70 are new" in shown, shown[:2500])
     check("keys are made for the new ones alone", re.findall(MADE, shown) == ["70"] and "(P05)" not in shown)
-    check("and it calls no slip of the others void", "Slips that were made for these people at another time" in shown)
+    check("and it calls no slip of the others void", "Of all slips for these people only those work whose list" in shown)
     for text in ("Person Four", "A-139", "2 fields differ"):
         check(f"and where the list differs: {text}", text in shown, shown[:3500])
     check("it says how many are not on the list", "4 people of the register are not" in shown, shown[:2500])
@@ -134,6 +134,8 @@ def try_meanwhile(stand, anna, bert):
     keys = dict(re.findall(r"\((M\d\d)\).*?<code class=\"key\">([0-9a-f ]+)</code>", shown, re.DOTALL))
     bert.form("/office/person", {"ident": "M01", "name": "Mia"}, page="/office/register")
     again = bring(anna, shown)
+    check("the count of those who were known is that of the whole list",
+          "2 people of this list are in the register already" in again, again[:2500])
     check("nobody comes in, and the clerk reads whose slip is void", "M02" not in register(stand)[0]
           and "Meanwhile these people came into the register: M01" in again, again[:2500])
     check("the page shows no key again", "Your key" not in again)
@@ -150,11 +152,36 @@ def try_same_label(anna, bert):
     """Two clerks send the same new people under the label that the page proposes, and both print slips."""
     people = [["L01", "Lea", "", ""], ["L02", "Lou", "", ""]]
     shown = send(anna, "people-4", people)
-    bring(bert, send(bert, "people-4", people))
+    newer = send(bert, "people-4", people)
+    made = [set(re.findall(r"made on ([^<]+)</span>", one)) for one in (shown, newer)]
+    check("the slips of each try have a time of their own", [len(one) for one in made] == [1, 1] and made[0] != made[1], made)
+    (first,), (second,) = made
+    check("the page of the second try names the first one", f"for these people that were made on {first} by anna" in newer, newer)
+    came = bring(bert, newer)
+    check("whose list comes in reads which slips work", f"work: those that were made on {second}." in came, came)
+    check("and which do not", f"do not work: destroy them. They were made on {first} by anna." in came, came)
     again = bring(anna, shown)
     check("the second one reads that the slips are void", "Meanwhile these people came into the register: L01, L02" in again
-          and "destroy these" in again, again[:2500])
+          and f"which were made on {first}, do not work: destroy these" in again, again[:2500])
     check("and not that no key was made", "no key was made" not in again and "the keys that they have stay good" in again, again)
+
+
+def try_earlier_tab(stand, page):
+    """One clerk tries a list in two tabs, and brings in that of the first: its slips work, and not the later ones."""
+    people = [["T01", "Tea", "", ""]]
+    first, later = send(page, "people-tabs", people), send(page, "people-tabs", people)
+    held = re.findall(r'name="held" value="(\w+)"', first)[0]
+    again = flat(page.get(f"/office/lists/tried/{held}")[2])
+    slips = [re.findall(r'<div class="slip".*?</div></div>', one, re.DOTALL) for one in (first, again)]
+    check("loaded again, the page of a try has the same slips", slips[0] and slips[0] == slips[1], slips)
+    keys = [re.findall(r"<code class=\"key\">([0-9a-f ]+)</code>", one)[0].replace(" ", "") for one in (first, later)]
+    times = [re.findall(r"made on ([^<]+)</span>", one)[0] for one in (first, later)]
+    came = bring(page, first)
+    works = [stand.ask(ask="try", lines=[f"me {key}"])["answers"][0][1] == 0 for key in keys]
+    check("the clerk reads so", works == [True, False] and f"those that were made on {times[0]}." in came
+          and f"destroy them. They were made on {times[1]} by anna." in came, (works, times, came))
+    shown = flat(page.get(page.get(f"/office/lists/tried/{held}")[1]["location"])[2])
+    check("once the list is in, the page of its try is gone", "The page no longer holds this list" in shown, shown)
 
 
 def try_twice(stand, page):
@@ -232,6 +259,7 @@ def try_office_again(program):
         try_next_year(stand, anna)
         try_meanwhile(stand, anna, bert)
         try_same_label(anna, bert)
+        try_earlier_tab(stand, anna)
         try_twice(stand, anna)
         try_sum(anna)
         try_rooms(stand, anna)

@@ -44,6 +44,11 @@ def send(page, kind, label, body):
     return flat(page.get("/office/lists")[2] if status == 303 else shown)
 
 
+def bad_rows(shown):
+    """The rows of the lines that a page names as faults."""
+    return re.findall(r'<td class="number">(\d+)</td>', shown)
+
+
 def people(stand):
     """The people with their names and rooms."""
     return {row[0]: row[1:3] for row in stand.ask(ask="view")["people"]}
@@ -97,6 +102,15 @@ def try_choices(stand, page):
     lists = stand.recorded()
     check("choices come in from several columns", lists == {"B1": ["A-105", "A-106"], "B2": ["A-107", "A-108"]}, lists)
     check("the same file is known again", "came in before" in send(page, "choices", "choices-1", body))
+    before = stand.recorded(), stand.ask(ask="view")["grades"]
+    lists = {"choices": b"person,choices\nB1,A-106\nB2,A-105\nB1,A-107\n", "grades": b"person,grade\nB1,1\nB2,2\nB1,3\n"}
+    for kind, body in lists.items():
+        shown = send(page, kind, f"{kind}-twice", body)
+        check(f"somebody who is twice in a list of {kind} is a fault, with both rows", bad_rows(shown) == ["4"]
+              and "This person is in row 2 of this list already" in shown and 'name="held"' not in shown, shown)
+    check("and nothing came in", (stand.recorded(), stand.ask(ask="view")["grades"]) == before)
+    shown = send(page, "choices", "choices-twice", b"person,choices\nB1,A-106\nB9,A-105\nB1,A-107\n")
+    check("it is shown with the other faults", bad_rows(shown) == ["3", "4"], shown)
 
 
 def try_refusals(page):

@@ -172,7 +172,8 @@ def change_after(stand, page, copy):
     found = stand.ask(ask="compare", name=copy)
     check("the keeper says what comes back, without a key", found == {
         "round": [0, "idle"], "keys": ["T010"], "names": [["T011", "Person T011", "Other Name"]], "lists": [], "part": [],
-        "come": [["T012", "Person T012"], ["T016", "Person T016"]], "go": [["T901", "Just Come"]], "forgotten": ["T016"]}, found)
+        "come": [["T012", "Person T012"], ["T016", "Person T016"]], "go": [["T901", "Just Come"]], "forgotten": ["T016"],
+        "grades": [], "rooms": [], "removed": []}, found)
     return key
 
 
@@ -185,7 +186,8 @@ def try_back(stand, page):
     shown = page.get(place)[2]
     said = ("People who have another key now than then", "Keep the newer keys", "<li>T010</li>",
             "<li>T011: Person T011, now Other Name</li>", "<li>T012 Person T012</li>", "Of these, people who were forgotten",
-            "<li>T901 Just Come</li>", "no round is under way")
+            "<li>T901 Just Come</li>", "no round is under way",
+            "the language of slips, letters and mails does not come back, nor does their mail address")
     check("before going back the page says whose keys, which names and which people", all(one in shown for one in said), shown)
     fields = page.form(place, page=place)[1]
     shown = page.get(fields["location"])[2]
@@ -202,7 +204,22 @@ def try_back(stand, page):
     told = stand.command("back", copy)
     check("the clerk's command says it, too", told[0] == 0 and "the key of the copy again" in told[2] and "T010" in told[2], told)
     stand.until_listening(stand.server_port)
+    try_reused(stand, page)
     check("a copy that is not there is named", "there is no copy" in stand.ask(ask="compare", name="../x")["fault"])
+
+
+def try_reused(stand, page):
+    """An identifier goes to another person, whose key does not open the record of the person of the copy."""
+    copy = stand.ask(ask="backup")["name"]
+    place, old, new = f"/office/copies/{copy}/back", key_of("T010"), "0123456789abcdef"
+    stand.script("rooms-office", "lines", given=f"remove T010\nperson T010 {new} Somebody Else\n")
+    check("the identifier has another key", works(stand, new) and not works(stand, old))
+    shown = page.get(place)[2]
+    check("the question says that the newer key of it is not kept", "may be another person" in shown, shown)
+    page.form(place, {"newer": "yes"}, page=place)
+    shown = page.get("/office/")[2]
+    check("with the tick, too, the person of the copy has their own key again", works(stand, old) and not works(stand, new))
+    check("and the page says so", "One person has the key of the copy again" in shown, shown)
 
 
 def try_keeper(stand):

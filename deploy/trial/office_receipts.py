@@ -1,7 +1,7 @@
 """Receipts of lists by mail: /usr/bin/python3 deploy/trial/office_receipts.py PROGRAM.
 
-A person whose list on record has changed gets one message, once, whatever happens in between: several changes in a row, a mail server
-that is away or refuses, a keeper that is killed, the end of the round, and the way back to a copy.
+A person whose list on record has changed gets one message, once, whatever happens in between: several changes in a row, a mail
+server that is away or refuses, a keeper that is killed, the end of the round, and the way back to a copy.
 """
 
 import contextlib

@@ -74,8 +74,10 @@ class Page:
         return self.ask("POST", path, body, {"Content-Type": kind, **(headers or {})})
 
     def form(self, path, form=None, page="/office/lists", files=None):
-        """A form of a page, with all that the page puts into it."""
-        return self.post(path, {**self.hidden(page, path), **(form or {})}, files=files)
+        """A form of a page, with all that the page puts into it. One with new keys leads to a page of its own."""
+        answer = self.post(path, {**self.hidden(page, path), **(form or {})}, files=files)
+        led = answer[1].get("location", "").partition("/office/lists/tried/")[2]
+        return self.get(f"/office/lists/tried/{led}") if led else answer
 
 
 def hand_in(stand, key, rooms):

@@ -6,7 +6,6 @@ is removed, and who got no room gets one in a second round.
 """
 
 import contextlib
-import html
 import http.client
 import re
 import socket
@@ -18,6 +17,7 @@ from pathlib import Path
 sys.dont_write_bytecode = True
 
 # pylint: disable=wrong-import-position  # nothing may be written before
+from office_forms import boxes, filled_in, flat, seen_at, send_as_it_is
 from office_requests import Page, hand_in
 from stand import HOST, Stand, check, key_of, unchecked
 
@@ -26,16 +26,6 @@ PEOPLE = [f"P{number:02}" for number in range(1, 13)]
 HOMES = dict(zip(PEOPLE[:8], ROOMS))  # P01 to P08 live in A-101 to A-108; nobody lives in A-109 to A-112
 SEED = "5eed" * 16
 LABELS = 200  # as many lists as an office takes
-
-
-def flat(text):
-    """A page as a reader has it: without marks, and with one space in place of many."""
-    return " ".join(html.unescape(re.sub(r"<[^>]*>", " ", text)).split())
-
-
-def seen_at(page, path):
-    """The text of a page."""
-    return flat(page.get(path)[2])
 
 
 def withdraw(stand, person):
@@ -50,24 +40,6 @@ def away(stand):
     """Who leaves, and who has withdrawn."""
     view = stand.ask(ask="view")
     return {row[0] for row in view["going"]}, {row[0] for row in view["people"] if row[3]}
-
-
-def boxes(text):
-    """The boxes of a form: name, value, and whether each is ticked."""
-    found = re.findall(r'<input type="checkbox" name="(\w+)" value="(\w+)"([^>]*)>', text)
-    return {(name, value): "checked" in more for name, value, more in found}
-
-
-def filled_in(page, path, sure=True, but=""):
-    """A form with the boxes that are ticked by themselves, but for one person, and the one that says that the clerk has
-    looked."""
-    ticked = [(name, value) for (name, value), on in boxes(page.get(path)[2]).items() if on and value != but]
-    return [*page.hidden(path, path.partition("?")[0]).items(), *ticked, *([("sure", "yes")] if sure else [])]
-
-
-def send_as_it_is(page, path, sure=True, but=""):
-    """Sends such a form, and gives the address of the next page."""
-    return page.post(path.partition("?")[0], filled_in(page, path, sure, but))[1]["location"]
 
 
 # --- asked twice
@@ -118,17 +90,43 @@ def try_short_way(stand, page):
     shown = page.get("/office/undo/P05")[2]
     copies = re.findall(r"/office/copies/([^/]+)/back", shown)
     check("the page offers the copy from just before", len(copies) == 1 and "This is the shortest way" in flat(shown), flat(shown))
+    for line in ("grade P11 3", "room X-1"):
+        stand.office(line)
+    shown = seen_at(page, "/office/undo/P05")
+    check("it names changes of rooms and grades, if there are any",
+          "one person with another grade; a change of one room. R" in shown, shown)
+    shown = seen_at(page, f"/office/copies/{copies[0]}/back")
+    check("and so does the question about the copy", "again what it was 1 person P11" in shown and "they were 1 room X-1" in shown,
+          shown)
     stand.office("choose P11 A-109 A-110")
     shown = seen_at(page, "/office/undo/P05")
     check("then somebody hands in a list, and the page says that it would be lost",
-          "one person with another list" in shown and "shortest" not in shown, shown)
+          "one person with another list; one person with another grade" in shown and "shortest" not in shown, shown)
     back = f"/office/copies/{copies[0]}/back"
     shown = seen_at(page, back)
     check("the question about the copy names who takes part again", "or note that they leave the college" in shown
           and shown.count("P05") == 1, shown)
     page.form(back, page=back)
     check("and it is as before", away(stand) == ({"P01", "P02"}, {"P03", "P10"}) and "P11" not in stand.recorded())
+    try_forward(stand, page)
     check("a resident's own withdrawal has no copy", "/back" not in page.get("/office/undo/P03")[2])
+
+
+def try_forward(stand, page):
+    """From a way back the clerk comes forth again: the newest lists count again, and nobody has to hand in theirs anew."""
+    before, began = stand.ask(ask="backup")["name"], stand.recorded()
+    for line in ("choose P11 A-109 A-110", "choose P12 A-112"):
+        stand.office(line)
+    page.form(f"/office/copies/{before}/back", page=f"/office/copies/{before}/back")
+    stand.office("choose P12 A-111")
+    forth = [name for name, _, why in stand.ask(ask="backups")["backups"] if f"before back {before}" in why][-1]
+    seen_at(page, "/office/")
+    page.form(f"/office/copies/{forth}/back", page=f"/office/copies/{forth}/back")
+    shown = seen_at(page, "/office/")
+    check("whose newest list counts again is not asked for it", "does not count now: P12. Tell" in shown, shown)
+    page.form(f"/office/copies/{before}/back", page=f"/office/copies/{before}/back")
+    check("and all is as it was", stand.recorded() == began, stand.recorded())
+    seen_at(page, "/office/")
 
 
 # --- the long way: the round is given up
@@ -146,6 +144,8 @@ def try_long_way(stand, page):
     page.form(path, {"step": "cancel", "sure": "yes"}, page=path)
     check("the round is given up", stand.ask(ask="view")["phase"] == "idle" and away(stand) == (set(), set()))
     check("then the next step is to open", "Step 2 of 3" in seen_at(page, path))
+    check("whose question says that lists of a round that is given up come back", "can come back into the next round"
+          in seen_at(page, "/office/step/open"), seen_at(page, "/office/step/open"))
     check("and the overview says that it can come back", "Round 1 was given up" in seen_at(page, "/office/"))
     page.form(path, {"step": "cancel", "sure": "yes"}, page=path)
     check("the first step does not come again", "This step does not come now" in seen_at(page, path))
@@ -232,6 +232,7 @@ def try_changed(stand, page):
     check("the rest comes in afterwards", stand.recorded() == lists and away(stand) == (set(), {"P03"}), stand.recorded())
     shown = seen_at(page, onward)
     check("and then all else is back", "All else is back" in shown and "P12 Person P12" in shown, shown)
+    try_reopened(stand, page, link)
     copy = stand.data / "backups" / link.rpartition("/")[2] / "rooms.db"
     whole = copy.read_bytes()
     copy.write_bytes(whole[:8192] + b"\xff" * 4096 + whole[12288:])
@@ -243,6 +244,35 @@ def try_changed(stand, page):
     copy.write_bytes(whole)
     bad = page.get("/office/given-up/20270101T000000Z")
     check("another copy brings nothing back", bad[0] == 303 and bad[1]["location"] == "/office/")
+
+
+def try_reopened(stand, page, link):
+    """A room of lists was out of use when they came back, and is in use again: it can come back, and until then nothing says that
+    all is back."""
+    stand.office("shut A-111")
+    old = {**stand.recorded(), "P04": ["A-101"]}
+    stand.office("choose P04 A-101")
+    check("a room out of use is still named", "P04: of the list A-111, out of use" in seen_at(page, link), seen_at(page, link))
+    stand.office("reopen A-111")
+    shown = seen_at(page, link)
+    check("a room that is in use again can come back", "The list of one person lacks rooms" in shown
+          and not re.search("(else|come back) is back", shown) and boxes(page.get(link)[2])[("longer", "yes")], shown)
+    left = "ists without rooms that are in use again (P04)"
+    for path in ("/office/", "/office/step/close"):
+        check(f"{path} names it", left in seen_at(page, path), seen_at(page, path))
+    form = filled_in(page, link)
+    check("the person hands in another list meanwhile", hand_in(stand, key_of("P04"), ["A-109"]) == 200)
+    page.post(link, form)
+    check("which stays", stand.recorded() == {**old, "P04": ["A-109"]} and "changed after you looked" in seen_at(page, link))
+    check("and which lacks nothing", ("longer", "yes") not in boxes(page.get(link)[2]))
+    stand.office("choose P04 A-101")
+    onward = send_as_it_is(page, link, but="P12")
+    shown = seen_at(page, onward)
+    check("the room comes back, at its place", stand.recorded() == {**old, "P04": ["A-111", "A-101"]}
+          and "Back in this round: rooms of lists: 1 of 1" in shown and "All else is back" in shown, (stand.recorded(), shown))
+    check("whoever takes out a room that was in use all the time lacks nothing", hand_in(stand, key_of("P04"), ["A-111"]) == 200
+          and ("longer", "yes") not in boxes(page.get(link)[2]))
+    stand.office("choose P04 A-111 A-101")
 
 
 # --- who left, and the second round

@@ -94,7 +94,7 @@ def rooms_found(page: Page) -> None:
           and "also for a room that somebody lives in" in page.text("edit"))
     page.find("")
     promises = page.text("promises")
-    parts = ("never lose by asking. You keep room H1", "true list is a best list", "hand in nothing, you keep room H1")
+    parts = ("never lose by asking. You keep room H1", "true list is a best list", "no other list, the one on record counts")
     check("the three promises are there", all(part in promises for part in parts), promises)
 
 
@@ -145,7 +145,11 @@ def changed_elsewhere(page: Page, stand: Stand) -> None:
     """The newer list of another device is not replaced unasked."""
     other = Device(stand, "T3")
     page.add("A-5")
+    check("who has no list on record reads of handing in nothing", "hand in nothing, you keep" in page.text("promises"))
     check("a first list is handed in", page.hand_in())
+    promises = page.text("promises")
+    check("with a list on record nobody reads of handing in nothing", "no other list, the one on record counts" in promises
+          and "hand in nothing" not in promises, promises)
     other.hand_in("A-9", "V")
     page.add("A-6")
     page.click("hand-in")

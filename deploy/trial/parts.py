@@ -8,6 +8,7 @@ import datetime
 import errno
 import json
 import os
+import runpy
 import shutil
 import sqlite3
 import sys
@@ -337,12 +338,24 @@ def failing(settings):
     check("and what was made has none", change.done.is_set() and not change.fault, change)
 
 
+def news():
+    """Two pages of one clerk at once: each has the news of its own request, and of those that led to it."""
+    held, first = runpy.run_path(str(OFFICE / "page/memory.py"))["Memory"](), time.monotonic()
+    held.tell("anna", "good", "its own", first)
+    second = time.monotonic()
+    held.tell("anna", "bad", "of the second request", second)
+    check("a page has its own news, and not those of another request", held.news("anna", first) == [("good", "its own")])
+    check("which the page has to which that one leads", held.news("anna", time.monotonic()) == [("bad", "of the second request")])
+    check("once", held.news("anna", time.monotonic()) == [])
+
+
 def try_parts():
     """Tries them all."""
     os.umask(0o077)
     hiding()
     answering()
     slips()
+    news()
     copied_before()
     with an_office() as settings:
         blanking(settings)

@@ -13,6 +13,7 @@ import os
 import re
 import secrets
 import sys
+import time
 import traceback
 from collections.abc import Callable, Iterable
 from pathlib import Path
@@ -68,6 +69,11 @@ memory = Memory()
 
 # --- who asks
 
+def began() -> float:
+    """When this request began: it tells one request from another."""
+    return float(request.environ["rooms.began"])
+
+
 def clerk() -> str:
     """The clerk whom HAProxy names."""
     return str(request.get_header("X-Office-User", ""))
@@ -93,6 +99,7 @@ def language_of_clerk() -> str:
 @app.hook("before_request")
 def guard() -> None:
     """Lets in named clerks, and forms of this page alone: a form of another site has no token."""
+    request.environ["rooms.began"] = time.monotonic()
     speak(language_of_clerk())
     if not clerk():
         bottle.abort(403, "no clerk")
@@ -145,7 +152,7 @@ def uploads_of(name: str) -> list[tuple[str, bytes]]:
 
 def tell(kind: str, text: str) -> None:
     """Keeps a piece of news for the clerk's next page."""
-    memory.tell(clerk(), kind, text)
+    memory.tell(clerk(), kind, text, began())
     presses.note(kind, text)
 
 
@@ -157,7 +164,7 @@ def go_to(address: str) -> NoReturn:
 def show(view: str, **values: Any) -> str:
     """A page of a template. `back` is where its clerk is led after choosing another language; without it there is no choice."""
     # News is for a page that the clerk sees, and not for one that another site loads in a picture's place.
-    news = memory.news(clerk()) if request.get_header("Sec-Fetch-Dest", "document") == "document" else []
+    news = memory.news(clerk(), began()) if request.get_header("Sec-Fetch-Dest", "document") == "document" else []
     values = {"office": None, "back": request.path if request.method == "GET" else "", **values}
     return views.render(view, token=token(), press=secrets.token_hex(8), clerk=clerk(), plain=plain, times=times, unbroken=unbroken,
                         news=news, here=request.path, **values)

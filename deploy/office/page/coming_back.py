@@ -24,19 +24,21 @@ class GivenUp(NamedTuple):
 
 
 class Had(NamedTuple):
-    """What a round had when it was given up."""
+    """What a round had when it was given up, and the rooms that were brought back into use since."""
 
     number: int
     withdrawn: list[str]
     going: list[str]
     choices: dict[str, list[str]]
+    reopened: set[str]
 
 
 class Back(NamedTuple):
     """What can come back, what is here already, and what cannot come back, with the reason of each.
 
     `lists` has also the lists of those who may withdraw or leave again: they come back before that, as it was. `old` has all
-    lists of that round, without rooms that nobody may list now.
+    lists of that round, without rooms that nobody may list now. `longer` has those of which only a part is on record, since a
+    room was out of use when they came back, and is in use again.
     """
 
     going: list[str]
@@ -45,6 +47,7 @@ class Back(NamedTuple):
     here: list[str]
     never: list[str]
     old: dict[str, list[str]]
+    longer: dict[str, list[str]]
 
     @property
     def away(self) -> list[str]:
@@ -69,12 +72,12 @@ def rounds(office: Office) -> list[GivenUp]:
 def had_in(copy: str) -> Had:
     """What a round had when it was given up."""
     found = ask("given-up", name=copy)
-    return Had(found["number"], found["withdrawn"], found["going"], found["choices"])
+    return Had(found["number"], found["withdrawn"], found["going"], found["choices"], set(found["reopened"]))
 
 
 def what_is_left(office: Office, had: Had) -> Back:
     """What of a round can come back into the round of now."""
-    back = Back([], [], {}, [], [], {ident: usable(office, wishes) for ident, wishes in had.choices.items()})
+    back = Back([], [], {}, [], [], {ident: usable(office, wishes) for ident, wishes in had.choices.items()}, {})
     for ident in had.going:
         sort_in(ident, back.going, back, why_not(office, ident, "going"))
     for ident in had.withdrawn:
@@ -86,7 +89,7 @@ def what_is_left(office: Office, had: Had) -> Back:
         elif person.takes_part and not office.choices.get(ident):
             take_list(ident, wishes, back)
         elif person.takes_part:
-            back.here.append(_("{person}: a list", person=ident))
+            compare_list(ident, wishes, office.choices[ident], had.reopened, back)
     return back
 
 
@@ -123,11 +126,27 @@ def usable(office: Office, wishes: list[str]) -> list[str]:
 
 def take_list(ident: str, wishes: list[str], back: Back) -> None:
     """A list that can come back, as far as it can."""
-    out = [code for code in wishes if code not in back.old[ident]]
     if back.old[ident]:
         back.lists[ident] = back.old[ident]
-    if out:
-        back.never.append(_("{person}: of the list {rooms}, out of use.", person=ident, rooms=" ".join(out)))
+    name_lost(ident, [code for code in wishes if code not in back.old[ident]], back)
+
+
+def name_lost(ident: str, rooms: list[str], back: Back) -> None:
+    """Names the rooms of a list that cannot come back."""
+    if rooms:
+        back.never.append(_("{person}: of the list {rooms}, out of use.", person=ident, rooms=" ".join(rooms)))
+
+
+def compare_list(ident: str, wishes: list[str], now: list[str], reopened: set[str], back: Back) -> None:
+    """A list of somebody who has one on record. If that is a part of it, the rest was out of use when it came back; but if the rest
+    was in use all the time, the person has taken it out."""
+    back.here.append(_("{person}: a list", person=ident))
+    if now != [code for code in wishes if code in now]:
+        return
+    lacks = {code for code in back.old[ident] if code not in now}
+    if lacks and lacks <= reopened:
+        back.longer[ident] = back.old[ident]
+    name_lost(ident, [code for code in wishes if code not in now and code not in back.old[ident]], back)
 
 
 def has_come_again(office: Office, ident: str) -> bool:
@@ -159,6 +178,7 @@ def missing_of(office: Office, had: Had, newer: set[str]) -> str:
             N_("had withdrawn, and take part now ({people})"): back.withdrawn}
     left = {what: [one for one in idents if not has_come_again(office, one)] for what, idents in away.items()}
     left[N_("lists that are not back ({people})")] = list(back.lists_but(back.away))
+    left[N_("lists without rooms that are in use again ({people})")] = list(back.longer)
     people = {what: [one for one in idents if one not in newer] for what, idents in left.items()}
     return "; ".join(_(what, people=listed(idents)) for what, idents in people.items() if idents)
 

@@ -209,13 +209,17 @@ def facts_of(found: dict[str, Any]) -> tuple[Fact, ...]:
     """What becomes of people by going back to a copy."""
     named = {name: [f"{ident} {person}" for ident, person in found[name]] for name in ("come", "go")}
     facts = [Fact(_("People who have another key now than then"), found["keys"]),
+             Fact(_("Of these, identifiers that were removed from the register since then and may be another person's now: the "
+                    "key of the copy works again, and the newer one does not"), found.get("removed", [])),
              Fact(_("Names that become again what they were"),
                   [_("{person}: {old}, now {new}", person=ident, old=old, new=new) for ident, old, new in found["names"]]),
              Fact(_("People who come back into the register"), named["come"]),
              Fact(_("Of these, people who were forgotten since then: forget them again afterwards"), found.get("forgotten", [])),
              Fact(_("People who go out of the register"), named["go"]),
              Fact(_("People whose lists of this round become again what they were"), found["lists"]),
-             Fact(_("People whose withdrawal, or note that they leave the college, goes or comes back"), found["part"])]
+             Fact(_("People whose withdrawal, or note that they leave the college, goes or comes back"), found["part"]),
+             Fact(_("People whose grade becomes again what it was"), found["grades"]),
+             Fact(_("Rooms that become again what they were"), found["rooms"], of_rooms=True)]
     return tuple(fact for fact in facts if fact.items)
 
 
@@ -230,6 +234,9 @@ def ask_back(name: str) -> str:
             _(THEN[phase], number=number),
             _("The keeper makes a copy of the present office first, so you can come back from this too."),
             _("Tell the residents if they handed in lists after the copy: they have to hand them in again.")]
+    if found["come"]:
+        says.append(_("Of people who come back into the register, the language of slips, letters and mails does not come back, "
+                      "nor does their mail address. Set both again."))
     title = _("Go back to the copy of {time}?", time=made)
     keys = ("newer", _("Keep the newer keys. Without this tick the old ones work again, also for somebody who has found or "
                        "copied one.")) if found["keys"] else None
@@ -243,7 +250,8 @@ def back(name: str) -> None:
     found = ask("back", name=name, seen=field("seen"), newer_keys=bool(field("newer")))
     tell("good", _("The office is back at the copy of {time}. What it was before is in the copy of {before}.",
                    time=times.of_copy(name), before=times.of_copy(found["name"])))
-    if (lost := found.get("lists")) and found["round"][1] == "open":
+    newest = found.get("newest", [])
+    if (lost := [person for person in found.get("lists", []) if person not in newest]) and found["round"][1] == "open":
         tell("bad", _("These people had another list before, which does not count now: {people}. Tell them to hand it in again.",
                       people=", ".join(lost)))
     if keys := found.get("keys"):

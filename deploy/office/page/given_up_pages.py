@@ -76,7 +76,7 @@ def given_up(copy: str) -> str:
     parts = {"going": rows_of(office, back, back.going, out), "withdrawn": rows_of(office, back, back.withdrawn, out)}
     away = [row.ident for rows in parts.values() for row in rows if row.is_ticked]
     return show("given_up", office=office, given_up=found, back=back, parts=parts, lists=back.lists,
-                rest=away or back.lists_but(away),
+                rest=away or back.lists_but(away) or back.longer, saw=office.saw("all", *back.away, *back.longer).mark,
                 others=[one for one in rounds(office) if one.copy != copy])
 
 
@@ -92,13 +92,16 @@ def bring_back(copy: str) -> None:
     if office.phase != "open" or field("seen") != office.stamp:
         tell("bad", _("Nothing was changed. {phase}. Look again.", phase=_(plain.PHASES[office.phase].title)))
         go_to(place)
-    if field("saw") != office.saw("all", *back.away).mark:
+    if field("saw") != office.saw("all", *back.away, *back.longer).mark:
         tell("bad", _("Nothing was changed. What is on record of one of these people was changed after you looked. Look again."))
         go_to(place)
-    came = Came()
+    came, before = Came(), office
     if field("lists"):  # before the withdrawals, as it was: nobody's list is lost by a way back later on
-        came.take_lists(back.lists)
         office = office_now()
+        came.take_lists(office, "lists", {ident: wishes for ident, wishes in back.lists.items() if not office.choices.get(ident)})
+    if field("longer"):
+        came.take_lists(before, "longer", back.longer)
+    office = office_now()
     came.take_away(office, "going", [ident for ident in back.going if ident in going])
     came.take_away(office, "withdraw", [ident for ident in back.withdrawn if ident in withdrawn])
     came.report()
@@ -109,7 +112,8 @@ def bring_back(copy: str) -> None:
 class Came:
     """What has come in so far, and the fault that has ended this, if any."""
 
-    WORDS: ClassVar = {"going": N_("who leaves the college: {count} of {all}"), "withdraw": N_("withdrawals: {count} of {all}")}
+    WORDS: ClassVar = {"going": N_("who leaves the college: {count} of {all}"), "withdraw": N_("withdrawals: {count} of {all}"),
+                       "lists": N_("lists: {count} of {all}"), "longer": N_("rooms of lists: {count} of {all}")}
 
     done: list[str] = own(default_factory=list)
     fault: str = ""
@@ -125,18 +129,17 @@ class Came:
         if count:
             self.done.append(_(self.WORDS[act], count=count, all=len(idents)))
 
-    def take_lists(self, lists: dict[str, list[str]]) -> None:
-        """Imports the lists of those who have handed in none meanwhile, under a label each if they are too long for one."""
-        office, count = office_now(), 0
-        left = {ident: wishes for ident, wishes in lists.items() if not office.choices.get(ident)}
-        for people, body in bodies(left):
+    def take_lists(self, office: Office, part: str, lists: dict[str, list[str]]) -> None:
+        """Imports lists, under a label each if they are too long for one, unless one was handed in after the office was so."""
+        count = 0
+        for people, body in bodies(lists):
             job = Job("choices", office_now().new_label("choices"), body, office.saw("list", *people))
             self.fault = self.fault or fault_of_list(job)
             if self.fault:
                 break
             count += len(people)
         if count:
-            self.done.append(_("lists: {count} of {all}", count=count, all=len(left)))
+            self.done.append(_(self.WORDS[part], count=count, all=len(lists)))
 
     def report(self) -> None:
         """Tells the clerk."""

@@ -41,9 +41,12 @@ FORMS: dict[str, tuple[Form, ...]] = {
     "choices": (IDENTIFIER.fullmatch, is_list),
 }
 ROOM_AGAIN = N_("This room is in row {row} of this list already.")
+PERSON_AGAIN = N_("This person is in row {row} of this list already.")
 # What may be in a list once, by kind: the field, and the fault of the second one.
-ONCE = {"rooms": {0: ROOM_AGAIN}, "people": {0: N_("This person is in row {row} of this list already."),
-                                             2: N_("This key is in row {row} of this list already."), 3: ROOM_AGAIN}}
+ONCE = {"rooms": {0: ROOM_AGAIN}, "grades": {0: PERSON_AGAIN}, "choices": {0: PERSON_AGAIN},
+        "people": {0: PERSON_AGAIN, 2: N_("This key is in row {row} of this list already."), 3: ROOM_AGAIN}}
+# Kinds of which the program takes the last record of a person, and says nothing.
+LAST_COUNTS = ("grades", "choices")
 
 
 def badly_written(kind: str, fields: list[str]) -> Meaning | None:
@@ -77,6 +80,23 @@ def of_home(office: Office, fields: list[str]) -> Meaning | None:
     return plain.REFUSALS[3 if room is None else 7 if room.shut else 8].translated()
 
 
+def overwritten(kind: str, table: CsvList) -> Iterator[tuple[int, Meaning]]:
+    """The number of each record that would count in the place of an earlier one of the same person, and what is wrong with it."""
+    rows: dict[str, int] = {}
+    for number, record in enumerate(table.records if kind in LAST_COUNTS else ()):
+        person = record.fields[0]
+        if not number or badly_written(kind, record.fields):
+            continue
+        if person in rows:
+            yield number, in_row(PERSON_AGAIN, rows[person])
+        rows.setdefault(person, record.row)
+
+
+def in_row(says: str, row: int) -> Meaning:
+    """What is wrong with a record if an earlier row has the same."""
+    return Meaning(_(says, row=row), _("Correct one of the two lines, or take it out."))
+
+
 def find(office: Office, kind: str, table: CsvList, apart: set[int]) -> Iterator[tuple[int, Meaning]]:
     """The number of each record with a fault, but for those that are set apart, and what is wrong with it."""
     once = ONCE.get(kind, {})
@@ -88,7 +108,7 @@ def find(office: Office, kind: str, table: CsvList, apart: set[int]) -> Iterator
         for place, says in once.items():
             field = record.fields[place] if place < len(record.fields) else ""
             if meaning is None and field and (place, field) in rows:
-                meaning = Meaning(_(says, row=rows[place, field]), _("Correct one of the two lines, or take it out."))
+                meaning = in_row(says, rows[place, field])
         if meaning:
             yield number, meaning
         for place in once if len(record.fields) == len(FORMS[kind]) else ():

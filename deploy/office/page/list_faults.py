@@ -66,7 +66,9 @@ def fault_of(table: CsvList, kind: str, number: int, meaning: Meaning) -> Fault:
 def find(office: Office, table: CsvList, kind: str, attempt: Callable[[bytes], Answer], apart: set[int]) -> Findings:
     """All faults of a list, without the records that are set apart. There is a limit of time and, for those that only
     the program sees, of their number."""
-    taken, faults, tries = set(apart), list[Fault](), 0
+    again = dict(list_checks.overwritten(kind, table))
+    taken, tries = apart | again.keys(), 0
+    faults = [fault_of(table, kind, number, meaning) for number, meaning in again.items()]
     end = time.monotonic() + SECONDS
     while True:
         answer = attempt(table.body(without=taken))

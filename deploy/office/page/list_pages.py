@@ -4,11 +4,13 @@ import base64
 from typing import Any, NamedTuple
 
 from journal import masked
-from languages import _
+from languages import N_, _
 from seen import Saw
 
 import known_people
+import list_checks
 import list_faults
+import list_slips
 import mail_lists
 import plain
 import understanding
@@ -19,6 +21,7 @@ from keeper_client import Answer, answers_of
 from known_people import Beside
 from many_pages import KEYS, MOST_AT_ONCE, acts_for
 from list_faults import Findings
+from list_slips import Made
 from mail_lists import NO_ADDRESSES, Addresses
 from office_view import Office
 from questions import Question, put_question
@@ -26,6 +29,18 @@ from sheet_limits import LONGEST_FILE
 from understanding import NotUnderstood, Understood
 
 NOBODY = Beside(set(), [], [])
+
+
+NO_LONGER = N_("The page no longer holds this list. Nothing was imported now. If the list is not in yet, send it again, and "
+               "destroy slips that you printed for it: they do not work.")
+
+
+class Tried(NamedTuple):
+    """What the page of a try with new keys shows, besides its list."""
+
+    keys: list[tuple[str, str, str]]
+    beside: Beside
+    read: Understood | None
 
 
 class Job(NamedTuple):
@@ -37,6 +52,13 @@ class Job(NamedTuple):
     saw: Saw | None = None  # what the list replaces, or of people that they are not in the register
     departed: tuple[str, ...] = ()  # of people: who is in the register, and not on the list
     mailed: Addresses = NO_ADDRESSES  # of people: their mail addresses, which the program does not get
+    made: Made | None = None  # of people: the slips that this try made
+    tried: Tried | None = None  # of people: its page
+    known: int = 0  # how many lines were taken out of it, since the register has them
+
+    def people(self) -> list[str]:
+        """Who is on the list."""
+        return [record.fields[0] for record in CsvList(self.body).records[1:]]
 
     def fields(self) -> dict[str, Any]:
         """The list as the keeper takes it."""
@@ -106,18 +128,20 @@ def looked_at(office: Office, job: Job, table: CsvList, beside: Beside, read: Un
     if beside.known and len(beside.known) == len(table.records) - 1:
         held = memory.hold(clerk(), job.mailed) if job.mailed.pairs else ""
         return show("already", office=office, kind=job.kind, beside=beside, read=read, mailed=held,
-                    **departed_form(office, tuple(beside.departed)))
+                    count=job.known + len(beside.known), **departed_form(office, tuple(beside.departed)))
     made = []
     if read and job.kind == "people" and field("keys"):
         made = table.fill_keys(beside.known)
     if made or beside.known:
         new = {record.fields[0] for number, record in enumerate(table.records) if number not in beside.known}
-        job = job._replace(body=table.body(without=beside.known), departed=tuple(beside.departed), mailed=job.mailed.of(new))
+        job = job._replace(body=table.body(without=beside.known), departed=tuple(beside.departed), mailed=job.mailed.of(new),
+                           known=job.known + len(beside.known))
     answer = try_list(job)
-    if answer.status == 0:
+    if answer.status == 0 and not any(list_checks.overwritten(job.kind, table)):
         return fitting_list(office, job, made, beside, read)
     found = list_faults.find(office, table, job.kind, lambda part: try_list(job._replace(body=part)), beside.known)
-    return show("faults", office=office, job=job, found=found, answer=answer.text.strip(), beside=beside, read=read)
+    return show("faults", office=office, job=job, found=found, answer=answer.text.strip() if answer.status else "",
+                beside=beside, read=read)
 
 
 def known_list(office: Office, job: Job) -> str:
@@ -128,6 +152,9 @@ def known_list(office: Office, job: Job) -> str:
 def fitting_list(office: Office, job: Job, made: list[tuple[str, str, str]], beside: Beside,
                  read: Understood | None) -> str:
     """The page of a list that fits: what it replaces, the slips with new keys, and whether to import it."""
+    if made:  # a page of its own, so that loading it again makes no other keys
+        job = job._replace(made=list_slips.made_for(ident for ident, *_rest in made), tried=Tried(made, beside, read))
+        go_to(f"/office/lists/tried/{hold(office, job, job.people())}")
     table = CsvList(job.body)
     replaced: dict[str, int] = {}
     if job.kind == "choices":
@@ -136,11 +163,23 @@ def fitting_list(office: Office, job: Job, made: list[tuple[str, str, str]], bes
                 replaced[record.fields[0]] = number
     rest = job._replace(body=table.body(without={number for number, record in enumerate(table.records)
                                                  if number and record.fields[0] in replaced}))
-    people = [record.fields[0] for record in table.records[1:]]
+    people = job.people()
     others = [person for person in people if person not in replaced]
-    return show("fits", office=office, job=job, count=len(people), made=made, replaced=list(replaced), beside=beside,
-                kind_name=kind_name, read=read, held=hold(office, job, people),
-                held_rest=hold(office, rest, others) if replaced else "")
+    return show("fits", office=office, job=job, count=len(people), made=[], replaced=list(replaced), beside=beside,
+                kind_name=kind_name, read=read, tries=[],
+                held=hold(office, job, people), held_rest=hold(office, rest, others) if replaced else "")
+
+
+@app.get("/office/lists/tried/<name>")
+def tried_list(name: str) -> str:
+    """The page of a try with new keys, as long as the page holds the list."""
+    job: Any = memory.held(clerk(), name)
+    if not isinstance(job, Job) or job.tried is None:
+        tell("bad", _(NO_LONGER))
+        go_to("/office/lists")
+    people = job.people()
+    return show("fits", office=office_now(), job=job, count=len(people), made=job.tried.keys, replaced=[], beside=job.tried.beside,
+                kind_name=kind_name, read=job.tried.read, tries=list_slips.others(people, job.made), held=name, held_rest="")
 
 
 def hold(office: Office, job: Job, people: list[str]) -> str:
@@ -155,8 +194,7 @@ def bring_list() -> str:
     office, name = office_now(), text_of("held")
     job: Any = memory.held(clerk(), name)
     if not isinstance(job, Job):
-        tell("bad", _("The page no longer holds this list. Nothing was imported now. If the list is not in yet, send it again, "
-                      "and destroy slips that you printed for it: they do not work."))
+        tell("bad", _(NO_LONGER))
     elif is_stale(office, job):
         return look_again(office, job)
     elif office.has_label(job.label):
@@ -164,6 +202,8 @@ def bring_list() -> str:
     elif change("import", **job.fields()):
         memory.let_go(clerk(), name)
         mail_lists.bring(job.mailed)
+        for kind, text in list_slips.which_work(job.people(), job.made) if job.kind == "people" else ():
+            tell(kind, text)
         if job.departed:
             go_to(f"/office/departed/{memory.hold(clerk(), Departed(job.departed))}")
     elif is_stale(office := office_now(), job):
@@ -184,8 +224,7 @@ def look_again(office: Office, job: Job) -> str:
         beside = known_people.compare(office, table)._replace(departed=list(job.departed))
     if beside.known:
         came = ", ".join(sorted(table.records[number].fields[0] for number in beside.known))
-        tell("bad", _("Meanwhile these people came into the register: {people}. If you have printed slips for them, "
-                      "destroy these: their keys are other ones. All other slips stay good.", people=came))
+        tell("bad", list_slips.void(came, job.made))
     return looked_at(office, job, table, beside, None)
 
 

@@ -18,6 +18,19 @@ class News(NamedTuple):
     text: str
 
 
+class Told(NamedTuple):
+    """A piece of news, its time, and when the request had begun that told it."""
+
+    news: News
+    at: float
+    began: float
+
+    def is_for(self, began: float) -> bool:
+        """Whether it is for the page of a request that began then. What another request has told since is for the page to which
+        that one leads."""
+        return self.at <= began or self.began == began
+
+
 class Held(NamedTuple):
     """Something that waits for the clerk's answer."""
 
@@ -30,25 +43,28 @@ class Memory:
 
     def __init__(self) -> None:
         self._lock = threading.Lock()
-        self._news: dict[str, list[News]] = defaultdict(list)
+        self._news: dict[str, list[Told]] = defaultdict(list)
         self._held: dict[str, dict[str, Held]] = defaultdict(dict)
         self._searches: dict[str, str] = {}
         self._languages: dict[str, str] = {}
 
-    def tell(self, clerk: str, kind: str, text: str) -> None:
+    def tell(self, clerk: str, kind: str, text: str, began: float) -> None:
         """Keeps a piece of news for the clerk's next page, and the four before it."""
         with self._lock:
-            self._news[clerk] = [*self._news[clerk][-4:], News(kind, text)]
+            self._news[clerk] = [*self._news[clerk][-4:], Told(News(kind, text), time.monotonic(), began)]
 
-    def news(self, clerk: str) -> list[News]:
-        """Gives the clerk's news, once."""
+    def news(self, clerk: str, began: float) -> list[News]:
+        """Gives the clerk's news, once, to a request that began then."""
         with self._lock:
-            return self._news.pop(clerk, [])
+            told = self._news[clerk]
+            self._news[clerk] = [one for one in told if not one.is_for(began)]
+            return [one.news for one in told if one.is_for(began)]
 
     def tell_again(self, clerk: str, news: list[News], name: str) -> None:
         """Keeps news for a second press that waits for none any more, and lets slips be shown again that the browser dropped."""
         with self._lock:
-            self._news[clerk] += [one for one in news if one not in self._news[clerk]]
+            waiting = [one.news for one in self._news[clerk]]
+            self._news[clerk] += [Told(one, time.monotonic(), 0.0) for one in news if one not in waiting]
             found = self._held[clerk].get(name)
         if found and hasattr(found.what, "again"):
             found.what.again()
@@ -84,6 +100,12 @@ class Memory:
             self._forget()
             found = self._held[clerk].get(name)
             return found.what if found else None
+
+    def all_held(self) -> list[Any]:
+        """All that is held, of all clerks."""
+        with self._lock:
+            self._forget()
+            return [held.what for own in self._held.values() for held in own.values()]
 
     def let_go(self, clerk: str, name: str) -> None:
         """Forgets what was held."""

@@ -92,10 +92,11 @@ PHASES = {
 STEPS = {
     "open": Step(("idle",), N_("Open the next round"),
                  N_("Residents can hand in lists from then on. Homes cannot change until the round is over."),
-                 N_("To take it back, give the round up. Lists that residents have handed in by then are lost."), False),
+                 N_("To take it back, give the round up. Lists that residents have handed in by then can come back into the next "
+                    "round."), False),
     "close": Step(("open",), N_("Close the round"),
                   N_("Nobody can hand in or change a list any more. No person and no room can be added."),
-                  N_("You cannot open the round again. Giving it up loses all lists."), True),
+                  N_("You cannot open the round again. If you give it up, its lists can come back into the next round."), True),
     "draw": Step(("closed",), N_("Draw the order"), N_("Each participant gets a place in the order."),
                  N_("You cannot draw again in this round."), True),
     "run": Step(("drawn",), N_("Give the rooms"),

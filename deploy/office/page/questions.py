@@ -13,6 +13,7 @@ class Fact(NamedTuple):
 
     title: str
     items: list[str]
+    of_rooms: bool = False  # they are rooms, and no people
 
 
 class Question(NamedTuple):

@@ -81,9 +81,10 @@ def picture_of(link: str) -> str:
     return segno.make_qr(link, error="m", mask=MASK).svg_inline(omitsize=True, light="#fff", svgclass=None, lineclass=None)
 
 
-def sheet_of(keys: list[Key]) -> Sheet:
-    """The slips of these keys. They say when they were made: it tells one print from another."""
-    address, made, spoken_by = residents_page(), datetime.datetime.now(datetime.timezone.utc), residents()
+def sheet_of(keys: list[Key], at: datetime.datetime | None = None) -> Sheet:
+    """The slips of these keys. They say when they were made, which is now if nothing else is said: it tells one print from
+    another."""
+    address, made, spoken_by = residents_page(), at or datetime.datetime.now(datetime.timezone.utc), residents()
     slips = []
     for ident, name, key in keys:
         slip = Slip(ident, name, " ".join(key[at:at + 4] for at in range(0, len(key), 4)),

@@ -55,7 +55,8 @@ def given_up_with(office: Office, ident: str) -> tuple[GivenUp, str] | None:
 
 def others_in(found: dict[str, Any], ident: str) -> list[str]:
     """What else would become of people by going back to a copy, in a few words each."""
-    lists, names, keys, come, gone = (len(found[part]) for part in ("lists", "names", "keys", "come", "go"))
+    lists, names, keys, come, gone, grades, rooms = (
+        len(found[part]) for part in ("lists", "names", "keys", "come", "go", "grades", "rooms"))
     part = sum(1 for one in found["part"] if one != ident)
     said = [
         lists and ngettext("one person with another list", "{count} people with another list", lists),
@@ -64,6 +65,8 @@ def others_in(found: dict[str, Any], ident: str) -> list[str]:
         names and ngettext("one person with another name", "{count} people with another name", names),
         come and ngettext("one person who comes back into the register", "{count} people who come back into the register", come),
         gone and ngettext("one person who goes out of the register", "{count} people who go out of the register", gone),
+        grades and ngettext("one person with another grade", "{count} people with another grade", grades),
+        rooms and ngettext("a change of one room", "changes of {count} rooms", rooms),
     ]
     return [text for text in said if text]
 
@@ -104,7 +107,7 @@ def next_step(office: Office, ident: str, given_up: GivenUp, part: str) -> str:
     """The page of the step that comes after the round was given up."""
     left = what_is_left(office, had_in(given_up.copy))
     rest = [one for one in left.away if one != ident and not has_come_again(office, one)]
-    step = "open" if office.phase == "idle" else "back" if rest or left.lists_but(rest) else "done"
+    step = "open" if office.phase == "idle" else "back" if rest or left.lists_but(rest) or left.longer else "done"
     return show("undo", office=office, person=office.people[ident], left=part == GOING, step=step, before=None,
                 copy=given_up.copy, facts=(), later="")
 
