@@ -8,7 +8,7 @@ from growth import instructions
 
 TABLES = ("room", "person", "round", "move", "list", "grade", "word", "result", "choice", "going")
 CHECK = ["PRAGMA integrity_check", "PRAGMA foreign_key_check"]
-# The rows are written out, since whoever reads an office needs the values.
+# The rows are written out, since anybody who reads an office needs the values.
 READ = [f"SELECT * FROM {table}" for table in TABLES]
 
 
