@@ -1,19 +1,17 @@
 """What the office keeps of one person: in its file, in the kept copies, and in the journal. No key is in it."""
 
 import contextlib
-import csv
-import io
 import json
 import re
 import sqlite3
 from pathlib import Path
 from typing import Any
-from urllib.parse import quote
 
+from copies import kept_copy
 from languages import _
 from lines import IDENTIFIER
 from office import Office
-from placing import beside
+from rows import records_of
 from settings import Fault
 
 # The columns of an imported list that are shown; that of the key in a list of people is not.
@@ -25,12 +23,9 @@ def records_in(database: sqlite3.Connection, person: str) -> list[list[Any]]:
     found = []
     query = "SELECT label, kind, body FROM list WHERE kind <> 'rooms' AND instr(body, CAST(? AS BLOB)) > 0 ORDER BY label"
     for label, kind, body in database.execute(query, (person,)):
-        text = body.decode("utf-8-sig", "replace")
-        with contextlib.suppress(csv.Error):
-            for fields in csv.reader(io.StringIO(text, newline="")):
-                if fields and fields[0] == person:
-                    found.append([label, kind, [_("(key)") if place == KEY_COLUMN.get(kind) and field else field
-                                                for place, field in enumerate(fields)]])
+        found += [[label, kind, [_("(key)") if place == KEY_COLUMN.get(kind) and field else field
+                                 for place, field in enumerate(fields)]]
+                  for fields in records_of(body) if fields[0] == person]
     return found
 
 
@@ -42,12 +37,9 @@ def kept_in(file: Path, person: str) -> dict[str, Any]:
 
 
 def has_person(file: Path, person: str) -> bool:
-    """Whether a kept copy has a person, in its register or in a kept list. One that was damaged, with its log beside it, may
-    have everybody. The copy stays as it is: it is read without a lock."""
-    if beside(file, "-wal").exists():
-        return True
+    """Whether a kept copy has a person, in its register or in a kept list. One that was damaged may have everybody."""
     try:
-        with contextlib.closing(sqlite3.connect(f"file:{quote(str(file))}?mode=ro&immutable=1", uri=True)) as database:
+        with kept_copy(file) as database:
             known = database.execute("SELECT 1 FROM person WHERE id = ?", (person,)).fetchone()
             return bool(known or records_in(database, person))
     except sqlite3.Error:
@@ -66,7 +58,7 @@ def entries_of(journal: Path, person: str) -> list[dict[str, Any]]:
                     continue
                 number = str(entry.get("n", ""))
                 if number in changes:
-                    changes[number].update({name: entry[name] for name in ("answer", "status") if name in entry})
+                    changes[number].update({name: entry[name] for name in ("line", "answer", "status") if name in entry})
                 elif any(named.search(str(entry.get(part, ""))) for part in ("line", "note", "answer")):
                     found.append(entry)
                     if number:

@@ -15,6 +15,7 @@ import shutil
 import sqlite3
 import tempfile
 import time
+from collections.abc import Iterator
 from pathlib import Path
 from typing import Any, NamedTuple
 
@@ -178,6 +179,14 @@ class Backups:
                 shutil.copyfile(beside(source, end), beside(target, end))
         if not make_whole(target):
             raise Fault(_("the copy {name} is damaged, and was not put back", name=name))
+
+    @contextlib.contextmanager
+    def taken_out(self, name: str) -> Iterator[Path]:
+        """A kept copy as one file, for as long as the block runs."""
+        with tempfile.TemporaryDirectory(dir=self.settings.scratch) as folder:
+            file = Path(folder) / self.settings.file.name
+            self.take(name, file)
+            yield file
 
     def clear(self) -> None:
         """Deletes what a keeper left that was killed while it wrote a copy."""

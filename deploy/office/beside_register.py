@@ -4,7 +4,8 @@ college's accounts. A person who gets an identifier later is somebody else, and 
 So before new people come into the register, what is there under their identifiers is erased: of somebody who was removed by hand,
 or who is in the register no more since the office went back to a copy. Before people go, their identifiers are written down in a
 file beside the office's; once they are out of the register, all that is under them is erased, by the next keeper if this one is
-ended. After a way back it stays, since the office may come forth again, and no copy has it.
+ended. After a way back it stays, since the office may come forth again, and no copy has it; but before the office goes back to
+a copy that may have somebody else under an identifier (parting.py), what is under that is erased.
 """
 
 import contextlib
@@ -40,12 +41,33 @@ class BesideRegister:
     def erase_before(self, come: set[str]) -> None:
         """Erases what was somebody else's under these identifiers."""
         try:
-            self.post.book.erase(come)
-            self.languages.set_residents(dict.fromkeys(come, ""))
-            self.accounts.erase(come)
+            self.erase(come)
         except Fault as fault:
             raise Fault(_("{why} Before that nobody new comes into the register: what is kept there may be of somebody else who "
                           "had the same identifier. Nothing was changed in the register.", why=fault)) from fault
+
+    def erase_others(self, people: set[str]) -> None:
+        """Before the office goes back to a copy that may have others under these identifiers. If it fails, it does not."""
+        try:
+            self.erase(people)
+        except Fault as fault:
+            raise Fault(_("{why} Before that the office does not go back: what is kept there may be of another person than "
+                          "that of the copy ({people}). Nothing was changed in the office.", why=fault,
+                          people=", ".join(sorted(people)))) from fault
+
+    def erase(self, people: set[str]) -> None:
+        """Erases all that is under these identifiers."""
+        if people:
+            self.post.book.erase(people)
+            self.languages.set_residents(dict.fromkeys(people, ""))
+            self.accounts.erase(people)
+
+    def with_something(self, people: set[str]) -> set[str]:
+        """Those of these people of whom something is kept here, or may be, if that cannot be read."""
+        try:
+            return people & {*self.post.book.people(), *self.languages.kept().residents, *self.accounts.kept().people.values()}
+        except Fault:
+            return people
 
     def let_go(self, gone: Iterable[str]) -> None:
         """Erases all of people who are out of the register. If one file fails, the others are changed all the same, and the next

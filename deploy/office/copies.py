@@ -19,6 +19,7 @@ import time
 from collections.abc import Iterator
 from pathlib import Path
 from typing import NamedTuple
+from urllib.parse import quote
 
 from languages import _
 from placing import Place, beside
@@ -68,6 +69,26 @@ def make_whole(file: Path, look: bool = True) -> bool:
             return bool(database.execute("PRAGMA wal_checkpoint(TRUNCATE)").fetchone()[0] == 0)
     except sqlite3.DatabaseError:
         return False
+
+
+@contextlib.contextmanager
+def copied_beside(file: Path) -> Iterator[Path]:
+    """A copy of a copy of the office that the program has open while it waits for a line, for as long as the block runs."""
+    with tempfile.TemporaryDirectory(dir=file.parent) as folder:
+        for end in ENDS:
+            with contextlib.suppress(FileNotFoundError):
+                shutil.copyfile(beside(file, end), beside(Path(folder) / file.name, end))
+        yield Path(folder) / file.name
+
+
+@contextlib.contextmanager
+def kept_copy(file: Path) -> Iterator[sqlite3.Connection]:
+    """A kept copy, which stays as it is: it is read without a lock. One that was damaged has its log beside it, and is an error of
+    SQLite's."""
+    if beside(file, "-wal").exists():
+        raise sqlite3.DatabaseError("a log is beside the copy")
+    with contextlib.closing(sqlite3.connect(f"file:{quote(str(file))}?mode=ro&immutable=1", uri=True)) as database:
+        yield database
 
 
 class Copies:

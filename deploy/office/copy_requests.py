@@ -4,40 +4,35 @@
 |---|---|---|
 | backup, backups | | name; backups: name, bytes and reason of each; days: how long one stays at most; stays: of each |
 | days | days, only_try | gone: how many copies are older than so many days, and are deleted |
-| compare | name | what becomes of people by going back to a copy (differences.py); whose key is not kept, as they were removed |
-| given-up | name of a copy, or none | rounds: copy, number, phase of each; or what that one had, and rooms reopened since |
-| back | name, seen, newer_keys | name: of the copy of the office of before; `compare`, if it could be read; newest: lists |
+| compare | name | what becomes of people by going back to a copy (`compared` in parting.py); forgotten: of who comes back |
+| given-up | name of a copy, or none | rounds: copy, number, phase of each; or what that one had, and what has changed since |
+| back | name, seen, newer_keys | name: of the copy of the office of before; what has become of people, if it could be read |
 """
 
-import contextlib
-import sqlite3
 from collections.abc import Callable
-from pathlib import Path
 
 from backups import ASKED_FOR, MOST_DAYS
+from beside_register import BesideRegister
+from branches import Branches, named_in
 from dates import Dates
-from differences import differences
 from given_up import given_up
+from going_back import GoingBack
 from job import Job, seen_in, text
 from languages import _
 from office import Office
-from program import Answer, correct, is_of_earlier_version, is_refused, keys_in
+from parting import Parting
+from program import is_refused
 from rows import rows_of
-from seeds import lines_of, merged
-from seen import Rows
 from settings import Fault
-from since import named_since, way_back_after
 from worker import Change, Worker
-
-REMOVED = ("remove", "forget")  # the lines after which an identifier can be another person's
 
 
 class CopyRequests:
     """Answers what is asked of copies."""
 
-    def __init__(self, office: Office, worker: Worker, dates: Dates) -> None:
-        self.office, self.worker, self.dates = office, worker, dates
-        self.program, self.copies, self.backups, self.journal = office.program, office.copies, office.backups, office.journal
+    def __init__(self, office: Office, worker: Worker, dates: Dates, beside: BesideRegister) -> None:
+        self.office, self.worker, self.dates, self.beside = office, worker, dates, beside
+        self.backups, self.journal = office.backups, office.journal
 
     def requests(self) -> dict[str, Callable[[Job], Job]]:
         """What can be asked."""
@@ -68,61 +63,27 @@ class CopyRequests:
 
     def compare(self, job: Job) -> Job:
         """What becomes of people, if the office goes back to a kept copy."""
-        now = self.worker.view.rows()
-        with self.copies.copied() as copy:
-            self.backups.take(text(job, "name"), copy)
-            found = differences(rows_of(copy), now)
-        gone = {lines[0].split()[1] for entry in merged(list(self.journal.entries()))
-                if (lines := lines_of(entry)) and lines[0].startswith("forget ") and len(lines[0].split()) > 1}
-        removed = named_since(self.journal.entries(), text(job, "name"), *REMOVED)
-        return {**found, "forgotten": [person for person, _name in found["come"] if person in gone],
-                "removed": [person for person in found["keys"] if person in removed]}
+        name, now = text(job, "name"), self.worker.view.rows()
+        branches = Branches(self.journal.entries())
+        with self.backups.taken_out(name) as copy:
+            found = Parting(self.office, branches, name).compared(rows_of(copy), now)
+        forgotten = named_in(branches.entries, "forget")
+        return {**found, "gone": sorted(self.beside.with_something(set(found["gone"]))),
+                "forgotten": [person for person, _name in found["come"] if person in forgotten]}
 
     def given_up(self, job: Job) -> Job:
         """The rounds that were given up, or what one of them had."""
         return given_up(self.office, self.worker.view, text(job, "name") if "name" in job else None)
 
-    def newest(self, name: str, changed: list[str], now: Rows) -> list[str]:
-        """Whose list of these is the newest one again: if the copy was made before a way back, those who have handed in none since
-        then."""
-        if went := way_back_after(self.journal.entries(), name):
-            with contextlib.suppress(Fault, sqlite3.Error), self.copies.copied() as copy:
-                self.backups.take(went, copy)
-                lists = rows_of(copy)["choices"]
-                return [person for person in changed if lists.get(person) == now["choices"].get(person)]
-        return []
-
     def put_back(self, job: Job) -> Job:
-        """Puts a kept copy in the office's place. The present office is copied before, even if it is damaged.
-
-        A copy from before an upgrade of the program is brought to the program's version. With `newer_keys` who is in the register
-        then and now keeps the key of now, but not somebody who was removed since: the identifier may be another person's now.
-        """
-        name, newer, then, before, found = text(job, "name"), bool(job.get("newer_keys")), Rows(), Rows(), Job()
-        removed = named_since(self.journal.entries(), name, *REMOVED)
-
-        def carry_out(copy: Path) -> list[Answer]:
-            now, keys = None, {}
-            with contextlib.suppress(sqlite3.Error):  # of an office that is damaged
-                now, keys = rows_of(copy), keys_in(copy) if newer else {}
-            self.backups.take(name, copy)
-            answer = self.program.look(copy)
-            if is_of_earlier_version(answer):
-                answer = self.program.migrate(copy)
-            if answer.status == 0 and keys:
-                correct({person: {"key": keys[person]} for person in keys_in(copy).keys() & keys.keys() - removed}, copy)
-                answer = self.program.look(copy)
-            if answer.status == 0:
-                then.update(rows_of(copy))
-                before.update(now or {})
-                found.update(differences(then, now) if now else {})
-            return [answer]
-        line = f"back {name}{', with the newer keys' if newer else ''}"
-        change = self.worker.change(Change(job["who"], line, carry_out, whole=True, kind="back",
-                                         why=f"before back {name}, by {job['who']}", damaged=True, seen=seen_in(job)))
+        """Puts a kept copy in the office's place. The present office is copied before, even if it is damaged."""
+        name = text(job, "name")
+        way = GoingBack(self.office, self.beside, name, bool(job.get("newer_keys")))
+        change = self.worker.change(Change(job["who"], way.line, way.carry_out, whole=True, kind="back",
+                                           why=f"before back {name}, by {job['who']}", damaged=True, seen=seen_in(job),
+                                           before_put=way.erase))
         if is_refused(change.answers):
             said = change.answers[-1].text.strip()
             raise Fault(_("the program does not take this copy ({said}). Nothing was changed.", said=said))
-        self.dates.went_back(then)
-        newest = self.newest(name, found["lists"], before) if found else []
-        return {"name": change.copy, **found, "newest": newest}
+        self.dates.went_back(way.then)
+        return {"name": change.copy, **way.told()}

@@ -15,6 +15,7 @@ from collections.abc import Callable
 from pathlib import Path
 from typing import Any, NamedTuple
 
+from copies import copied_beside
 from figures_counted import ALL, TABLES, Counts, Tables, coarse
 from languages import _
 from lines import verb_of
@@ -165,10 +166,10 @@ class Before:  # pylint: disable=too-few-public-methods  # it notes, and nothing
         self.given_up: set[int] = set()
 
     def look(self, line: str, file: Path) -> None:
-        """Looks at the office, or a copy of it, on which a line is about to be carried out."""
+        """Looks at the office, or a copy of it, while the program has the file and is about to carry out a line."""
         if verb_of(line) in ("settle", "cancel") and file != self.file:
-            with contextlib.suppress(sqlite3.Error):  # the program says what is wrong with the file
-                rows = rows_of(file)
+            with contextlib.suppress(sqlite3.Error), copied_beside(file) as copy:  # the program says what is wrong with it
+                rows = rows_of(copy)
                 if verb_of(line) == "settle":
                     self.rows.append(rows)
                 else:

@@ -6,29 +6,25 @@ import contextlib
 import sqlite3
 from pathlib import Path
 from typing import Any
-from urllib.parse import quote
 
 from backups import Backups
+from branches import Branches, named_in
+from copies import kept_copy
 from languages import _
 from office import Office
-from placing import beside
+from parting import Parting
 from rows import View, rows_of
 from seen import Rows
 from settings import Fault
-from since import named_since
 
 GIVE_UP, SETTLE = "cancel", "settle"  # the kinds of the copies that are made before a round is given up, or settled
 
 
 def round_in(file: Path) -> tuple[int, str] | None:
-    """The number and the phase of the round in a kept copy, which stays as it is: it is read without a lock. Nothing about
-    one that was damaged."""
-    if beside(file, "-wal").exists():
-        return None
-    with contextlib.suppress(sqlite3.Error):
-        with contextlib.closing(sqlite3.connect(f"file:{quote(str(file))}?mode=ro&immutable=1", uri=True)) as database:
-            found = database.execute("SELECT number, phase FROM round").fetchone()
-            return (int(found[0]), str(found[1])) if found else None
+    """The number and the phase of the round in a kept copy. Nothing about one that was damaged."""
+    with contextlib.suppress(sqlite3.Error), kept_copy(file) as database:
+        found = database.execute("SELECT number, phase FROM round").fetchone()
+        return (int(found[0]), str(found[1])) if found else None
     return None
 
 
@@ -60,13 +56,16 @@ def had_in(rows: Rows) -> dict[str, Any]:
 
 
 def given_up(office: Office, view: View, name: str | None) -> dict[str, Any]:
-    """The rounds that were given up; or, with the name of the copy of one, what that round had."""
+    """The rounds that were given up; or, with the name of the copy of one, what that round had, and whose identifiers may be
+    somebody else's by now."""
     found = rounds(office.backups, office.settings.file.name, view.rows())
     if name is None:
         return {"rounds": found}
     if name not in [copy for copy, _, _ in found]:
         raise Fault(_("no round was given up after this copy was made, or the copy is gone"))
-    with office.copies.copied() as copy:
-        office.backups.take(name, copy)
-        # A list that came back before a room was reopened lacks it.
-        return {**had_in(rows_of(copy)), "reopened": sorted(named_since(office.journal.entries(), name, "reopen"))}
+    with office.backups.taken_out(name) as copy:
+        rows = rows_of(copy)
+    parting = Parting(office, Branches(office.journal.entries()), name)
+    # A list that came back before a room was reopened lacks it.
+    return {**had_in(rows), "others": sorted(parting.others_in(rows, view.rows())),
+            "reopened": sorted(named_in(parting.fork.before_other, "reopen"))}

@@ -41,6 +41,14 @@ def lines_of(job: Job) -> list[str]:
     return lines
 
 
+def again_in(job: Job) -> set[str]:
+    """The identifiers of which the sender says that they are those of the same people as before."""
+    again = job.get("again") or []
+    if not isinstance(again, list) or not all(isinstance(one, str) for one in again):
+        raise Fault("not understood: again is no list of identifiers")
+    return set(again)
+
+
 def body_of(job: Job) -> bytes:
     """The bytes of a list."""
     try:

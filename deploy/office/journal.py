@@ -3,7 +3,8 @@ wishes for, unless a clerk writes it into a note.
 
 Each entry is a line of JSON, and on the disk before the keeper goes on. A change has two: one before it begins,
 with `n`, `at`, `who` and `line` (and `copy`, if the office was copied first), and one after it has ended, with
-the same `n`, `answer`, `status` and `ms`. What a clerk notes is under `note`, so it is never taken for a change.
+the same `n`, `answer`, `status` and `ms`. If some of several lines took effect, and not all, the second entry has these under
+`line`, and the line that did not is a change of its own. What a clerk notes is under `note`, so it is never taken for a change.
 """
 
 import contextlib
@@ -19,7 +20,7 @@ from pathlib import Path
 from typing import Any
 
 from languages import N_, in_english
-from lines import LIKE_A_KEY, on_one_line
+from lines import LIKE_A_KEY, STEPS, on_one_line, verb_of
 from placing import beside, to_disk
 from settings import Fault, unwritten
 
@@ -30,8 +31,10 @@ WITHOUT_NAMES = re.compile(
 # The journal has these texts in English. The office's page shows them in the clerk's language.
 NOT_NOTED = N_("(an answer that is not noted)")
 CUT_OFF = N_("(an entry that was cut off)")
-NOT_KNOWN = N_("not known: the keeper was ended meanwhile. Look whether the line took effect.")
-OWN_TEXTS = (NOT_NOTED, CUT_OFF, NOT_KNOWN)
+NOT_KNOWN = N_("not known: the keeper ended before it had noted the answer. Look whether the line took effect.")
+# As versions up to 3.1.0 wrote it.
+EARLIER = N_("not known: the keeper was ended meanwhile. Look whether the line took effect.")
+OWN_TEXTS = (NOT_NOTED, CUT_OFF, NOT_KNOWN, EARLIER)
 KEY = N_("(key)")  # in the place of what may be a key
 # A person's list, in a line or in its answer, and the number of its rooms in its place.
 WISHES = re.compile(r"(choose \S+|chosen)((?: (?!\()\S+)*)")
@@ -42,6 +45,9 @@ SEEDS = re.compile(r"^(?:seed|draw \$\(rooms words --seed) ([0-9A-Fa-f]{64})\b")
 TAIL = 4 << 20   # bytes: so much of the end of the journal is read
 ANSWER = 300     # signs of an answer that are kept
 NOTE = 600       # signs of a note that are kept: a seed, and up to 400 of what the witnesses saw
+SPOKEN = 400     # signs of several lines that are kept as they are
+LONGEST = 50_000  # and of what is kept of them at most: 2,000 people, by their identifiers
+KEPT = STEPS | {"withdraw", "going", "leave", "remove", "forget"}  # lines that are kept, however many there are
 
 
 def masked(text: str, key: str = KEY) -> str:
@@ -66,6 +72,18 @@ def masked_line(line: str) -> str:
     if words[:1] == ["person"]:
         return masked(" ".join([*words[:2], f"{KEY} (name)"]))
     return masked(without_wishes(" ".join(words)))
+
+
+def spoken_of(lines: list[str]) -> str:
+    """Lines as the journal has them. Of many it has the first ones, and among the others those of KEPT: so no draw is hidden
+    there, and it is known to whom an identifier may belong no more."""
+    whole = "; ".join(map(masked_line, lines))
+    if len(whole) > SPOKEN and len(lines) > 1:
+        first = whole[:SPOKEN].rpartition("; ")[0]
+        others = lines[first.count("; ") + 1 if first else 0:]
+        kept = [masked_line(line) for line in others if verb_of(line) in KEPT]
+        whole = "; ".join([*filter(None, [first]), *([".."] if len(kept) < len(others) else []), *kept])
+    return whole if len(whole) <= LONGEST else f"{whole[:LONGEST]} .."
 
 
 def masked_note(text: str) -> str:
@@ -117,6 +135,13 @@ class Journal:
             self.add([*self.late, {"at": now(), **values}])
             self.late.clear()
 
+    def write_late(self) -> None:
+        """Writes down the ends that could not be written down yet, if that is possible now: before the keeper ends."""
+        with self.lock, contextlib.suppress(Fault, OSError):
+            if self.late:
+                self.add(self.late)
+                self.late.clear()
+
     def add(self, entries: list[dict[str, Any]]) -> None:
         """Adds entries, all or none."""
         text = "".join(json.dumps(entry, ensure_ascii=False) + "\n" for entry in entries)
@@ -137,15 +162,20 @@ class Journal:
         finally:
             os.close(held)
 
+    def number(self) -> str:
+        """The number of another change."""
+        return f"{time.time():.0f}-{os.getpid()}-{next(self.numbers)}"
+
     def begin(self, who: str, line: str, copy: str | None = None) -> str:
         """Notes that a change begins, and gives its number."""
-        number = f"{time.time():.0f}-{os.getpid()}-{next(self.numbers)}"
+        number = self.number()
         self.note(n=number, who=who, line=line, **({"copy": copy} if copy else {}))
         return number
 
-    def end(self, number: str, answer: str, status: int, milliseconds: int) -> None:
-        """Notes how a change ended. It has happened: if it cannot be noted now, it is noted with the next entry."""
-        values = {"n": number, "answer": without_names(answer), "status": status, "ms": milliseconds}
+    def end(self, number: str, answer: str, status: int, milliseconds: int, **other: str) -> None:
+        """Notes how a change ended, and what else is so of it than was noted before. It has happened: if it cannot be noted
+        now, it is noted with the next entry."""
+        values = {"n": number, **other, "answer": without_names(answer), "status": status, "ms": milliseconds}
         try:
             self.note(**values)
         except (Fault, OSError):
@@ -164,7 +194,10 @@ class Journal:
         self.end(number, "ok", 0, 0)
 
     def entries(self) -> Iterator[dict[str, Any]]:
-        """The entries at the end of the journal. An entry that is cut off is skipped."""
+        """The entries at the end of the journal, and the ends that could not be written down yet. An entry that is cut off is
+        skipped."""
+        with self.lock:
+            late = list(self.late)
         try:
             with open(self.path, "rb") as held:
                 held.seek(max(0, os.fstat(held.fileno()).st_size - TAIL))
@@ -176,6 +209,7 @@ class Journal:
                 entry = json.loads(line)
                 if isinstance(entry, dict):
                     yield entry
+        yield from late
 
     def is_whole(self) -> bool:
         """Whether the entries are all of the journal, and not only its end."""
@@ -203,7 +237,7 @@ class Journal:
             return sum(map(is_rid_of, old, new))
 
     def end_unfinished(self) -> None:
-        """Notes of each change in which a keeper was ended that its answer is not known."""
+        """Notes of each change of which an earlier keeper has noted no answer that this is not known."""
         self.part.unlink(missing_ok=True)
         entries = list(self.entries())
         ended = {entry["n"] for entry in entries if "n" in entry and "answer" in entry}

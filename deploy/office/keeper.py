@@ -202,6 +202,7 @@ def main() -> int:
     requests.post.stop()
     for server in servers:
         server.wait_for_answers()
+    requests.journal.write_late()
     return 0
 
 

@@ -4,10 +4,10 @@
 |---|---|---|
 | view | | the rows (rows.py); server: whether it runs; status, ended: of those that ended by themselves; until; disk (disk.py) |
 | watch | | faults: what is wrong with the server, the disk and the copies; age: of the newest copy, in seconds |
-| try | lines | answers: of a copy, which is thrown away |
-| do | lines, seen, saw | answers, done, took, copy; unkept: what went wrong with the figures of the round |
+| try | lines, again | answers: of a copy, which is thrown away |
+| do | lines, again, seen, saw | answers, done, took, copy; made: how many of the lines are in effect; unkept: faults of figures |
 | draw | seed, seen | as `do` |
-| import | kind, label, body, only_try, seen, saw | as `do`; known: whether its label was taken; `body` in base 64 |
+| import | kind, label, body, only_try, again, seen, saw | as `do`; known: whether its label was taken; `body` in base 64 |
 | export | kind | answers |
 | figures | | rounds: number, day and tables of each published round (figures_counted.py); damaged: the file, if it is damaged |
 | record | | body: the public record of the round |
@@ -29,6 +29,8 @@
 
 By `seen` and `saw` the sender says what it saw of the round and of people; if that is so no more, nothing is changed
 (seen.py). An answer is a text and a status of the program. `fault` is why something cannot be done, in the language `speaks`.
+By `again` the sender says whose identifiers are those of the same people as before. If somebody else comes under a former
+identifier, nothing is changed, and beside the fault `former` has each such identifier, with the name that it stood for (former.py).
 """
 
 import collections
@@ -40,40 +42,28 @@ from about import about, kept_in
 from accounts import Accounts, ClerkRequests
 from backups import blank
 from beside_register import BesideRegister
+from branches import Branches
 from copy_requests import CopyRequests
 from dates import Dates
 from disk import short_of_room
 from figures_kept import Before
+from former import Former, WasAnothers
 from history import history
-from job import Job, body_of, lines_of, saw_in, seen_in, text
-from journal import masked, masked_line, masked_note
+from job import Job, again_in, body_of, lines_of, saw_in, seen_in, text
+from journal import masked, masked_line, masked_note, spoken_of
 from languages import ENGLISH, _, speaking
 from languages_kept import LanguageRequests
-from lines import IDENTIFIER, STEPS, have_keys, name_shows_a_key, only_reads, reason_to_copy, verb_of
+from lines import IDENTIFIER, gone_by, name_shows_a_key, named, only_reads, reason_to_copy, verb_of
 from mail import Post
 from office import Office
 from program import NOT_UNDERSTOOD, Answer, correct, is_refused
-from rows import rows_of
+from rows import identifiers_in, rows_of
 from seen import Rows, takes_part
 from settings import Fault
 from watching import watch
 from worker import CarryOut, Change, Worker
 
-SPOKEN = 400   # signs of several lines that the journal keeps as they are
-LONGEST = 800  # and of what it keeps at most
 SHORT = 60     # signs of a line that a copy keeps
-
-
-def spoken_of(lines: list[str]) -> str:
-    """Lines as the journal has them. Of many it has the first ones, and the steps of the round among the others, so that
-    no draw is hidden there."""
-    whole = "; ".join(map(masked_line, lines))
-    if len(whole) <= SPOKEN:
-        return whole
-    first = whole[:SPOKEN].rpartition("; ")[0]
-    others = lines[first.count("; ") + 1 if first else 0:]
-    steps = [masked_line(line) for line in others if verb_of(line) in STEPS]
-    return "; ".join([*filter(None, [first]), "..", *steps]) if len(lines) > 1 else whole
 
 
 def short_of(lines: list[str]) -> str:
@@ -90,7 +80,8 @@ def has_label(rows: Rows, label: str) -> bool:
 
 def told_of(change: Change) -> Job:
     """What is answered of a change."""
-    return {"answers": change.answers, "done": not is_refused(change.answers), "took": change.took, "copy": change.copy}
+    return {"answers": change.answers, "done": not is_refused(change.answers), "made": change.made, "took": change.took,
+            "copy": change.copy}
 
 
 def only(answer: Answer) -> Job:
@@ -105,7 +96,7 @@ class Requests:
     def __init__(self, office: Office, worker: Worker) -> None:
         self.office, self.program, self.copies, self.worker = office, office.program, office.copies, worker
         self.journal, self.dates = office.journal, Dates(office, worker)
-        self.post, self.accounts = Post(office, worker), Accounts(office.settings.accounts)
+        self.post, self.accounts, self.former = Post(office, worker), Accounts(office.settings.accounts), Former(office)
         self.beside = BesideRegister(office.settings.file, self.post, office.languages, self.accounts)
         self.known: dict[str, Callable[[Job], Job]] = {
             "view": self.view, "watch": lambda _job: watch(self.office, self.worker), "try": self.try_out,
@@ -113,7 +104,8 @@ class Requests:
             "record": self.record, "blank": self.blank, "note": self.note,
             "journal": self.show_journal, "blank-journal": self.blank_journal, "correct": self.correct,
             "keys": self.new_keys, "forget": self.forget, "about": self.about,
-            **CopyRequests(office, worker, self.dates).requests(), **office.told.requests(), "set-until": self.dates.set,
+            **CopyRequests(office, worker, self.dates, self.beside).requests(),
+            **office.told.requests(), "set-until": self.dates.set,
             **self.post.requests(),
             "figures": lambda _job: self.office.figures.shown(self.worker.view.rows()),
             **ClerkRequests(self.accounts, worker.view, office.journal).known,
@@ -126,6 +118,8 @@ class Requests:
             raise Fault(f"not understood: there is no request {job.get('ask')!r}")
         try:
             return self.known[job["ask"]](job)
+        except WasAnothers as why:
+            return {"fault": str(why), "former": why.former}
         except KeyError as missing:
             raise Fault(f"not understood: the field {missing} is missing") from missing
 
@@ -133,7 +127,10 @@ class Requests:
 
     def view(self, _job: Job) -> Job:
         """The office as it is now."""
-        return {**self.worker.view.rows(), "server": self.worker.server is not None, "status": self.worker.status,
+        rows = self.worker.view.rows()
+        again = Branches(self.journal.entries()).removed_since_settled() if rows["left"] else set()
+        return {**rows, "left": [row for row in rows["left"] if row[0] not in again],
+                "server": self.worker.server is not None, "status": self.worker.status,
                 "ended": self.worker.ended(), "until": self.dates.shown(), "mail": self.post.is_on(),
                 "disk": short_of_room(self.copies.file)}
 
@@ -146,7 +143,13 @@ class Requests:
     def try_out(self, job: Job) -> Job:
         """Questions, and what lines would do."""
         with self.copies.copied() as copy:
-            return {"answers": self.program.tell_all(lines_of(job), copy)}
+            return {"answers": self.told(job, lines_of(job), copy)}
+
+    def told(self, job: Job, lines: list[str], file: Path, look: Callable[[str, Path], None] | None = None) -> list[Answer]:
+        """What a file answers to lines, up to the first that is not accepted."""
+        def carry_out() -> list[Answer]:
+            return self.program.tell_all(lines, file, look)
+        return self.former.watch(file, again_in(job), carry_out) if named(lines, "person") else carry_out()
 
     def export(self, job: Job) -> Job:
         """An export of a copy."""
@@ -173,32 +176,35 @@ class Requests:
     # --- changing
 
     def do_lines(self, job: Job) -> Job:
-        """Lines that change the office. Of several, all take effect or none."""
+        """Lines that change the office. If a copy refuses one of them, nothing is changed. If the office itself does, since it
+        was changed in between, the lines before it stand."""
         lines = lines_of(job)
         if any("\n" in line for line in lines):
             return only(NOT_UNDERSTOOD)
         if only_reads(lines):
             answers = self.try_out(job)["answers"]
             return {"answers": answers, "done": not is_refused(answers)}
-        removed = frozenset(line.split()[1] for line in lines if verb_of(line) == "remove" and len(line.split()) > 1)
-        whole = len(lines) > 1 or have_keys(lines) or bool(removed)
         kind = "lines" if len(lines) > 1 else verb_of(lines[0])
         if not reason_to_copy(lines, self.worker.view.rows()["choices"]):
             kind = ""
+        before, removed = Before(self.copies.file), named(lines, "remove")
+        reply: Job = {}
 
-        before = Before(self.copies.file)
+        def look(line: str, file: Path) -> None:
+            before.look(line, file)
+            if file == self.copies.file and (again := named([line], "person") & removed):
+                self.beside.prepare(again, set())  # the person before was removed by a line before this one
 
-        def carry_out(file: Path) -> list[Answer]:
-            if whole:
-                return self.program.tell_all(lines, file, before.look)
-            before.look(lines[0], file)
-            return [self.program.tell(lines[0], file)]
-        change = self.change(job, (short_of(lines), spoken_of(lines)), carry_out, whole=whole, kind=kind, removed=removed)
-        reply = told_of(change)
-        if reply["done"]:
-            self.follow(lines, before, reply)
-            self.beside.let_go(change.gone)
-        return reply
+        change = self.change_of(job, (short_of(lines), spoken_of(lines)), kind,
+                                lambda file: self.told(job, lines, file, look))
+        change.lines, change.come, change.gone = lines, named(lines, "person"), gone_by(lines)
+        try:
+            self.worker.change(change)
+        finally:  # what stands is followed, whatever has become of the lines after it
+            if stands := lines[:change.made]:
+                self.follow(stands, before, reply)
+                self.beside.let_go(gone_by(stands))
+        return {**told_of(change), **reply}
 
     def follow(self, lines: list[str], before: Before, reply: Job) -> None:
         """Brings figures and receipts up to lines that were carried out."""
@@ -212,32 +218,35 @@ class Requests:
         seed, count = text(job, "seed"), len(takes_part(self.worker.view.rows()))
         line = " ".join(["draw", *self.program.words(seed, count)])
         spoken = f"draw $(rooms words --seed {seed} --count {count})"
-        return told_of(self.change(job, ("draw", spoken), lambda file: [self.program.tell(line, file)], kind="draw"))
+        change = self.change_of(job, ("draw", spoken), "draw", lambda file: [self.program.tell(line, file)])
+        return told_of(self.worker.change(change))
 
     def bring_in(self, job: Job) -> Job:
         """A list. With `only_try` it is tried alone, and so is one under a label that is taken: it changes nothing."""
         kind, label, body = text(job, "kind"), text(job, "label"), body_of(job)
+        short, come, again = masked(f"import {kind} {label}"), set[str](), again_in(job)
+
+        def carry_out(file: Path) -> list[Answer]:
+            answers = self.former.watch(file, again, lambda: [self.program.bring_in(kind, label, body, file)])
+            if kind == "people" and not is_refused(answers) and file != self.copies.file:
+                come.update(identifiers_in(file))
+            return answers
+
         if job.get("only_try") or has_label(self.worker.view.rows(), label):
             with self.copies.copied() as copy:
                 known = has_label(rows_of(copy), label)
-                answer = self.program.bring_in(kind, label, body, copy)
+                answer = carry_out(copy)[0]
             if job.get("only_try") or known:
                 return {**only(answer), "known": known}
-        short = masked(f"import {kind} {label}")
-        return told_of(self.change(job, (short, f"{short} ({len(body)} bytes)"),
-                                   lambda file: [self.program.bring_in(kind, label, body, file)], whole=kind == "people",
-                                   kind="import"))
+        change = self.change_of(job, (short, f"{short} ({len(body)} bytes)"), "import", carry_out)
+        change.come = come
+        return told_of(self.worker.change(change))
 
-    # pylint: disable-next=too-many-arguments  # what a change is
-    def change(self, job: Job, names: tuple[str, str], carry_out: CarryOut, *, whole: bool = False, kind: str = "",
-               removed: frozenset[str] = frozenset()) -> Change:
-        """Gives a change to the worker. The names are those of the copy before it and in the journal. A change of the register has
-        to be a whole one: what is beside the register follows it."""
+    def change_of(self, job: Job, names: tuple[str, str], kind: str, carry_out: CarryOut) -> Change:
+        """A change for the worker. The names are those of the copy before it and in the journal."""
         short, spoken = names
-        spoken = spoken if len(spoken) <= LONGEST else spoken[:LONGEST] + " .."
-        why = f"before {short}, by {job['who']}"
-        return self.worker.change(Change(job["who"], spoken, carry_out, whole=whole, kind=kind, why=why, seen=seen_in(job),
-                                         saw=saw_in(job), register=self.beside.prepare, removed=removed))
+        return Change(job["who"], spoken, carry_out, kind=kind, why=f"before {short}, by {job['who']}", seen=seen_in(job),
+                      saw=saw_in(job), register=self.beside.prepare)
 
     # --- what is kept of people
 
@@ -265,7 +274,7 @@ class Requests:
             homes = {row[0]: row[2] for row in rows_of(copy)["people"]}
             lines = [f"leave {person}"] if homes.get(person) else []
             lines += [f"remove {person}"] if person in homes else []
-            answers = self.program.tell_all(lines, copy)
+            answers = self.program.tell_all(lines, copy) if lines else []
             if lines and is_refused(answers):
                 return answers
             blank(sorted({record[0] for record in kept_in(copy, person)["lists"]}), copy)

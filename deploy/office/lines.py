@@ -46,9 +46,17 @@ def only_reads(lines: list[str]) -> bool:
     return all(verb_of(line) in READS for line in lines)
 
 
-def have_keys(lines: list[str]) -> bool:
-    """Whether one of these lines has a key."""
-    return any(verb_of(line) in ("person", "me") for line in lines)
+def named(lines: list[str], verb: str) -> set[str]:
+    """Whom or what the lines with this verb name."""
+    return {words[1] for words in map(str.split, lines) if words[:1] == [verb] and len(words) > 1}
+
+
+def gone_by(lines: list[str]) -> set[str]:
+    """Who is out of the register after these lines, which were accepted."""
+    gone: set[str] = set()
+    for line in lines:
+        gone = (gone | named([line], "remove")) - named([line], "person")
+    return gone
 
 
 def shows_a_key(line: str) -> bool:

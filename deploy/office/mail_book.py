@@ -7,9 +7,12 @@ back to a copy; so this file does not.
 
 import contextlib
 import datetime
+import hashlib
+import json
+import secrets
 import sqlite3
 import threading
-from collections.abc import Iterable, Iterator
+from collections.abc import Iterable, Iterator, Mapping
 from pathlib import Path
 from typing import Any, NamedTuple
 
@@ -19,6 +22,7 @@ from mail_words import ALL, RECEIPT, Text
 from settings import Fault
 
 WAITING, BEGUN, SENT, REFUSED, UNCERTAIN = "waiting", "begun", "sent", "refused", "uncertain"
+SECRET = "told-secret"  # a setting: the key of the marks
 RUNNING, PAUSED, ENDED = "running", "paused", "ended"
 TABLES = """
 CREATE TABLE IF NOT EXISTS address(person TEXT PRIMARY KEY, email TEXT NOT NULL);
@@ -28,6 +32,8 @@ CREATE TABLE IF NOT EXISTS setting(name TEXT PRIMARY KEY, value TEXT NOT NULL);
 CREATE TABLE IF NOT EXISTS turn(kind TEXT, round INTEGER, number INTEGER NOT NULL, PRIMARY KEY(kind, round));
 CREATE TABLE IF NOT EXISTS message(kind TEXT, round INTEGER, turn INTEGER, person TEXT, state TEXT NOT NULL, at TEXT NOT NULL,
   why TEXT NOT NULL, PRIMARY KEY(kind, round, turn, person));
+CREATE TABLE IF NOT EXISTS told(kind TEXT, round INTEGER, turn INTEGER, person TEXT, mark TEXT NOT NULL,
+  PRIMARY KEY(kind, round, turn, person));
 CREATE TABLE IF NOT EXISTS run(one INTEGER PRIMARY KEY, kind TEXT NOT NULL, round INTEGER NOT NULL, turn INTEGER NOT NULL,
   subject TEXT NOT NULL, body TEXT NOT NULL, link TEXT NOT NULL, who TEXT NOT NULL, state TEXT NOT NULL, why TEXT NOT NULL,
   at TEXT NOT NULL);
@@ -35,7 +41,8 @@ CREATE TABLE IF NOT EXISTS run_words(language TEXT PRIMARY KEY, subject TEXT NOT
 CREATE TABLE IF NOT EXISTS receipt(person TEXT PRIMARY KEY, now TEXT NOT NULL, at TEXT NOT NULL, told TEXT NOT NULL);
 """
 # The table `text` has what clerks wrote before there were languages, and `words` what they write in each. `run` has the text of
-# everybody who has no other one in `run_words`.
+# everybody who has no other one in `run_words`. `told` has a mark of what a message told its person that may change, in the
+# place of the rooms.
 
 # The messages of the run, which is the only one.
 OF_RUN = "(kind, round, turn) = (SELECT kind, round, turn FROM run)"
@@ -112,11 +119,15 @@ class Book:  # pylint: disable=too-many-public-methods  # one for each thing tha
             database.executemany("INSERT OR REPLACE INTO address VALUES (?, ?)", addresses.items())
             database.execute("DELETE FROM address WHERE email = ''")
 
+    def people(self) -> set[str]:
+        """Who has an address, or was sent something."""
+        return {person for person, in self.rows("SELECT person FROM address UNION SELECT person FROM message")}
+
     def erase(self, people: Iterable[str]) -> None:
         """Erases all that the file has of people."""
         if self.path.exists():
             with self.opened() as database:
-                for table in ("address", "message", "receipt"):
+                for table in ("address", "message", "told", "receipt"):
                     database.executemany(f"DELETE FROM {table} WHERE person = ?", [(person,) for person in people])
 
     def has(self, person: str) -> dict[str, Any]:
@@ -162,6 +173,21 @@ class Book:  # pylint: disable=too-many-public-methods  # one for each thing tha
         found = self.rows("SELECT person, state, at, why FROM message WHERE kind = ? AND round = ? AND turn = ? ORDER BY person",
                           kind, number, turn)
         return {person: rest for person, *rest in found}
+
+    def told(self, kind: str, number: int, turn: int) -> dict[str, str]:
+        """The mark of what the messages of a turn told, by person. Messages that earlier versions sent have none."""
+        return dict(self.rows("SELECT person, mark FROM told WHERE kind = ? AND round = ? AND turn = ?", kind, number, turn))
+
+    def marks_of(self, told: Mapping[str, object]) -> dict[str, str]:
+        """The mark of what a message tells each person."""
+        if not told:
+            return {}
+        secret = self.setting(SECRET)
+        if not secret:
+            secret = secrets.token_hex(16)
+            self.set(**{SECRET: secret})
+        return {person: hashlib.blake2b(json.dumps(one).encode(), digest_size=12, key=secret.encode()).hexdigest()
+                for person, one in told.items()}
 
     def forget_uncertain(self, kind: str, number: int, turn: int) -> None:
         """Takes uncertain messages for such that were not sent."""
@@ -215,6 +241,14 @@ class Book:  # pylint: disable=too-many-public-methods  # one for each thing tha
             database.execute(f"UPDATE message SET state = ?, at = ?, why = ? WHERE {OF_RUN} AND person = ?",
                              (state, now(), why, person))
 
+    def begin_message(self, person: str, told: Mapping[str, object]) -> None:
+        """The message of the run to this person is on its way. `told` has what it tells them, if that may change."""
+        marks = self.marks_of({one: what for one, what in told.items() if one == person})
+        with self.opened() as database:
+            database.execute(f"UPDATE message SET state = ?, at = ?, why = '' WHERE {OF_RUN} AND person = ?",
+                             (BEGUN, now(), person))
+            database.executemany("INSERT OR REPLACE INTO told SELECT kind, round, turn, ?, ? FROM run", marks.items())
+
     def skip(self, person: str) -> None:
         """The message of the run to this person is none any more."""
         with self.opened() as database:
@@ -234,5 +268,5 @@ class Book:  # pylint: disable=too-many-public-methods  # one for each thing tha
 
 def forget_old(database: sqlite3.Connection, number: int) -> None:
     """Forgets the messages of rounds that are long over."""
-    for table in ("message", "turn"):
+    for table in ("message", "told", "turn"):
         database.execute(f"DELETE FROM {table} WHERE round < ?", (number - 1,))

@@ -27,6 +27,16 @@ def goes_to(kind: str, rows: Rows, moves: dict[str, list[str]]) -> list[str]:
     return [person for person in (moves if kind == "moves" else dict(rows["results"])) if person in known]
 
 
+def told_by(kind: str, rows: Rows, moves: dict[str, list[str]]) -> dict[str, list[str | None]]:
+    """What a message of this kind tells each person that may be something else once results are published anew."""
+    if kind == "moves":
+        return {person: list(move) for person, move in moves.items()}
+    if kind != "results":
+        return {}
+    homes = {person: home for person, _name, home, _withdrawn in rows["people"]}
+    return {person: [room, homes.get(person)] for person, room in rows["results"]}
+
+
 def planned_moves(rows: Rows, program: Program, copies: Copies) -> dict[str, list[str]]:
     """The plan of moves that settling the published round will record: wave, old room and new room, by person."""
     if rows["phase"] != "published":
@@ -82,9 +92,10 @@ def receipt_of(rows: Rows, person: str, since: datetime.datetime) -> str:
         return _("You have withdrawn from round {round}, since about {time}.", round=number, time=time)
     count = len(rows["choices"].get(person, []))
     if not count:
-        return _("Round {round} has had an empty list from you since about {time}.", round=number, time=time)
-    return ngettext("Round {round} has had a list of {count} room from you since about {time}.",
-                    "Round {round} has had a list of {count} rooms from you since about {time}.", count, round=number, time=time)
+        return _("An empty list of yours has been on record in round {round} since about {time}.", round=number, time=time)
+    return ngettext("A list of yours with {count} room has been on record in round {round} since about {time}.",
+                    "A list of yours with {count} rooms has been on record in round {round} since about {time}.", count,
+                    round=number, time=time)
 
 
 def values_of(kind: str, rows: Rows, person: str, link: str, known: dict[str, list[str]]) -> dict[str, str]:

@@ -6,8 +6,8 @@ import threading
 import time
 
 from languages import ENGLISH, speaking
-from mail_book import BEGUN, ENDED, PAUSED, REFUSED, SENT, UNCERTAIN, WAITING, Book, Run
-from mail_people import goes_to, planned_moves, values_of
+from mail_book import ENDED, PAUSED, REFUSED, SENT, UNCERTAIN, WAITING, Book, Run
+from mail_people import goes_to, planned_moves, told_by, values_of
 from mail_send import Away, NotTaken, Unknown, message_of, send
 from mail_settings import MailSettings, must_read
 from mail_why import FAILED, GONE_ON, MANY_REFUSED, NOBODY_KNOWS, TAKES_NONE, kept
@@ -112,7 +112,7 @@ class Sender:
         language, text = self.text_for(person, run)
         with speaking(language):
             message = message_of(settings, address, filled(text, values_of(run.kind, rows, person, run.link, moves)))
-        self.book.mark(person, BEGUN)
+        self.book.begin_message(person, told_by(run.kind, rows, moves))
         try:
             send(settings, address, message)
         except NotTaken as why:

@@ -3,7 +3,8 @@
 A kind is an object of: now: whether it can be sent; turn; people: how many it is for; to: who would get it; gets: how many of these
 in each language; no_address; sent, refused, uncertain: the person, the time and why of each; texts: subject and body by language;
 own: the languages in which clerks have written one; default: the language of all others; mark: of texts and turn. That of
-receipts has also on, why and waiting.
+receipts has also on, why and waiting. The others have, in the form of sent: changed, whose message is no longer right since
+results were published anew, and who would get it again; and others, who has it, and for whom it is not any more.
 """
 
 import collections
@@ -14,7 +15,7 @@ from typing import Any
 from job import Job
 from languages_kept import Languages
 from mail_book import BEGUN, PAUSED, REFUSED, RUNNING, SENT, UNCERTAIN, WAITING, Book
-from mail_people import goes_to
+from mail_people import goes_to, told_by
 from mail_receipts import Receipts
 from mail_run import Sender
 from mail_why import AWAY, NOBODY_KNOWS, TAKES_NONE, UNKNOWN, UNWRITTEN, said
@@ -24,6 +25,7 @@ from seen import Rows
 
 # What is said with the message at which it stopped, and how that one stands now.
 OF_MESSAGE = {TAKES_NONE: (AWAY, WAITING), NOBODY_KNOWS: (UNKNOWN, UNCERTAIN)}
+CHANGED, OTHERS = "changed", "others"  # what was sent, and is not right any more
 HAVE = (SENT, UNCERTAIN, BEGUN, WAITING)  # a further press sends nothing to these
 
 
@@ -42,15 +44,27 @@ class State:
         number, turn, texts = rows["number"], self.book.turn(kind, rows["number"]), self.texts(kind)
         now = rows["phase"] == KINDS[kind].phase
         people = goes_to(kind, rows, self.sender.moves(rows)) if now else []
-        states = self.book.states(kind, number, turn)
+        states = self.states(kind, rows, turn, people) if now else self.book.states(kind, number, turn)
         next_ones = [one for one in people if one in addresses and states.get(one, [""])[0] not in HAVE]
         found = {state: [[one, at, said(why)] for one, (was, at, why) in states.items() if was == state]
-                 for state in (SENT, REFUSED, UNCERTAIN)}
+                 for state in (SENT, REFUSED, UNCERTAIN, CHANGED, OTHERS)}
         return {"now": now, "turn": turn, "people": len(people), "to": next_ones, "gets": self.gets(texts, next_ones),
                 "no_address": [one for one in people if one not in addresses],
                 **(self.of_receipts(texts, rows, addresses) if kind == RECEIPT else found),
                 "texts": texts.each, "own": sorted(texts.own), "default": texts.default,
                 "mark": hashlib.sha256(json.dumps([texts.each, texts.default, turn]).encode()).hexdigest()[:16]}
+
+    def states(self, kind: str, rows: Rows, turn: int, people: list[str]) -> dict[str, list[str]]:
+        """What became of the messages to each person, now that they go to these people. What a message told may not be so any
+        more, since results were published anew."""
+        number, told = rows["number"], self.book.told(kind, rows["number"], turn)
+        right = self.book.marks_of(told_by(kind, rows, self.sender.moves(rows))) if told else {}
+        states = self.book.states(kind, number, turn)
+        for person in told.keys() & states.keys():
+            was, *rest = states[person]
+            if was in (SENT, UNCERTAIN) and (person not in people or told[person] != right[person]):
+                states[person] = [CHANGED if person in people else OTHERS, *rest]
+        return states
 
     def gets(self, texts: Texts, people: list[str]) -> dict[str, int]:
         """How many of these people get the text of each language."""

@@ -62,8 +62,8 @@ KINDS = {
                 "new one. Your room now: {room}. Without a list you keep your room; if you have none, you get none.\n\nYour "
                 "housing office\n"))),
     "reminder": Kind(
-        N_("Reminder"), N_("reminder"), N_("everybody who takes part and has handed in no list"),
-        N_("This message goes to everybody who takes part and has handed in no list, and can be sent while the round is open."),
+        N_("Reminder"), N_("reminder"), N_("everybody who takes part and has no list on record"),
+        N_("This message goes to everybody who takes part and has no list on record, and can be sent while the round is open."),
         "open", {},
         Text(N_("Room exchange: your list is missing"),
              N_("Dear {name},\n\nwe have no list from you for round {round} of the room exchange. You can hand one in on this page "
@@ -75,7 +75,7 @@ KINDS = {
         N_("This message goes to everybody whose list on record has changed, while the round is open."), "open",
         {"list": N_("a sentence: how many rooms are on the list, or that it is empty, or that the person has withdrawn; and since "
                     "about when. It names no room.")},
-        Text(N_("Room exchange: what we have from you"),
+        Text(N_("Room exchange: what is on record of you"),
              N_("Dear {name},\n\n{list}\n\nThis page shows what is on record, and what you can change:\n\n{link}\n\nIf this was "
                 "not you, and you have not asked us for it, tell us at once: somebody else may have your key, and you need a new "
                 "one.\n\nYour housing office\n"))),

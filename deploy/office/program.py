@@ -1,15 +1,12 @@
 """Runs the program `rooms`, and gives its answers.
 
-The program takes a key only as a word of its command line, and every account of the machine can read the command
-lines of all processes. So no word that may be a key is ever such a word here, but for the words of a draw and
-its seed. On a copy of the office a stand-in replaces the key, and afterwards the key replaces the stand-in
-(`add_person`, `ask_me`).
+Every account of the machine can read the command lines of all processes. So lines go to the program's standard input
+(line_run.py), and no word that may be a key is a word of a command line, but for the seed of a draw.
 """
 
 import contextlib
 import os
 import re
-import secrets
 import sqlite3
 import subprocess
 import tempfile
@@ -19,11 +16,14 @@ from pathlib import Path
 from typing import NamedTuple
 
 from languages import _
-from lines import LIKE_A_KEY, name_shows_a_key, shows_a_key, verb_of
+from line_run import UNAVAILABLE, Ended, LineRun, is_skipped, status_of
+from lines import name_shows_a_key, shows_a_key, verb_of
 from settings import Fault, Settings
 
-KEY = re.compile(r"[a-z0-9]{16,64}")
 SEED = re.compile(r"[0-9A-Fa-f]{64}")
+FURTHER, MOST = 0.02, 2_000  # seconds for each further line of a bundle, and for how many of them at most
+PATIENCE = 5.0               # seconds until a program by hand has to have closed the office's file
+AGAIN = 0.05                 # seconds after which the program tries again whether it has
 
 
 class Answer(NamedTuple):
@@ -34,7 +34,14 @@ class Answer(NamedTuple):
 
 
 NOT_UNDERSTOOD = Answer("not understood\n", 2)
-KEY_IN_USE = Answer("refused 6 KeyInUse\n", 1)
+
+
+class Unanswered(Fault):
+    """The program gave no answer to a line. `answers` has those to the lines before it."""
+
+    def __init__(self, why: str, answers: list[Answer]) -> None:
+        super().__init__(why)
+        self.answers = answers
 
 
 def is_refused(answers: list[Answer]) -> bool:
@@ -53,11 +60,13 @@ def bound(*words: str) -> list[str]:
     return ["setpriv", "--pdeathsig", "KILL", "sh", "-c", '[ "$PPID" = "$0" ] && exec "$@"', str(os.getpid()), *words]
 
 
-def change_key(old: str, new: str, copy: Path) -> None:
-    """Changes this key into another one, in a copy."""
-    with contextlib.closing(sqlite3.connect(copy)) as database:
-        with database:
-            database.execute("UPDATE person SET passkey = ? WHERE passkey = ?", (new, old))
+def is_taken(line: str) -> bool:
+    """Whether the program may get a line: it is one line of UTF-8, and no new person's name may be a key."""
+    try:
+        line.encode("utf-8", "surrogateescape")
+    except UnicodeEncodeError:
+        return False
+    return "\n" not in line and not (verb_of(line) == "person" and name_shows_a_key(" ".join(line.split()[3:])))
 
 
 def correct(people: dict[str, dict[str, str]], copy: Path) -> None:
@@ -104,63 +113,78 @@ class Program:
         try:
             done = subprocess.run(line, stdin=subprocess.DEVNULL, capture_output=True, timeout=limit, check=False)
         except subprocess.TimeoutExpired as fault:
-            raise Fault(_("the program did not end within {seconds:g} seconds, and was ended. Look whether the line took effect.",
-                          seconds=limit)) from fault
+            why = _("the program did not end within {seconds:g} seconds, and was ended.", seconds=limit)
+            raise Fault(_("{why} Look whether the line took effect.", why=why)) from fault
         return Answer((done.stdout + done.stderr).decode("utf-8", "replace"), done.returncode)
 
     def tell(self, line: str, file: Path) -> Answer:
-        """Has a file answer one line. A line with a word that may be a key is not understood, and never handed over."""
-        return NOT_UNDERSTOOD if shows_a_key(line) else self.hand_over(line, file)
+        """Has a file answer one line."""
+        return self.tell_all([line], file)[0]
 
-    def hand_over(self, line: str, file: Path) -> Answer:
-        """Hands one line over as it is. No option gets through: all words come after `--`."""
-        if "\n" in line:
-            return NOT_UNDERSTOOD
-        return self.run("do", "--db", str(file), "--", *line.split(" "))
-
-    def tell_all(self, lines: list[str], copy: Path, look: Callable[[str, Path], None] | None = None) -> list[Answer]:
-        """Has a copy answer lines, up to the first that is not accepted. These may have keys. Before each line it is looked at."""
-        with_key = {"person": self.add_person, "me": self.ask_me}
-        answers: list[Answer] = []
-        limit = self.settings.line_seconds
-        end = time.monotonic() + limit
-        for line in lines:
-            if time.monotonic() > end:
-                raise Fault(_("these lines take longer than {seconds:g} seconds together, and residents would wait for so "
-                              "long. Nothing was changed: make several files of them.", seconds=limit))
-            if look:
-                look(line, copy)
-            verb = verb_of(line)
-            answers.append(with_key.get(verb, self.tell)(line, copy))
-            if is_refused(answers):
-                break
+    def tell_all(self, lines: list[str], file: Path, look: Callable[[str, Path], None] | None = None) -> list[Answer]:
+        """Has a file answer lines, up to the first that is not accepted. The program opens the file once, and each line that it
+        has answered stands. Before each line `look` is called, while the program has the file."""
+        run, opened = self.opened(file, len(lines))
+        answers = [] if opened.status == 0 else [opened]
+        try:
+            for line in [] if answers else lines:
+                if look:
+                    look(line, file)
+                answers.append(self.answer_to(line, run))
+                if is_refused(answers):
+                    break
+        except Ended as fault:
+            run.close()
+            raise self.unanswered(run, file, answers, len(lines)) from fault
+        except (Fault, OSError, sqlite3.Error) as fault:  # of `look`
+            if file != self.settings.file:
+                raise
+            why = _("{why} {made} of {count} lines were carried out before.", why=fault, made=len(answers), count=len(lines))
+            raise Unanswered(why, answers) from fault
+        finally:
+            run.close()
+        if run.said and is_refused(answers):
+            answers[-1] = Answer(answers[-1].text + run.said, answers[-1].status)
         return answers
 
-    def add_person(self, line: str, copy: Path) -> Answer:
-        """`person ID KEY NAME..` on a copy. The person is added with a stand-in, which the key then replaces."""
-        words, name = line.split(), " ".join(line.split()[3:])
-        if not name or shows_a_key(words[1]) or not KEY.fullmatch(words[2]) or name_shows_a_key(name):
-            return NOT_UNDERSTOOD
-        stand_in = secrets.token_hex(16)
-        hidden = LIKE_A_KEY.sub(lambda found: "x" * len(found[0]), name)  # a long word of the name may be a key
-        answer = self.hand_over(f"person {words[1]} {stand_in} {hidden}", copy)
-        if answer.status == 0:
+    def opened(self, file: Path, count: int) -> tuple[LineRun, Answer]:
+        """A run for so many lines, and the answer to a `round`: whether the program has the file. It waits for another program
+        that has the office's file, as by hand."""
+        seconds, end = self.settings.line_seconds + FURTHER * (min(count, MOST) - 1), time.monotonic() + PATIENCE
+        while True:
+            run = LineRun(bound(self.settings.program, "lines", "--db", str(file)), seconds, self.settings.scratch)
             try:
-                correct({words[1]: {"name": name}}, copy)
-                change_key(stand_in, words[2], copy)
-            except sqlite3.IntegrityError:
-                return KEY_IN_USE
-        return answer
+                opened = self.answer_to("round", run)
+            except Ended as fault:
+                run.close()
+                raise self.unanswered(run, file, [], count) from fault
+            if opened.status != UNAVAILABLE or file != self.settings.file or time.monotonic() > end:
+                return run, opened
+            run.close()
+            time.sleep(AGAIN)
 
-    def ask_me(self, line: str, copy: Path) -> Answer:
-        """`me KEY` on a copy: what the owner of the key sees. Afterwards the copy is as it was."""
-        words, stand_in = line.split(), secrets.token_hex(16)
-        if len(words) != 2 or not KEY.fullmatch(words[1]):
+    @staticmethod
+    def answer_to(line: str, run: LineRun) -> Answer:
+        """The answer to a line. The program has none for one that it skips."""
+        if not is_taken(line):
             return NOT_UNDERSTOOD
-        change_key(words[1], stand_in, copy)
-        answer = self.hand_over(f"me {stand_in}", copy)
-        change_key(stand_in, words[1], copy)
-        return answer
+        text = "" if is_skipped(line) else run.ask(line)
+        return Answer(text, status_of(text))
+
+    def unanswered(self, run: LineRun, file: Path, answers: list[Answer], count: int) -> Unanswered:
+        """The fault of a run that has ended before it answered so many lines. A copy is thrown away then."""
+        if run.is_late:
+            why = _("the program did not end within {seconds:g} seconds, and was ended.", seconds=run.seconds)
+        else:
+            why = _("the program ended before it had answered ({said}).", said=run.said.strip() or run.process.returncode)
+        if file != self.settings.file or run.handed == 1:
+            why = _("{why} Nothing was changed.", why=why)
+        elif count == 1:
+            why = _("{why} Look whether the line took effect.", why=why)
+        else:
+            why = _("{why} {made} of {count} lines were carried out before. Look whether the next one took effect, too.",
+                    why=why, made=len(answers), count=count)
+        return Unanswered(why, answers)
 
     def bring_in(self, kind: str, label: str, body: bytes, file: Path) -> Answer:
         """Imports a list. The program reads it from a file in memory, which is gone afterwards."""

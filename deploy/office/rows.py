@@ -1,11 +1,13 @@
 """What the office's file says, read from a copy: all but keys, of which it has marks, and the bytes of lists."""
 
 import contextlib
+import csv
 import hashlib
+import io
 import secrets
 import sqlite3
 import threading
-from collections.abc import Callable
+from collections.abc import Callable, Iterator
 from pathlib import Path
 
 from copies import Copies, State
@@ -35,6 +37,18 @@ def identifiers_in(file: Path) -> set[str]:
     """Who is in the register of a copy."""
     with contextlib.closing(sqlite3.connect(file)) as database:
         return {person for person, in database.execute("SELECT id FROM person")}
+
+
+def names_in(file: Path) -> dict[str, str]:
+    """The names of the people in the register of a copy."""
+    with contextlib.closing(sqlite3.connect(file)) as database:
+        return dict(database.execute("SELECT id, name FROM person"))
+
+
+def records_of(body: bytes) -> Iterator[list[str]]:
+    """The records of a kept list, as far as it can be read."""
+    with contextlib.suppress(csv.Error):
+        yield from filter(None, csv.reader(io.StringIO(body.decode("utf-8-sig", "replace"), newline="")))
 
 
 def rows_of(file: Path) -> Rows:

@@ -33,7 +33,7 @@ class Settings:  # pylint: disable=too-many-instance-attributes  # each is a set
     socket: Path              # the keeper's socket, if systemd does not open it
     scratch: Path             # a folder in memory for copies: they have everybody's key
     speakers: frozenset[str]  # accounts that may say for whom they act; every other account acts for itself
-    line_seconds: float       # the longest time for the program and one line; HAProxy lets residents wait for 20
+    line_seconds: float       # the longest time for the program and one line; a bundle has some more for each further line
     turn_seconds: float       # the longest time that a change waits for its turn
     connections: int = 1_000_000  # `rooms serve` ends after so many, and is started again
     stop_seconds: float = 5   # after so long a stop the server is started, even if more changes wait

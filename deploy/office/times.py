@@ -73,6 +73,6 @@ def moment_of(copy: str) -> datetime.datetime | None:
 
 
 def of_copy(name: str) -> str:
-    """When a copy was made, by its name, which stays as it is if it is no copy's."""
-    moment = moment_of(name)
-    return shown(moment) if moment else name
+    """When a copy was made, by its name, which stays as it is if it is no copy's. Of several in one second it has the number."""
+    moment, number = moment_of(name), name.partition("-")[2].lstrip("0")
+    return f"{shown(moment)}{f' ({number})' if number else ''}" if moment else name

@@ -17,9 +17,10 @@ from pathlib import Path
 from typing import Any
 
 from copies import make_whole
+from journal import spoken_of
 from languages import _, in_english, speaking, spoken
 from office import Office
-from program import Answer, is_refused
+from program import Answer, Unanswered, is_refused
 from rows import View, identifiers_in
 from seen import Saw, why_stale
 from settings import Fault
@@ -45,13 +46,16 @@ class Change:  # pylint: disable=too-many-instance-attributes  # what is asked f
     why: str = ""
     damaged: bool = False                       # even if the office is damaged
     register: Register | None = None            # learns who comes into the register and who leaves, before they do
-    removed: frozenset[str] = frozenset()       # who goes by its lines, and may come again by a later one
+    before_put: Callable[[], None] | None = None  # done once the copy is the office to be, before it takes the office's place
+    lines: list[str] = field(default_factory=list)  # that it carries out one after the other
+    come: set[str] = field(default_factory=set)  # who comes into the register by it, if it is not whole; some may be there
+    gone: set[str] = field(default_factory=set)  # who is out of the register after it, if it is not whole
     seen: str | None = None                     # the state in which its sender saw the round
     saw: Saw | None = None                      # what its sender saw of people
     language: str = field(default_factory=spoken)  # of its sender
     copy: str | None = None                     # the name of the copy that was kept before
     answers: list[Answer] = field(default_factory=list)
-    gone: list[str] = field(default_factory=list)  # who is out of the register by it
+    made: int = 0                               # how many of its lines are in effect
     took: int = 0                               # milliseconds
     fault: str = ""
     wanted: threading.Lock = field(default_factory=threading.Lock)  # taken to make the change, or to give it up
@@ -214,13 +218,35 @@ class Worker:  # pylint: disable=too-many-instance-attributes  # the parts of th
                 if change.whole:
                     change.answers = self.replaced(change, held)
                 else:
+                    self.prepare(change)
                     holding.close()
                     change.answers = change.carry_out(self.copies.file)
             except (Fault, OSError, sqlite3.Error) as fault:
-                self.journal.end(number, f"fault: {in_english(fault)}", 3, self.since(began))
+                change.answers = fault.answers if isinstance(fault, Unanswered) else []
+                self.note_end(change, number, began, Answer(f"fault: {in_english(fault)}", 3),
+                              isinstance(fault, Unanswered))
                 raise
+        self.note_end(change, number, began, change.answers[-1])
+
+    def prepare(self, change: Change) -> None:
+        """Has what is beside the register follow a change of it that is carried out in place."""
+        if change.register and (change.come or change.gone):
+            now = {row[0] for row in self.view.rows(still=True)["people"]}
+            change.register(change.come - now, change.gone & now)
+
+    def note_end(self, change: Change, number: str, began: float, last: Answer, known: bool = True) -> None:
+        """Notes in the journal how a change ended. Of several lines that were not all carried out it has those that were as
+        this change, and the one after them as another, if it is `known` how far they came."""
         change.took = self.since(began)
-        self.journal.end(number, change.answers[-1].text, change.answers[-1].status, change.took)
+        change.made = 0 if change.whole else sum(answer.status == 0 for answer in change.answers)
+        other = {}
+        if known and len(change.lines) > 1 and last.status != 0:
+            other = {"who": change.who, "line": spoken_of(change.lines[change.made:change.made + 1])}
+            if change.made:
+                stands = spoken_of(change.lines[:change.made])
+                self.journal.end(number, change.answers[change.made - 1].text, 0, change.took, line=stands)
+                number = self.journal.number()
+        self.journal.end(number, last.text, last.status, change.took, **other)
 
     def replaced(self, change: Change, held: int) -> list[Answer]:
         """Carries out a change on a copy, which then takes the office's place, if the program takes it as an office."""
@@ -234,8 +260,9 @@ class Worker:  # pylint: disable=too-many-instance-attributes  # the parts of th
                 raise Fault(_("the office that comes of this is none ({said}). Nothing was changed.", said=looked.text.strip()))
             if change.register:
                 after = identifiers_in(copy)
-                change.gone = sorted(before - after)
-                change.register(after - before | change.removed & after, before - after)
+                change.register(after - before, before - after)
+            if change.before_put:
+                change.before_put()
             self.place.put(copy, held)
             return answers
 

@@ -80,7 +80,7 @@ export const TEXTS = {
 
     recordHeading: "List on record",
     record: {
-      nothing: "None. Either you have handed in nothing yet, or you handed in an empty list. Both mean the same: "
+      nothing: "None. Either nothing was handed in for you yet, or an empty list. Both mean the same: "
         + "{outcome}.",
       empty: "You handed in an empty list: {outcome}.",
       closed: "None: {outcome}.",
@@ -207,7 +207,7 @@ export const TEXTS = {
     aboutHeading: "How the exchange works for you",
     about: [
       ["You make a list.", "While the round is open, you put rooms in the order in which you want them, and hand the "
-        + "list in. You can change it until the round is closed. The last list that you handed in counts."],
+        + "list in. You can change it until the round is closed. The list that is on record then counts."],
       ["The order is drawn.", "When the round is closed, all who take part are put in an order by lot. If the office has "
         + "announced groups, all of an earlier group come before all of a later one."],
       ["The rooms are given.", "One after the other gets the best room on their list that is still there. If somebody "
@@ -322,7 +322,7 @@ export const TEXTS = {
 
     recordHeading: "Gespeicherte Wunschliste",
     record: {
-      nothing: "Keine. Entweder haben Sie noch nichts abgegeben, oder Sie haben eine leere Liste abgegeben. Beides "
+      nothing: "Keine. Entweder wurde für Sie noch nichts abgegeben, oder eine leere Liste. Beides "
         + "bedeutet: {outcome}.",
       empty: "Sie haben eine leere Liste abgegeben: {outcome}.",
       closed: "Keine: {outcome}.",
@@ -451,8 +451,8 @@ export const TEXTS = {
     aboutHeading: "So funktioniert der Tausch für Sie",
     about: [
       ["Sie machen eine Liste.", "Solange die Runde offen ist, ordnen Sie Zimmer so, wie Sie sie haben möchten, und "
-        + "geben die Liste ab. Sie können sie ändern, bis die Runde geschlossen wird. Es zählt die Liste, die Sie "
-        + "zuletzt abgegeben haben."],
+        + "geben die Liste ab. Sie können sie ändern, bis die Runde geschlossen wird. Es zählt die Liste, die "
+        + "dann gespeichert ist."],
       ["Die Reihenfolge wird ausgelost.", "Wenn die Runde geschlossen ist, entscheidet das Los, in welcher Reihenfolge "
         + "alle drankommen. Hat die Wohnheimverwaltung Gruppen angekündigt, so kommen alle aus einer früheren Gruppe "
         + "vor allen aus einer späteren dran."],

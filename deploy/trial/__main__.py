@@ -20,6 +20,8 @@ sys.dont_write_bytecode = True
 
 # pylint: disable=wrong-import-position  # not before the line above
 from audit_told import try_audit_told
+from branching import try_branching
+from bundles import try_bundles
 from burst import try_burst
 from ciphers import try_ciphers
 from byhand import try_byhand
@@ -37,6 +39,7 @@ from houses import try_houses
 from keeping import try_keeping
 from kills import try_kills
 from limits import try_limits
+from mail_changed import try_mail_changed
 from mail_parts import try_mail_parts
 from mail_runs import try_mail_runs
 from memory import try_memory
@@ -51,17 +54,21 @@ from office_dates import try_office_dates
 from office_doors import try_office_doors
 from office_figures import try_office_figures
 from office_forget import try_office_forget
+from office_former import try_office_former
 from office_formats import try_office_formats
+from office_identifiers import try_office_identifiers
 from office_keys import try_office_keys
 from office_languages import try_office_languages
 from office_mail import try_office_mail
 from office_mail_browser import try_office_mail_browser
 from office_marked import try_office_marked
+from office_on_record import try_office_on_record
 from office_overview import try_office_overview
 from office_page import try_office_page
 from office_receipts import try_office_receipts
 from office_sheets import try_office_sheets
 from office_told import try_office_told
+from office_tried import try_office_tried
 from office_wayback import try_office_wayback
 from office_wayback_browser import try_office_wayback_browser
 from office_words import try_office_words
@@ -94,36 +101,40 @@ TIMED = ("silent", "guessing", "memory", "port", "stall", "waits")
 def all_parts(program, folder):
     """All parts."""
     of_program: list[Callable[..., None]] = [
-        try_crash_states, try_keeping, try_clock, try_silent, try_watch, try_flush, try_byhand, try_restoring, try_earlier,
-        try_moving, try_nights, try_houses, try_demo,
+        try_crash_states, try_keeping, try_bundles, try_clock, try_silent, try_watch, try_flush, try_byhand, try_restoring,
+        try_earlier, try_moving, try_nights, try_houses, try_demo,
         try_kills, try_copying, try_full, try_signing, try_guessing, try_noted, try_office_doors, try_office_clerks,
         try_office_again, try_office_between, try_office_formats, try_office_sheets, try_office_keys, try_office_forget,
         try_office_wayback, try_office_told, try_office_dates, try_office_figures, try_draws, try_refused, try_office_mail,
         try_office_receipts, try_mail_runs, try_burst, try_limits, try_ciphers, try_memory, try_port, try_stall, try_waits,
-        try_unread,
+        try_unread, try_office_tried, try_mail_changed, try_office_on_record,
         try_office_overview, try_office_words, try_office_languages, try_office_marked, try_certificate, try_authority,
-        try_signin_account, try_office_beside,
+        try_signin_account, try_office_beside, try_office_identifiers, try_office_former,
     ]
     of_browser: list[Callable[..., None]] = [try_page, try_link, try_page_told, try_page_dates, try_signin_browser, try_office_page,
                                              try_office_mail_browser, try_office_wayback_browser, try_record_browser,
                                              try_unbroken, try_pictures]
     pages = [partial(one, program, folder) for one in of_browser]
-    return [try_parts, try_mail_parts, try_replacing, try_audit_told, *(partial(one, program) for one in of_program), *pages]
+    of_office = [partial(one, program) for one in of_program]
+    return [try_parts, try_branching, try_mail_parts, try_replacing, try_audit_told, *of_office, *pages]
 
 
 def gate_parts(program):
     """What the gate tries, without those of TIMED. The sizes aim at five minutes on two processors."""
     of_program: list[Callable[..., None]] = [
-        try_crash_states, try_keeping, try_clock, try_watch, try_flush, try_byhand, try_restoring, try_earlier,
+        try_crash_states, try_keeping, partial(try_bundles, sizes=[True]), try_clock, try_watch,
+        try_flush, try_byhand, try_restoring, try_earlier,
         try_moving, try_nights, try_houses, try_demo,
         partial(try_kills, kills=1), partial(try_copying, length=5), try_full, try_signing, try_noted,
         partial(try_office_doors, requests=150), try_office_clerks, try_office_again, try_office_between, try_office_formats,
         try_office_sheets, try_office_keys, try_office_forget, try_office_wayback, try_office_told, try_office_dates,
         try_office_figures, try_draws, try_refused, try_office_mail, try_office_receipts, try_mail_runs, try_burst, try_limits,
         try_ciphers, try_unread, try_office_overview, try_office_words, try_office_languages, try_certificate,
-        try_office_beside,
+        try_office_beside, try_office_identifiers, try_office_former, try_office_tried, try_mail_changed,
+        try_office_on_record,
     ]
-    return [try_parts, try_mail_parts, try_replacing, try_audit_told, *(partial(one, program) for one in of_program)]
+    of_office = [partial(one, program) for one in of_program]
+    return [try_parts, try_branching, try_mail_parts, try_replacing, try_audit_told, *of_office]
 
 
 def name_of(part):

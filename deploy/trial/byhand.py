@@ -1,5 +1,5 @@
-"""Lines by hand beside the keeper: `rooms do --db` over the keeper's own file, while the keeper carries out bundles,
-each of which replaces the file, also if the keeper is killed.
+"""Lines by hand beside the keeper: `rooms do --db` over the keeper's own file, while the keeper carries out bundles in it, and
+corrects a name, which replaces the file, also if the keeper is killed.
 
 If another program has the file, the program answers `unavailable`. What it accepts has to be in the office afterwards,
 and so has what the keeper accepts; and the file has to be whole. This run alone, also over standin.py: /usr/bin/python3
@@ -51,24 +51,33 @@ class Hands:
                 self.accepted[number].append(code)
 
 
+def correction(number):
+    """Another name for somebody, as the keeper is asked for it."""
+    return {"ask": "correct", "person": "P1", "name": f"Pia {number}"}
+
+
 def bundles(stand, count):
-    """Has the keeper carry out bundles of two rooms, and gives the rooms of those that it accepted."""
+    """Has the keeper carry out bundles of two rooms, and correct a name after each. Gives the rooms of those that it accepted."""
     accepted = []
     for number in range(count):
         codes = [f"K{number}-1", f"K{number}-2"]
         if stand.ask(ask="do", lines=[f"room {code}" for code in codes]).get("done"):
             accepted += codes
+        stand.ask(**correction(number))
     return accepted
 
 
 def bundles_and_kills(stand, count):
-    """The same, but the keeper is killed at some moment of each bundle but the first, and started again. The first says how
-    long a bundle takes: with a slow program a fixed time would be over before any was answered."""
+    """The same, but the keeper is killed at some moment of each change after the first ones, and started again. The first say how
+    long a change takes: with a slow program a fixed time would be over before any was answered."""
     began = time.monotonic()
     accepted = bundles(stand, 1)
     longest, drawn = 2 * (time.monotonic() - began), random.Random(count)
     for number in range(1, count):
         codes = [f"K{number}-1", f"K{number}-2"]
+        if number % 2:
+            killed(stand, correction(number), longest * drawn.random())
+            continue
         answer = killed(stand, {"ask": "do", "lines": [f"room {code}" for code in codes]}, longest * drawn.random())
         accepted += codes if answer.get("done") else []
         longest = max(0.2, longest * (0.9 if answer else 1.2))  # about half of them are answered
@@ -87,6 +96,7 @@ def try_hands(program, count, pause, many, clerk=bundles):
     """So many lines at a time by hand, beside so many bundles."""
     # All at a time share the machine with the keeper's own lines: a slow program needs longer than elsewhere.
     with Stand(program, ROOMS_LINE_SECONDS="120") as stand:
+        stand.fill([], ["P1"])
         stand.start()
         began = time.monotonic()
         with Hands(stand, count, pause) as hands:
@@ -105,6 +115,7 @@ def try_hands(program, count, pause, many, clerk=bundles):
         check(what, accepted and bundled and lost == [0, 0], lost)
         left = [one.name for one in stand.data.iterdir() if one.name not in KNOWN]
         check("the file is whole, and none is left over", found and "idle" in stand.tell("round") and not left, left)
+        check("and the file was replaced meanwhile", "  Pia " in stand.tell("people"), stand.tell("people"))
 
 
 def try_byhand(program, many=BUNDLES):

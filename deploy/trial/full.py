@@ -93,7 +93,7 @@ def while_full(stand, name, before, is_program):
         told, said = refused(stand, **job)
         check(f"full disk: {job} is refused", told, said)
         print(f"      {said}")
-    overview(stand, "a full disk", "Nothing is written now", "Call the administrator, who makes room.")
+    overview(stand, "a full disk", "The disk takes no more", "Call the administrator, who makes room.")
     told = stand.command("watch")
     check("full disk: the watch says so", told[0] == 1 and "takes no writes" in told[1], told)
     if is_program:
@@ -140,7 +140,7 @@ def try_full(program):
             filler = fill_up(disk)
             while_full(stand, name, before, is_program)
             os.truncate(filler, filler.stat().st_size - LEFT)
-            overview(stand, "room for a line", "copies need", "Once the disk is full, nothing is written")
+            overview(stand, "room for a line", "copies need", "Once the disk is full, you cannot change the register")
             filler.unlink()
             with_room_again(stand, journal, is_program)
             overview(stand, "enough room again")

@@ -1,8 +1,8 @@
 """The keeper is killed in the middle of each kind of line of a small year, and started again.
 
-Each time the office is as before the line or as after it, what was answered is in effect, what is in effect is in the
-journal, and no server is left over. This run alone, also over standin.py in place of the program: /usr/bin/python3
-deploy/trial/kills.py PROGRAM
+Each time the office is as before the line or as after it, or as after one of several lines; what was answered is in effect,
+what is in effect is in the journal, and no server is left over. This run alone, also over standin.py in place of the program:
+/usr/bin/python3 deploy/trial/kills.py PROGRAM
 """
 
 import base64
@@ -79,9 +79,9 @@ def content(stand):
 
 
 def servers_of(stand):
-    """The servers and other programs of the keeper's that work on the office's file. A line by hand has no `--`."""
+    """The servers and other programs of the keeper's that work on the office's file. A line by hand is none of these."""
     lines = [command_of(process.name) for process in Path("/proc").glob("[0-9]*")]
-    return [line for line in lines if str(stand.file) in line and ("serve" in line or "--" in line)]
+    return [line for line in lines if str(stand.file) in line and not {"serve", "lines", "import"}.isdisjoint(line)]
 
 
 def killed(stand, job, delay):
@@ -115,6 +115,14 @@ def accepted(answer):
     return bool(answer.get("done") or any(word in answer for word in ("name", "blanked", "corrected")))
 
 
+def states_between(stand, job, name):
+    """What the office is after each line of several but the last. The copy with this name was made before them."""
+    lines = job.get("lines", [])[:-1]
+    if lines:
+        stand.ask(ask="back", name=name)
+    return [content(stand) for line in lines if stand.ask(ask="do", lines=[line])]
+
+
 def kill_in(stand, job, kills):
     """One kind of line: once as it should be, and then killed at moments that are spread over the time that it took."""
     before, name = content(stand), stand.ask(ask="backup")["name"]
@@ -124,6 +132,7 @@ def kill_in(stand, job, kills):
     if not accepted(answer):
         check(f"{job} is accepted", False, answer)
     after, stood = content(stand), 0
+    between = states_between(stand, job, name)
     for number in range(kills):
         if content(stand) != before:
             answer = stand.ask(ask="back", name=name)
@@ -131,12 +140,14 @@ def kill_in(stand, job, kills):
         entries = stand.ask(ask="journal", last=10_000)["journal"]
         answer = killed(stand, job, took * (number + 0.5) / kills)
         found = content(stand)
-        if found not in (before, after) or accepted(answer) and found != after:
-            check(f"{job}: before or after it, and what was answered is in effect", False, (answer, found))
+        if found not in (before, *between, after) or accepted(answer) and found != after:
+            check(f"{job}: before it, after it or some of its lines, and with what was answered", False, (answer, found))
         if found != before:
             stood += 1
             check("    what is in effect is in the journal", is_noted(stand, entries))
     if content(stand) != after:
+        if content(stand) != before:  # some of the lines are in effect
+            stand.ask(ask="back", name=name)
         answer = stand.ask(**job)
         if not accepted(answer):
             check(f"{job} is accepted afterwards", False, answer)

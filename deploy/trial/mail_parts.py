@@ -7,6 +7,8 @@ record for two rounds.
 import contextlib
 import email
 import email.policy
+import errno
+import shutil
 import sqlite3
 import sys
 import tempfile
@@ -23,9 +25,10 @@ from stand import OFFICE, check
 sys.path.append(str(OFFICE))
 
 import mail_why
+from journal import Journal
 from languages import speaking
 from mail import Post
-from mail_book import BEGUN, SENT, Book, Run
+from mail_book import SENT, Book, Run
 from mail_send import message_of
 from mail_settings import MailSettings, settings_of
 from mail_words import ALL, KINDS, Text, faults_of, filled, is_address, texts_of
@@ -123,16 +126,21 @@ def try_record():
         for number in (1, 2, 3):
             book.start(Run("reminder", number, 1, "a", "b", "https://x/", "anna", "running", "", "2027"), {}, ["T1", "T2"])
             book.mark("T1", SENT)
-            book.mark("T2", BEGUN)
+            book.begin_message("T2", {"T1": ["A-1", None], "T2": ["A-2", "A-1"]})
             rounds = [row[1] for row in book.has("T1")["sent"]]
             wanted = [1, 2, 3][max(0, number - 2):number]
             check(f"in round {number} the file has this round and the one before", rounds == wanted, rounds)
         check("what was begun and has no outcome is uncertain", book.end_begun() == []
               and {state for _, _, state, _ in book.has("T2")["sent"]} == {"uncertain"}, book.has("T2"))
+        told = {number: book.told("reminder", number, 1) for number in (1, 2, 3)}
+        check("what a message told is kept as a mark, as long as the message",
+              [list(one) for one in told.values()] == [[], ["T2"], ["T2"]] and b"A-2" not in book.path.read_bytes(), told)
+        same, other = book.marks_of({"T2": ["A-2", "A-1"]}), book.marks_of({"T2": ["A-1", "A-1"]})
+        check("which is another one for another message", same == told[3] != other, (told, same, other))
         book.set_addresses({"T1": TO, "T2": TO})
         book.erase(["T2"])
         check("who is erased has nothing, and nobody else is", book.has("T2") == {"address": "", "sent": []}
-              and len(book.has("T1")["sent"]) == 2 and book.addresses() == {"T1": TO})
+              and not book.told("reminder", 3, 1) and len(book.has("T1")["sent"]) == 2 and book.addresses() == {"T1": TO})
 
 
 def try_earlier():
@@ -168,10 +176,46 @@ def try_why():
             check("a server's own words stay as they are", mail_why.said("550 no such mailbox") == "550 no such mailbox")
 
 
+def try_full_disk():
+    """An address is refused on a full disk, where the journal cannot have the answer either: it says what the keeper knows."""
+    with tempfile.TemporaryDirectory() as folder:
+        file, office, worker = Path(folder) / "journal", mock.Mock(), mock.Mock()
+        journal = office.journal = Journal(file)
+        office.settings.mail_book = Path(folder) / "mail.db"
+        worker.view.rows.return_value = {"people": [("T1", "Ann Ash", None, 0)]}
+        post = Post(office, worker)
+        full = mock.patch("journal.os.fsync", side_effect=OSError(errno.ENOSPC, "No space left on device"))
+
+        def refuse(_addresses):
+            full.start()
+            raise Fault("the disk is full")
+
+        def last_answer(where):
+            return str(list(where.entries())[-1].get("answer"))
+
+        with mock.patch.object(post.book, "set_addresses", refuse), contextlib.suppress(Fault):
+            post.set_addresses({"addresses": {"T1": TO}, "who": "anna"})
+        check("while the disk is full the journal has the answer", last_answer(journal) == "fault: the disk is full",
+              list(journal.entries()))
+        check("which is not on the disk", last_answer(Journal(file)) == "None", file.read_text())
+        journal.write_late()
+        check("nor if the keeper is stopped then", last_answer(Journal(file)) == "None", file.read_text())
+        full.stop()
+        killed = Path(shutil.copy(file, Path(folder) / "killed"))
+        journal.write_late()
+        check("a keeper that is stopped once there is room writes it down",
+              last_answer(Journal(file)) == "fault: the disk is full" and len(list(journal.entries())) == 2, file.read_text())
+        again = Journal(killed)
+        again.end_unfinished()
+        check("after a kill the journal does not say that the keeper was ended at this change", last_answer(again) ==
+              "not known: the keeper ended before it had noted the answer. Look whether the line took effect.")
+
+
 def try_mail_parts():
     """All of it."""
     try_record()
     try_earlier()
+    try_full_disk()
     try_why()
     try_addresses()
     try_settings()

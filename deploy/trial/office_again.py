@@ -180,8 +180,6 @@ def try_earlier_tab(stand, page):
     works = [stand.ask(ask="try", lines=[f"me {key}"])["answers"][0][1] == 0 for key in keys]
     check("the clerk reads so", works == [True, False] and f"those that were made on {times[0]}." in came
           and f"destroy them. They were made on {times[1]} by anna." in came, (works, times, came))
-    shown = flat(page.get(page.get(f"/office/lists/tried/{held}")[1]["location"])[2])
-    check("once the list is in, the page of its try is gone", "The page no longer holds this list" in shown, shown)
 
 
 def try_twice(stand, page):

@@ -16,6 +16,7 @@ from pathlib import Path
 sys.dont_write_bytecode = True
 
 # pylint: disable=wrong-import-position  # nothing may be written before
+from between import Between
 from stand import OFFICE, PYTHON, Stand, check, key_of, until
 
 PICTURE = base64.b64encode(b"\xff\xd8\xff" + bytes(200)).decode()
@@ -187,7 +188,7 @@ def ended_at(stand, module, name, *lines):
     check("the next one leaves nothing of it", not left, left)
 
 
-def try_killed(stand):
+def try_killed(stand, between):
     """The keeper is ended between the register and what is beside it."""
     give(stand, "P2")
     ended_at(stand, "beside_register", "BesideRegister.let_go", "remove P2")
@@ -195,7 +196,13 @@ def try_killed(stand):
           and not any(has(stand, "P2")), has(stand, "P2"))
     stand.ask(ask="do", lines=[f"person P3 {key_of('P3')} Pia Po"])
     give(stand, "P3")
-    ended_at(stand, "placing", "Place.put", "remove P3")
+    between.before_next("kill -9 $KEEPER")
+    try:
+        answer = stand.ask(ask="do", lines=["remove P3"])
+    except ValueError:
+        answer = None
+    check("the keeper is killed before the line", stand.keeper.wait(30) == -9 and answer is None, answer)
+    stand.start()
     check("and who was not removed after all has everything", "P3" in people(stand) and all(has(stand, "P3")), has(stand, "P3"))
 
 
@@ -210,11 +217,12 @@ def try_identifiers(stand):
         body = base64.b64encode(f"person,name,key,home\n{person},Rita New,{key_of('new' + person)},\n".encode()).decode()
         job = ({"ask": "do", "lines": [f"person {person} {key_of('new' + person)} Rita New"]} if how == "line" else
                {"ask": "import", "kind": "people", "label": "people-new", "body": body})
-        check(f"somebody new comes by a {how}", stand.ask(**job)["done"] and person in people(stand))
+        done = stand.ask(**job, again=[person])["done"]
+        check(f"somebody new comes by a {how}, as if it were the same person", done and person in people(stand))
         check("and gets nothing that was under the identifier", not any(has(stand, person)), has(stand, person))
     give(stand, "Q2")
     lines = ["remove Q2", f"person Q2 {key_of('third')} Third One"]
-    check("nor does who comes by the lines that remove somebody", stand.ask(ask="do", lines=lines)["done"]
+    check("nor does who comes by the lines that remove somebody", stand.ask(ask="do", lines=lines, again=["Q2"])["done"]
           and not any(has(stand, "Q2")), has(stand, "Q2"))
     (stand.data / "languages").write_text("no languages", encoding="ascii")
     answer = stand.ask(ask="do", lines=[f"person Q3 {key_of('Q3')} Quirin Q"]).get("fault", "")
@@ -224,16 +232,33 @@ def try_identifiers(stand):
     check("and then they do", stand.ask(ask="do", lines=[f"person Q3 {key_of('Q3')} Quirin Q"])["done"])
 
 
+def try_in_part(stand, between):
+    """Lines that are refused in the office, since somebody has sent one by hand: what is beside the register follows the
+    others."""
+    stand.ask(ask="do", lines=[f"person Q5 {key_of('Q5')} Quinn Five"])
+    give(stand, "Q5")
+    between.before_next(between.by_hand("room X1"))
+    reply = stand.ask(ask="do", lines=["room X1", "remove Q5"])
+    check("who was to be removed after a line that was refused has everything", reply["made"] == 0
+          and all(has(stand, "Q5")), reply)
+    between.before_next(between.by_hand("room X2"))
+    reply = stand.ask(ask="do", lines=["remove Q5", "room X2", f"person Q5 {key_of('new')} Quinn New"], again=["Q5"])
+    check("and who was removed before it has nothing", reply["made"] == 1 and "Q5" not in people(stand)
+          and not any(has(stand, "Q5")), (reply, has(stand, "Q5")))
+
+
 def try_office_beside(program):
     """All of it."""
     with Stand(program) as stand:
         stand.fill([f"A-{number}" for number in range(101, 113)], ["P1", "P2"])
+        between = Between(stand)
         stand.start()
         try_told(stand)
         try_date(stand)
         try_rounds(stand)
-        try_killed(stand)
+        try_killed(stand, between)
         try_identifiers(stand)
+        try_in_part(stand, between)
 
 
 if __name__ == "__main__":

@@ -100,7 +100,7 @@ def try_strangers(stand, page):
     """Addresses of people whom the clerk has not seen stay."""
     check("nobody is a stranger, so there is no form", f'action="{FORM}/strangers"' not in page.get(FORM)[2])
     token = page.hidden("/office/rooms")
-    page.post(f"{FORM}/strangers", [*token.items(), ("person", "T01")])
+    page.post(f"{FORM}/strangers", [*token.items(), ("person", "T01"), ("sure", "yes")])
     check("a form erases no address of somebody in the register", addresses(stand).get("T01") == NEWER, addresses(stand))
 
 

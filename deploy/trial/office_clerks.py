@@ -8,12 +8,15 @@ import json
 import re
 import sys
 import threading
+import time
+from concurrent.futures import ThreadPoolExecutor
 from pathlib import Path
 
 # The repository stays as it is.
 sys.dont_write_bytecode = True
 
 # pylint: disable=wrong-import-position  # nothing may be written before
+from between import Between
 from office_requests import Page, hand_in
 from stand import Stand, check, key_of, until
 
@@ -116,7 +119,7 @@ def try_at_once(stand, anna, bert):
     check("of eight forms at once exactly one takes effect", len(begun) == 1 and len(told) == 8, begun)
 
 
-def try_lists(stand, anna, bert):
+def try_lists(stand, anna, bert, between):
     """Lists that are put on record, or come in, after the resident has handed in another one."""
     bert.form("/office/step/open", page="/office/step/open")
     path = "/office/person/T06/choose"
@@ -134,33 +137,50 @@ def try_lists(stand, anna, bert):
           person_of(stand, "T06")[2] == ["A-106"] and STALE in anna.get("/office/")[2], person_of(stand, "T06"))
     body = b"person,choices\nT07,A-110\nT08,A-111\n"
     shown = anna.form("/office/lists", {"kind": "choices", "label": "paper"}, files={"list": body})[2]
-    check("nobody's list is replaced when the list is tried", "handed in" not in shown, shown[:2500])
+    check("nobody's list is replaced when the list is tried", "on record already" not in shown, shown[:2500])
     held = held_in(shown)
     check("a resident hands in before it comes in", hand_in(stand, key_of("T07"), ["A-112"]) == 200)
     shown = anna.form("/office/lists/bring", {"held": held})[2]
     check("then nothing comes in", stand.recorded().get("T07") == ["A-112"] and "T08" not in stand.recorded())
-    check("and the page says whose list would be replaced", "1 of these people has handed in" in shown
+    check("and the page says whose list would be replaced", "1 of these people has another list on record" in shown
           and "has changed since you tried it" in shown and "T07" in shown, shown[:2500])
     held = held_in(shown, 1)
     anna.form("/office/lists/bring", {"held": held})
     check("the others alone can come in", stand.recorded().get("T07") == ["A-112"]
           and stand.recorded().get("T08") == ["A-111"], stand.recorded())
-    try_between(stand, anna)
+    try_between(stand, anna, between)
     try_many(stand, anna, bert)
 
 
-def try_between(stand, anna):
+def waiting(stand):
+    """How many connections wait for the keeper's answer."""
+    lines = Path("/proc/net/unix").read_text(encoding="utf-8").splitlines()
+    return sum(line.split()[5] == "03" and line.endswith(" " + stand.environment["ROOMS_SOCKET"]) for line in lines)
+
+
+def looked(stand):
+    """Whether two steps wait at the keeper, and go on waiting: a page that still looks has a question there, which ends."""
+    since = time.monotonic()
+    while waiting(stand) == 2 and time.monotonic() < since + 1.5:
+        time.sleep(0.05)
+    return waiting(stand) == 2
+
+
+def try_between(stand, anna, between):
     """A list that is replaced after the page has looked, and before the keeper brings the others in."""
     shown = anna.form("/office/lists", {"kind": "choices", "label": "late"}, files={"list": b"person,choices\nT03,A-110\n"})[2]
-    lines = [f"grade T0{number % 9 + 1} {number % 8}" for number in range(100)] + ["choose T03 A-115"]
-    other = threading.Thread(target=stand.ask, kwargs={"ask": "do", "lines": lines, "who": "bert"})
-    other.start()
-    until(lambda: stand.server() is None, 60, "the other clerk's turn")
-    shown = anna.form("/office/lists/bring", {"held": held_in(shown)})[2]
-    other.join()
+    may_go = stand.folder / "may-go"
+    between.before_next(f"while [ ! -e {may_go} ]; do sleep 0.1; done")
+    with ThreadPoolExecutor() as both:
+        both.submit(stand.ask, ask="do", lines=["choose T03 A-115"], who="bert")
+        until(lambda: stand.server() is None, 60, "the other clerk's turn")
+        page = both.submit(anna.form, "/office/lists/bring", {"held": held_in(shown)})
+        until(lambda: looked(stand), 60, "the page's step beside the other clerk's")
+        may_go.touch()
+        shown = page.result()[2]
     check("a list that somebody replaces in between stays", stand.recorded().get("T03") == ["A-115"], stand.recorded())
-    check("and the page works out again what comes in", STALE in shown and "1 of these people has handed in" in shown,
-          shown[:2500])
+    check("and the page works out again what comes in",
+          STALE in shown and "1 of these people has another list on record" in shown, shown[:2500])
 
 
 def try_many(stand, anna, bert):
@@ -231,6 +251,7 @@ def try_office_clerks(program):
     """All of it."""
     with Stand(program) as stand:
         stand.fill(ROOMS, PEOPLE)
+        between = Between(stand)
         stand.start()
         stand.start_page()
         stand.start_proxy()
@@ -238,7 +259,7 @@ def try_office_clerks(program):
         try_held(stand, anna, bert)
         try_people(stand, anna, bert)
         try_at_once(stand, anna, bert)
-        try_lists(stand, anna, bert)
+        try_lists(stand, anna, bert, between)
         try_seeds(stand, anna, bert)
         try_flood(stand, anna)
         check("the page has noted no fault of its own", "rooms-page:" not in stand.log("page"), stand.log("page"))

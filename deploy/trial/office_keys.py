@@ -173,7 +173,7 @@ def change_after(stand, page, copy):
     check("the keeper says what comes back, without a key", found == {
         "round": [0, "idle"], "keys": ["T010"], "names": [["T011", "Person T011", "Other Name"]], "lists": [], "part": [],
         "come": [["T012", "Person T012"], ["T016", "Person T016"]], "go": [["T901", "Just Come"]], "forgotten": ["T016"],
-        "grades": [], "rooms": [], "removed": []}, found)
+        "grades": [], "rooms": [], "others": [], "gone": [], "newer_now": ["T010"], "newer_then": [], "newest": []}, found)
     return key
 
 
@@ -212,10 +212,11 @@ def try_reused(stand, page):
     """An identifier goes to another person, whose key does not open the record of the person of the copy."""
     copy = stand.ask(ask="backup")["name"]
     place, old, new = f"/office/copies/{copy}/back", key_of("T010"), "0123456789abcdef"
-    stand.script("rooms-office", "lines", given=f"remove T010\nperson T010 {new} Somebody Else\n")
+    stand.script("rooms-office", "lines", "--again", "T010", given=f"remove T010\nperson T010 {new} Somebody Else\n")
     check("the identifier has another key", works(stand, new) and not works(stand, old))
     shown = page.get(place)[2]
-    check("the question says that the newer key of it is not kept", "may be another person" in shown, shown)
+    check("the question says that the newer key of it is not kept", "may be another person" in shown
+          and "Keep the newer keys" not in shown, shown)
     page.form(place, {"newer": "yes"}, page=place)
     shown = page.get("/office/")[2]
     check("with the tick, too, the person of the copy has their own key again", works(stand, old) and not works(stand, new))

@@ -87,7 +87,7 @@ def write_damaged(folder, touched):
         entry("In figures", "{{!" + code + "}}\n% " + code + "\n<% " + code + " %>"),
         entry("People", "</dt><script>alert(1)</script>"),
         entry("Room office", "{{" + code + "}}"),
-        entry("Lists handed in", "{open}"),
+        entry("Lists on record", "{open}"),
         entry("{count} of {1}", "{count} of {1} of {2}"),
         entry("Day and time are those of the zone {zone}.", "{zone} {zone} {clerk}"),
         entry("Until when lists are taken", 'ff" onclick="alert(1)'),

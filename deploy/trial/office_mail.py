@@ -119,6 +119,11 @@ def try_people_list(stand, page):
     check("and shows what they change", "1 person gets an address, and 0 get another one" in " ".join(shown.split()), shown)
     page.form(f"{FORM}/addresses/bring", {"held": place.rpartition("/")[2]}, page=FORM)
     check("then they are in", stand.ask(ask="mail-list")["addresses"].get("T07") == mail_of("T07"))
+    rows = [["T06", "Person T06", mail_of("T06")], ["T07", "Somebody Else", "else@college.example"]]
+    shown = bring_in(page, "people", "people-3", ["person", "name", "email"], rows)
+    shown = page.get("".join(re.findall(r'href="(/office/mail/addresses/\w+)"', shown)))[2]
+    check("a line with another name than the register's changes no address", "another name for this identifier" in shown
+          and "1 stays as it is" in " ".join(shown.split()) and "Bring the addresses in" not in shown, shown)
 
 
 def holds(stand, pattern, text):
@@ -270,6 +275,30 @@ def try_results(stand, page, server):
     stand.office("settle")
 
 
+def try_removal_question(stand, page):
+    """The question before a person is removed names what goes that no copy has, if the person has it."""
+    place, said = "/office/person/T04/remove", "and no copy has it: the mail address, which messages were sent to the person."
+    shown = page.get(place)[2]
+    check("the question before a removal names address and messages, and nothing else", said in shown, shown)
+    stand.ask(ask="set-languages", languages={"T04": "de"})
+    stand.ask(ask="set-accounts", rule="list", list="person,account\nT04,tea\n")
+    said = said.replace(".", ", the language of slips, letters and mails, the account of the college.")
+    shown = page.get(place)[2]
+    check("and language and account, once there are some", said in shown, shown)
+    shown = page.get("/office/forget/T04")[2]
+    check("so does the question before a person is forgotten", said in shown, shown)
+    stand.ask(ask="mail-addresses", addresses={"T11": ""})
+    shown = page.get("/office/person/T11/remove")[2]
+    check("of somebody who has no address it names none", "no copy has it" in shown and "the mail address" not in shown, shown)
+    shown = page.form("/office/many", {"act": "remove", "text": "T06 T07"}, page="/office/many")[2]
+    check("and the question about many says what goes", "mail addresses, languages and accounts" in shown, shown)
+    kept = (stand.data / "accounts").read_bytes()
+    (stand.data / "accounts").write_bytes(b"none")
+    shown = page.get(place)[2]
+    check("a file that is damaged keeps nobody from asking", said in shown and "Yes: remove this person" in shown, shown)
+    (stand.data / "accounts").write_bytes(kept)
+
+
 def try_gone(stand, page):
     """Who is removed or forgotten is gone from the mail."""
     shown = page.get("/office/about/T04")[2]
@@ -277,12 +306,13 @@ def try_gone(stand, page):
     check("all about one person has the address, and what was sent", there, shown)
     said = stand.command("about", "T04")[1]
     check("and so has the clerk's command", f"mail address {mail_of('T04')}" in said and "results of round 2, sent" in said, said)
+    try_removal_question(stand, page)
     stand.office("remove T04")
     check("a person who is removed has no address", not holds(stand, "mail.db*", mail_of("T04"))
           and stand.ask(ask="about", person="T04")["mail"] == NOTHING)
     check("this trial finds the next one", holds(stand, "mail.db", mail_of("T05")) and holds(stand, "mail.db", "T05"))
     shown = page.get("/office/forget/T05")[2]
-    check("the question says that the address goes", "the mail address is erased" in shown, shown)
+    check("the question says that the address goes", "and no copy has it: the mail address, " in shown, shown)
     page.form("/office/forget/T05", page="/office/forget/T05")
     check("a person who is forgotten is gone from the mail", not holds(stand, "mail.db*", mail_of("T05"))
           and stand.ask(ask="about", person="T05")["mail"] == NOTHING)
@@ -303,6 +333,8 @@ def try_strangers(stand, page):
     shown = page.get(FORM)[2]
     check("the page names them", "not in the register: T80" in " ".join(shown.split()), shown)
     page.form(f"{FORM}/strangers", page=FORM)
+    check("not without a tick", stand.ask(ask="mail")["strangers"] == ["T80"])
+    page.form(f"{FORM}/strangers", {"sure": "yes"}, page=FORM)
     check("and erases them", not holds(stand, "mail.db*", mail_of("T80")) and stand.ask(ask="mail")["strangers"] == [])
     shown = page.get("/office/about/T80")[2]
     check("all about somebody who is not in the register has the account", "late-account" in shown, shown)

@@ -218,6 +218,11 @@ def given_up(reader):
     reader.form(copies[-1], {"sure": "yes"})
     reader.form(f"/office/forget/{PEOPLE[9]}")
     reader.get(f"/office/about/{PEOPLE[9]}")
+    for person in (NEW["ident"], PEOPLE[9]):
+        shown = reader.form("/office/person", {**NEW, "ident": person, "name": "ω"}, page="/office/register")
+        check(f"the page asks who {person} is", 'name="again"' in shown, shown)
+    shown = bring(reader, "people", "13", [[NEW["ident"], "ω", "", ""], [PEOPLE[9], "ω", "", ""]], None)
+    check("and of a list, who they are", 'name="again"' in shown, shown)
     reader.crawl()
 
 

@@ -43,7 +43,7 @@ def open_round(clerk, stand, college):
     check("200 residents hand in a list with the keys of the slips", not faults and len(handed) == 200, faults[:5])
     by_office = [[person, " ".join(college.choices[person])] for person in college.people[200:260]]
     clerk.try_list("choices", college.write("choices.csv", ["person", "choices"], [["R001", "A-101"], *by_office]))
-    clerk.reads("1 of these people has handed in another list already")
+    clerk.reads("1 of these people has another list on record already")
     clerk.shot("12-replaces")
     clerk.press("Bring in only the people without a list")
     clerk.reads("The list is in, with 60 lines.")
@@ -129,7 +129,7 @@ def look_at_large_text(stand, shots, phase):
 def draw_and_run(clerk, stand):
     """The round is closed, the seed of the dice is noted and drawn with, and the rooms are given."""
     clerk.visit("/office/step/close")
-    clerk.reads("have handed in no list")
+    clerk.reads("have no list on record")
     clerk.press("Yes: close the round")
     clerk.reads("The round is closed, with 292 participants.")
     clerk.press("Draw the order")

@@ -59,7 +59,7 @@ def try_off(stand, page, server):
     hand_in(stand, key_of("T01"), ["A-1"])
     quiet(server, "by itself the office sends no receipt")
     shown = " ".join(page.get(f"{RECEIPTS}/begin")[2].split())
-    parts = ("Send receipts of lists?", "10 people get the text in English: “Room exchange: what we have from you”.",
+    parts = ("Send receipts of lists?", "10 people get the text in English: “Room exchange: what is on record of you”.",
              "1 person gets the text in Deutsch", "1 have no mail address", "It names no room")
     check("the question says who gets which text", all(one in shown for one in parts), shown)
     old = page.hidden(f"{RECEIPTS}/begin", f"{RECEIPTS}/begin")
@@ -84,12 +84,12 @@ def try_changes(stand, server):
     hand_in(stand, key_of("T12"), ROOMS[:2])
     until(lambda: len(server.got) >= 4, 60, "four receipts")
     quiet(server, "four people get a receipt, and nobody two, or one without an address", 4)
-    english = said("Round 1 has had a list of 5 rooms from you since about {time}.")
+    english = said("A list of yours with 5 rooms has been on record in round 1 since about {time}.")
     check("five changes in a row make one receipt, of the last list", says(texts_of(server, "T02"), english), server.went())
     german = ["eine Wunschliste mit 1 Zimmer von Ihnen gespeichert"]
     check("a receipt is in the language of its resident", says(texts_of(server, "T03"), german), texts_of(server, "T03"))
     check("a list that the office puts on record is such a change",
-          says(texts_of(server, "T04"), said("Round 1 has had a list of 2 rooms from you since about {time}.")))
+          says(texts_of(server, "T04"), said("A list of yours with 2 rooms has been on record in round 1 since about {time}.")))
     check("and so is a withdrawal",
           says(texts_of(server, "T05"), said("You have withdrawn from round 1, since about {time}.")))
     check("no receipt names a room or has a key", not [text for person in PEOPLE for text in texts_of(server, person)
@@ -103,7 +103,7 @@ def try_changes(stand, server):
     hand_in(stand, key_of("T04"), [])
     until(lambda: server.got, 60, "a receipt of an empty list")
     check("an empty list after another one brings one",
-          says(texts_of(server, "T04"), said("Round 1 has had an empty list from you since about {time}.")))
+          says(texts_of(server, "T04"), said("An empty list of yours has been on record in round 1 since about {time}.")))
 
 
 def try_bad_days(stand, page, server):
@@ -180,7 +180,7 @@ def try_rounds(stand, server):
     until(lambda: server.got, 60, "a receipt after the way back")
     quiet(server, "after a way back only those get one whose list is another one", 1)
     check("which is the list that counts now",
-          says(texts_of(server, "T02"), said("Round 1 has had a list of 5 rooms from you since about {time}.")))
+          says(texts_of(server, "T02"), said("A list of yours with 5 rooms has been on record in round 1 since about {time}.")))
     server.forget()
     hand_in(stand, key_of("T02"), ROOMS[:1])
     stand.office("cancel")
@@ -190,7 +190,7 @@ def try_rounds(stand, server):
     hand_in(stand, key_of("T02"), ROOMS[:1])
     until(lambda: server.got, 60, "a receipt in the next round")
     check("the next round has its own",
-          says(texts_of(server, "T02"), said("Round 2 has had a list of 1 room from you since about {time}.")))
+          says(texts_of(server, "T02"), said("A list of yours with 1 room has been on record in round 2 since about {time}.")))
 
 
 def entries(stand):

@@ -15,7 +15,7 @@ sys.dont_write_bytecode = True
 from selenium.webdriver.common.by import By
 
 from office_browser import Clerk
-from office_wayback import away, fill, finish_round
+from office_second import away, fill, finish_round
 from stand import Stand, check
 
 
@@ -92,7 +92,7 @@ def go_on(clerk, stand):
     clerk.press("Open the next round")
     clerk.press("Yes: open the next round")
     clerk.press("what comes next in it")
-    clerk.reads("Now: wait", "0 of 3 people without a room have handed in a list")
+    clerk.reads("Now: wait", "0 of 3 people without a room have a list on record")
     clerk.shot("51-second-open")
     clerk.press("Show who they are")
     clerk.reads("Withdraw them from the round: 8 people", "the right people")

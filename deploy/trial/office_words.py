@@ -32,9 +32,9 @@ SECRET = f"choose T09 {' '.join(WISHES)}"
 
 
 def local(copy):
-    """When a copy was made, by its name, in India."""
+    """When a copy was made, by its name, in India, and the number of those of one second."""
     made = datetime.datetime.strptime(copy[:16], "%Y%m%dT%H%M%SZ") + AHEAD
-    return f"{made:%Y-%m-%d %H:%M:%S} IST"
+    return f"{made:%Y-%m-%d %H:%M:%S} IST{f' ({int(copy[17:])})' if copy[17:] else ''}"
 
 
 def year_of(stand, page):
@@ -72,7 +72,8 @@ def try_reasons(stand, page):
     """Each copy says in words why it was made."""
     page.form("/office/copies", page="/office/copies")
     shown = page.get("/office/copies")[2]
-    check("the page names the copy by its time", re.search(r"The copy of [-0-9]{10} [0-9:]{8} IST is made", shown), shown)
+    named = re.search(r"The copy of [-0-9]{10} [0-9:]{8} IST(?: \([0-9]+\))? is made", shown)
+    check("the page names the copy by its time", named, shown)
     for text in REASONS:
         check(f"a reason reads: {text}", f'<td class="long">{text}<br>' in flat(shown).replace("<br> ", "<br>"), shown)
     for name, _, _ in stand.ask(ask="backups")["backups"]:

@@ -124,7 +124,8 @@ def drafts(page: Page) -> None:
     check("nobody else sees it", page.codes() == [] and "A-5" not in kept, kept)
     check("a resident without a room reads what a list is for", "list every room that you would take" in page.text("promises"))
     text = page.text("record")
-    check("what it means to hand in nothing is said", "nothing yet, or" in text and "you get no room." in text, text)
+    check("what it means to hand in nothing is said", "nothing was handed in for you yet, or" in text
+          and "you get no room." in text, text)
     page.sign_out()
     page.sign_in(key_of("T3"), "Tea Tal")
     page.add("A-6")

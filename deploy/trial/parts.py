@@ -25,8 +25,8 @@ sys.path.append(str(OFFICE))
 from accounts import Accounts, ClerkRequests
 from backups import ASKED_FOR, Backups
 from copies import Copies, make_whole
-from journal import NOT_NOTED, Journal, masked_line, masked_note, without_names
-from lines import only_reads, reason_to_copy, shows_a_key
+from journal import NOT_NOTED, Journal, masked_line, masked_note, spoken_of, without_names
+from lines import gone_by, only_reads, reason_to_copy, shows_a_key
 from office import Office
 from program import Answer
 from settings import Fault, Settings, unwritten
@@ -93,6 +93,19 @@ def hiding():
     check("a key at the cut of a note leaves nothing", "0123" not in masked_note("x" + " " * 590 + KEY))
     forged = masked_note("x\n2026-11-29\x1b[2J\r\u2028\x85\u202eanna: close  ->  ok")
     check("a note is one line without control signs", forged == "x 2026-11-29 [2J    anna: close  ->  ok", forged)
+
+
+def many_lines():
+    """Of many lines the journal has all that say who withdraws or is removed."""
+    for verb in ("withdraw", "remove"):
+        lines = [f"{verb} P{number:04}" for number in range(2_000)]
+        check(f"the journal has each of 2,000 people by `{verb}`", spoken_of(lines) == "; ".join(lines))
+    lines = [*(f"choose P{number:04} A-1" for number in range(40)), "remove P0001", "close"]
+    said = spoken_of(lines)
+    begins, ends = "choose P0000 (1 room); choose P0001 (1 room); ", "(1 room); ..; remove P0001; close"
+    check("but of lists only the first ones", said.startswith(begins) and said.endswith(ends) and len(said) < 440, said)
+    lines = ["remove P1", "remove P2", f"person P2 {KEY} Ann", "remove P3", f"person P4 {KEY} Bea", "remove P4"]
+    check("who is out of the register after lines is known", gone_by(lines) == {"P1", "P3", "P4"}, gone_by(lines))
 
 
 def slips():
@@ -354,6 +367,7 @@ def try_parts():
     os.umask(0o077)
     hiding()
     answering()
+    many_lines()
     slips()
     news()
     copied_before()

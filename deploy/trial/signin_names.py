@@ -100,7 +100,7 @@ def try_person(stand):
     for line in ("cancel", "remove T2"):
         stand.office(line)
     check("who has left the register is nobody", browser.whose() == (403, "NoPerson"), browser.whose())
-    stand.script("rooms-office", "do", "-", given=f"person T2 {key_of('T2')} Some Body Else\n")
+    stand.script("rooms-office", "do", "--again", "T2", "-", given=f"person T2 {key_of('T2')} Some Body Else\n")
     check("and stays so where somebody else gets the identifier", browser.whose() == (403, "NoPerson"), browser.whose())
     check("the list has forgotten the account", LISTED not in (stand.data / "accounts").read_text(encoding="utf-8"))
     stand.script("rooms-office", "accounts", "capitals")

@@ -314,6 +314,12 @@ class Stand:  # pylint: disable=too-many-instance-attributes,too-many-public-met
                                  [(person, f"Person {person}", key_of(person)) for person in people])
             database.commit()
 
+    def fill_homes(self, homes):
+        """Gives each of these people a home."""
+        with contextlib.closing(sqlite3.connect(self.file)) as database:
+            database.executemany("UPDATE person SET home = ? WHERE id = ?", [(room, person) for person, room in homes.items()])
+            database.commit()
+
     def fill_lists(self, people, rooms, count):
         """Gives each person a list of so many rooms, drawn by chance."""
         with contextlib.closing(sqlite3.connect(self.file)) as database:

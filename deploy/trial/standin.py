@@ -1,8 +1,8 @@
 #!/usr/bin/python3
 """Stands for the program `rooms` where the keeper's own parts are tried: a few lines over the tables of an office.
 
-It knows no law of an office. What the keeper has to know of the program is here: words behind `--`, answers and
-statuses, a list that is known again by its label and bytes, and a server that has the file until it is ended.
+It knows no law of an office. What the keeper has to know of the program is here: lines on standard input, words behind `--`,
+answers and statuses, a list that is known again by its label and bytes, and a server that has the file until it is ended.
 """
 
 import contextlib
@@ -56,8 +56,12 @@ def add_room(database, code):
 
 def add_person(database, person, key, *name):
     """`person ID KEY NAME..`."""
+    if not name or not re.fullmatch("[A-Z0-9]{1,12}", person) or not re.fullmatch("[a-z0-9]{16,64}", key):
+        raise TypeError
     if one_of(database, "SELECT 1 FROM person WHERE id = ?", person):
         raise Refused("5 DuplicatePerson")
+    if one_of(database, "SELECT 1 FROM person WHERE passkey = ?", key):
+        raise Refused("6 KeyInUse")
     database.execute("INSERT INTO person VALUES (?, ?, ?, NULL, 0)", (person, " ".join(name), key))
     return "ok"
 
@@ -102,7 +106,8 @@ def me_of(database, key):
 
 def tell_round(database):
     """`round`."""
-    return "round " + " ".join(map(str, database.execute("SELECT number, phase FROM round").fetchone()))
+    number, phase = database.execute("SELECT number, phase FROM round").fetchone()
+    return f"round {number} {phase} people {one_of(database, 'SELECT count(*) FROM person')} withdrawn 0"
 
 
 def table(query):
@@ -166,6 +171,16 @@ def answer(database, words):
         return "not understood", 2
 
 
+def answer_lines(database):
+    """Answers the lines of standard input, each before it reads the next one."""
+    greatest = 0
+    for line in sys.stdin.buffer:
+        text, status = answer(database, ["do", *line.decode().split()])
+        print(text, flush=True)
+        greatest = max(greatest, status)
+    return greatest
+
+
 def open_alone(file):
     """Opens a file as the program does: it has to have its only name, and nobody else may have its lock."""
     database = sqlite3.connect(f"file:{file}?mode=rw", uri=True, timeout=0)
@@ -209,6 +224,8 @@ def main(words):
             database.executescript(TABLES)
             print("ok")
             return 0
+        if command == "lines":
+            return answer_lines(database)
         text, status = answer(database, [command, *more])
         print(text)
         return status

@@ -12,6 +12,7 @@ import reasons
 from app import app, ask, drawn_order, field, go_to, office_now, saw, show, tell, text_of
 from columns import kind_name
 from keeper_client import KeeperFault, answers_of
+from kept_beside import erased
 from office_view import Office
 from questions import Question, put_question
 
@@ -95,8 +96,7 @@ def question_of(office: Office, ident: str, kept: Kept) -> Question:
     if kept.labels:
         says.append(_("At once the lists that name the person are blanked: {lists}. This deletes what they say of everybody; the "
                       "register stays as it is. Their labels stay taken.", lists=", ".join(kept.labels)))
-    if kept.mail["address"] or kept.mail["sent"]:
-        says.append(_("At once the mail address is erased, and which messages were sent to the person."))
+    says += erased({"mail": kept.mail, "language": kept.language, "account": kept.account})
     says += [said_of_copies(len(kept.copies)), _("The moves and the journal stay. They have the identifier, and no name.")]
     return Question(_("Forget {person}?", person=who), says, _("Yes: forget this person"), place, saw=office.saw("all", ident).mark)
 
@@ -132,7 +132,7 @@ def forget(ident: str) -> None:
     try:
         reply = ask("forget", person=ident, seen=field("seen"), saw=saw("all", ident))
     except KeeperFault as fault:
-        tell("bad", _("This could not be done. {why}", why=fault))
+        tell("bad", _("This could not be done. {why}", why=plain.begun(str(fault))))
         go_to(place)
     if reply["done"]:
         tell("good", _("{person} is forgotten, as far as this can be done at once. This page says what is left.", person=ident))

@@ -30,7 +30,7 @@ import plain
 import presses
 import views
 from codes import unbroken
-from keeper_client import Answer, KeeperFault
+from keeper_client import Answer, KeeperFault, WasAnothers
 from memory import Memory
 from office_view import Office
 
@@ -205,9 +205,12 @@ def saw(part: str, *people: str) -> list[Any]:
 
 
 def change(question: str, **fields: Any) -> bool:
-    """Changes the office, and shows the clerk the outcome. Returns whether all of it was carried out."""
+    """Changes the office, and shows the clerk the outcome. Returns whether all of it was carried out. Who brings people in asks
+    the clerk whether they are the same ones."""
     try:
         reply = ask(question, seen=field("seen"), **fields)
+    except WasAnothers:
+        raise
     except KeeperFault as fault:
         tell("bad", _("This could not be done. {why}", why=plain.begun(str(fault))))
         return False
@@ -216,7 +219,11 @@ def change(question: str, **fields: Any) -> bool:
     if not reply["done"]:
         # If the file, the disk or the memory failed, the change may have been made: then `meaning` says to look.
         why = plain.meaning(last.text)
-        tell("bad", str(why) if last.status == UNAVAILABLE else _("Nothing was changed. {why}", why=why))
+        if reply.get("made"):
+            tell("bad", _("Only a part of this was carried out, since the office was changed meanwhile. Then it was refused: "
+                          "{why} Look before you go on.", why=why))
+        else:
+            tell("bad", str(why) if last.status == UNAVAILABLE else _("Nothing was changed. {why}", why=why))
         return False
     tell("good", plain.done(last.text))
     if reply.get("unkept"):

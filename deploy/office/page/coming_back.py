@@ -24,12 +24,14 @@ class GivenUp(NamedTuple):
 
 
 class Had(NamedTuple):
-    """What a round had when it was given up, and the rooms that were brought back into use since."""
+    """What a round had when it was given up, but for `others`, whose identifiers may be another person's by now; and the rooms
+    that were brought back into use since."""
 
     number: int
     withdrawn: list[str]
     going: list[str]
     choices: dict[str, list[str]]
+    others: list[str]
     reopened: set[str]
 
 
@@ -72,12 +74,17 @@ def rounds(office: Office) -> list[GivenUp]:
 def had_in(copy: str) -> Had:
     """What a round had when it was given up."""
     found = ask("given-up", name=copy)
-    return Had(found["number"], found["withdrawn"], found["going"], found["choices"], set(found["reopened"]))
+    others = set(found["others"])
+    withdrawn, going = ([ident for ident in found[part] if ident not in others] for part in ("withdrawn", "going"))
+    choices = {ident: wishes for ident, wishes in found["choices"].items() if ident not in others}
+    lost = sorted(others.intersection(found["withdrawn"] + found["going"] + list(found["choices"])))
+    return Had(found["number"], withdrawn, going, choices, lost, set(found["reopened"]))
 
 
 def what_is_left(office: Office, had: Had) -> Back:
     """What of a round can come back into the round of now."""
     back = Back([], [], {}, [], [], {ident: usable(office, wishes) for ident, wishes in had.choices.items()}, {})
+    back.never.extend(_("{person}: the identifier may be another person's by now.", person=ident) for ident in had.others)
     for ident in had.going:
         sort_in(ident, back.going, back, why_not(office, ident, "going"))
     for ident in had.withdrawn:

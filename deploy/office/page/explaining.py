@@ -152,10 +152,10 @@ def outcome_of(facts: Facts) -> str:
     if facts.got:
         text = (_("Nothing better on the list was left, so {person} keeps {room}.", person=facts.ident, room=facts.got)
                 if facts.wishes else
-                _("{person} handed in no list, so {person} keeps {room}.", person=facts.ident, room=facts.got))
+                _("No list of {person} was on record, so {person} keeps {room}.", person=facts.ident, room=facts.got))
     else:
         text = (_("Nothing on the list was left, so {person} gets no room.", person=facts.ident) if facts.wishes else
-                _("{person} handed in no list, so {person} gets no room.", person=facts.ident))
+                _("No list of {person} was on record, so {person} gets no room.", person=facts.ident))
     return text
 
 
@@ -198,6 +198,6 @@ def your_outcome(facts: Facts) -> str:
                  room=facts.got, choice=facts.choice)
     if facts.got:
         return (_("You keep {room}, since nothing better on your list was left.", room=facts.got) if facts.wishes else
-                _("You keep {room}, since you handed in no list.", room=facts.got))
+                _("You keep {room}, since no list of yours was on record.", room=facts.got))
     return (_("You get no room, since nothing on your list was left.") if facts.wishes else
-            _("You get no room, since you handed in no list."))
+            _("You get no room, since no list of yours was on record."))

@@ -209,12 +209,16 @@ def facts_of(found: dict[str, Any]) -> tuple[Fact, ...]:
     """What becomes of people by going back to a copy."""
     named = {name: [f"{ident} {person}" for ident, person in found[name]] for name in ("come", "go")}
     facts = [Fact(_("People who have another key now than then"), found["keys"]),
-             Fact(_("Of these, identifiers that were removed from the register since then and may be another person's now: the "
-                    "key of the copy works again, and the newer one does not"), found.get("removed", [])),
+             Fact(_("Of these, people whose key of the copy is the newer one: it works again in any case"),
+                  found["newer_then"]),
+             Fact(_("Identifiers that may be another person's in the copy than now: the key of the copy works again in any "
+                    "case, and nothing of the person of now comes over"), found["others"]),
+             Fact(_("Identifiers whose mail address, messages, language or account may be of another person than that of the "
+                    "copy: this is erased, and does not come back"), found["gone"]),
              Fact(_("Names that become again what they were"),
                   [_("{person}: {old}, now {new}", person=ident, old=old, new=new) for ident, old, new in found["names"]]),
              Fact(_("People who come back into the register"), named["come"]),
-             Fact(_("Of these, people who were forgotten since then: forget them again afterwards"), found.get("forgotten", [])),
+             Fact(_("Of these, people who were forgotten since then: forget them again afterwards"), found["forgotten"]),
              Fact(_("People who go out of the register"), named["go"]),
              Fact(_("People whose lists of this round become again what they were"), found["lists"]),
              Fact(_("People whose withdrawal, or note that they leave the college, goes or comes back"), found["part"]),
@@ -235,11 +239,11 @@ def ask_back(name: str) -> str:
             _("The keeper makes a copy of the present office first, so you can come back from this too."),
             _("Tell the residents if they handed in lists after the copy: they have to hand them in again.")]
     if found["come"]:
-        says.append(_("Of people who come back into the register, the language of slips, letters and mails does not come back, "
-                      "nor does their mail address. Set both again."))
+        says.append(_("Of people who were removed and come back into the register, the language of slips, letters and mails "
+                      "does not come back, nor does their mail address. Set both again."))
     title = _("Go back to the copy of {time}?", time=made)
     keys = ("newer", _("Keep the newer keys. Without this tick the old ones work again, also for somebody who has found or "
-                       "copied one.")) if found["keys"] else None
+                       "copied one.")) if found["newer_now"] else None
     return put_question(office, Question(title, says, _("Yes: go back to this copy"), "/office/copies", facts=facts_of(found),
                                          choice=keys))
 
@@ -254,7 +258,7 @@ def back(name: str) -> None:
     if (lost := [person for person in found.get("lists", []) if person not in newest]) and found["round"][1] == "open":
         tell("bad", _("These people had another list before, which does not count now: {people}. Tell them to hand it in again.",
                       people=", ".join(lost)))
-    if keys := found.get("keys"):
+    if keys := [person for person in found.get("keys", []) if person not in found["newer_then"]]:
         tell("bad", ngettext("One person has the key of the copy again, and the key of before does not work. If a key was lost, or "
                              "others know it, make a new key now. Take out whoever needs none.",
                              "{count} people have the keys of the copy again, and the keys of before do not work. If a key was "

@@ -12,7 +12,7 @@ from app import app, ask, clerk, field, go_to, memory, office_now, show, tell, t
 from coming_back import Back, GivenUp, bodies, had_in, has_come_again, rounds, what_is_left
 from keeper_client import KeeperFault, answers_of
 from list_pages import Job
-from many_pages import fault_of, groups_of
+from many_pages import bundle_of, carry_out
 from office_view import Office
 from questions import must_be_sure
 
@@ -55,13 +55,13 @@ def out_of(idents: list[str]) -> list[str]:
 
 
 def rows_of(office: Office, back: Back, idents: list[str], out: list[str]) -> list[Row]:
-    """The people of a part of the form. People who have handed in a list since are not ticked either; but if the clerk has chosen
+    """The people of a part of the form. People who have a list on record since are not ticked either; but if the clerk has chosen
     before, and something stopped it once the lists were back, a list of then says nothing."""
     found, has_chosen = [], "out" in dict(request.query)
     for ident in idents:
         again = has_come_again(office, ident) and not (has_chosen and office.choices[ident] == back.old.get(ident))
         note = (_("Taken out: this does not come back") if ident in out else
-                _("Has handed in a list in this round") if again else "")
+                _("Has a list on record in this round") if again else "")
         person = office.people[ident]
         found.append(Row(ident, person.name, person.home or _("no room"), not note, note))
     return found
@@ -119,15 +119,13 @@ class Came:
     fault: str = ""
 
     def take_away(self, office: Office, act: str, idents: list[str]) -> None:
-        """Withdraws people, or notes that they leave, group by group."""
-        count = 0
-        for group in groups_of(office, act, idents):
-            self.fault = self.fault or fault_of(group)
-            if self.fault:
-                break
-            count += len(group.saw.people)
-        if count:
-            self.done.append(_(self.WORDS[act], count=count, all=len(idents)))
+        """Withdraws people, or notes that they leave."""
+        if not idents or self.fault:
+            return
+        came = carry_out(bundle_of(office, act, idents))
+        self.fault = came.fault
+        if came.people:
+            self.done.append(_(self.WORDS[act], count=came.people, all=len(idents)))
 
     def take_lists(self, office: Office, part: str, lists: dict[str, list[str]]) -> None:
         """Imports lists, under a label each if they are too long for one, unless one was handed in after the office was so."""

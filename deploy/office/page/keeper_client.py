@@ -17,6 +17,15 @@ class KeeperFault(Exception):
     """The keeper did not answer, or could not do what it was asked to do. The text is for the clerk."""
 
 
+class WasAnothers(KeeperFault):
+    """People would come under identifiers that were somebody else's: `former` has each of these, with the name that it stood for,
+    or none. The clerk may say that they are the same people."""
+
+    def __init__(self, why: str, former: list[tuple[str, str]]) -> None:
+        super().__init__(why)
+        self.former = tuple(former)
+
+
 class Answer(NamedTuple):
     """What the program printed for one line, and its exit status."""
 
@@ -40,6 +49,8 @@ def ask(question: str, who: str, patience: float = PATIENCE, **fields: Any) -> d
     if not isinstance(reply, dict):
         raise KeeperFault(_("The keeper of the office's file ended during this step. Nobody knows whether it was "
                             "carried out. Look before you try again."))
+    if "former" in reply:
+        raise WasAnothers(str(reply["fault"]), reply["former"])
     if "fault" in reply:
         raise KeeperFault(str(reply["fault"]))
     return reply

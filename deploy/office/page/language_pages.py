@@ -5,6 +5,7 @@ from collections import Counter
 
 from languages import _, ngettext
 
+import plain
 from app import app, ask, clerk, field, go_to, memory, office_now, show, tell, text_of
 from keeper_client import KeeperFault
 from people_pages import person_of
@@ -24,7 +25,7 @@ def choose_language() -> None:
     try:
         memory.language(clerk(), str(ask("language", language=code)["language"]))
     except KeeperFault as fault:
-        tell("bad", _("This could not be done. {why}", why=fault))
+        tell("bad", _("This could not be done. {why}", why=plain.begun(str(fault))))
     go_to(back if OWN.fullmatch(back) else "/office/")
 
 
@@ -81,6 +82,6 @@ def done(**fields: object) -> bool:
     try:
         ask("set-languages", **fields)
     except KeeperFault as fault:
-        tell("bad", _("This could not be done. {why}", why=fault))
+        tell("bad", _("This could not be done. {why}", why=plain.begun(str(fault))))
         return False
     return True

@@ -1,7 +1,8 @@
 """Imports: a list is tried on a copy, all its faults are shown, and it is imported once the clerk says so."""
 
 import base64
-from typing import Any, NamedTuple
+from collections.abc import Iterable
+from typing import Any, NamedTuple, NoReturn
 
 from journal import masked
 from languages import N_, _
@@ -17,7 +18,7 @@ import understanding
 from app import app, ask, change, clerk, field, go_to, memory, office_now, show, tell, text_of, upload_of
 from columns import kind_name
 from csv_list import CsvList
-from keeper_client import Answer, answers_of
+from keeper_client import Answer, WasAnothers, answers_of
 from known_people import Beside
 from many_pages import KEYS, MOST_AT_ONCE, acts_for
 from list_faults import Findings
@@ -26,6 +27,7 @@ from mail_lists import NO_ADDRESSES, Addresses
 from office_view import Office
 from questions import Question, put_question
 from sheet_limits import LONGEST_FILE
+from slips import Key
 from understanding import NotUnderstood, Understood
 
 NOBODY = Beside(set(), [], [])
@@ -38,7 +40,7 @@ NO_LONGER = N_("The page no longer holds this list. Nothing was imported now. If
 class Tried(NamedTuple):
     """What the page of a try with new keys shows, besides its list."""
 
-    keys: list[tuple[str, str, str]]
+    keys: list[Key]
     beside: Beside
     read: Understood | None
 
@@ -55,15 +57,27 @@ class Job(NamedTuple):
     made: Made | None = None  # of people: the slips that this try made
     tried: Tried | None = None  # of people: its page
     known: int = 0  # how many lines were taken out of it, since the register has them
+    former: tuple[tuple[str, str], ...] = ()  # of people: identifiers that were somebody else's, with the names of then
 
     def people(self) -> list[str]:
         """Who is on the list."""
         return [record.fields[0] for record in CsvList(self.body).records[1:]]
 
-    def fields(self) -> dict[str, Any]:
-        """The list as the keeper takes it."""
+    def names(self) -> dict[str, str]:
+        """The names of the people on the list."""
+        return {record.fields[0]: record.fields[1] for record in CsvList(self.body).records[1:]}
+
+    def fields(self, again: Iterable[str] = ()) -> dict[str, Any]:
+        """The list as the keeper takes it, and which of its identifiers are those of the same people as before."""
         body = base64.b64encode(self.body).decode()
-        return {"kind": self.kind, "label": self.label, "body": body, "saw": self.saw}
+        return {"kind": self.kind, "label": self.label, "body": body, "saw": self.saw, "again": list(again)}
+
+
+class Brought(NamedTuple):
+    """A list that is in. It takes the place of its job, so that the pages of its try can say so. It has no key."""
+
+    label: str
+    slips: Made | None
 
 
 class Departed(NamedTuple):
@@ -73,8 +87,18 @@ class Departed(NamedTuple):
 
 
 def try_list(job: Job) -> Answer:
-    """What the program answers to a list, on a copy."""
-    return answers_of(ask("import", only_try=True, **job.fields()))[0]
+    """What the program answers to a list, on a copy, also if people on it have former identifiers."""
+    return answers_of(ask("import", only_try=True, **job.fields(job.people())))[0]
+
+
+def former_on(job: Job) -> tuple[tuple[str, str], ...]:
+    """The identifiers on a list that fits that were somebody else's, with the names of then."""
+    try:
+        if job.kind == "people":
+            ask("import", only_try=True, **job.fields())
+    except WasAnothers as why:
+        return why.former
+    return ()
 
 
 def what_is_wrong(office: Office, kind: str, label: str, body: bytes) -> str:
@@ -120,16 +144,18 @@ def look_at_list() -> str:
     return looked_at(office, Job(kind, label, read.body, mailed=mailed), read.table, beside, read)
 
 
-def looked_at(office: Office, job: Job, table: CsvList, beside: Beside, read: Understood | None) -> str:
+def looked_at(office: Office, job: Job, table: CsvList, beside: Beside, read: Understood | None,
+              keys: tuple[Key, ...] = ()) -> str:
     """The page of a list that was tried. Of people and rooms only those are tried that are not in the register. What the
-    page read of the file is for the clerk to agree to, but not if the list is looked at again."""
+    page read of the file is for the clerk to agree to, but not if the list is looked at again. Then `keys` are those that were
+    made before, and are shown once more."""
     if office.has_label(job.label) and try_list(job).status == 0:
         return known_list(office, job)
     if beside.known and len(beside.known) == len(table.records) - 1:
         held = memory.hold(clerk(), job.mailed) if job.mailed.pairs else ""
         return show("already", office=office, kind=job.kind, beside=beside, read=read, mailed=held,
                     count=job.known + len(beside.known), **departed_form(office, tuple(beside.departed)))
-    made = []
+    made = list(keys)
     if read and job.kind == "people" and field("keys"):
         made = table.fill_keys(beside.known)
     if made or beside.known:
@@ -149,11 +175,13 @@ def known_list(office: Office, job: Job) -> str:
     return show("known", office=office, job=job, proposed=office.new_label(job.kind))
 
 
-def fitting_list(office: Office, job: Job, made: list[tuple[str, str, str]], beside: Beside,
-                 read: Understood | None) -> str:
-    """The page of a list that fits: what it replaces, the slips with new keys, and whether to import it."""
+def fitting_list(office: Office, job: Job, made: list[Key], beside: Beside, read: Understood | None) -> str:
+    """The page of a list that fits: what it replaces, who may be somebody else, the slips with new keys, and whether to import
+    it."""
+    job = job._replace(former=former_on(job))
     if made:  # a page of its own, so that loading it again makes no other keys
-        job = job._replace(made=list_slips.made_for(ident for ident, *_rest in made), tried=Tried(made, beside, read))
+        slips = job.made or list_slips.made_for(ident for ident, *_rest in made)
+        job = job._replace(made=slips, tried=Tried(made, beside, read))
         go_to(f"/office/lists/tried/{hold(office, job, job.people())}")
     table = CsvList(job.body)
     replaced: dict[str, int] = {}
@@ -172,13 +200,21 @@ def fitting_list(office: Office, job: Job, made: list[tuple[str, str, str]], bes
 
 @app.get("/office/lists/tried/<name>")
 def tried_list(name: str) -> str:
-    """The page of a try with new keys, as long as the page holds the list."""
-    job: Any = memory.held(clerk(), name)
-    if not isinstance(job, Job) or job.tried is None:
-        tell("bad", _(NO_LONGER))
+    """The page of a try with new keys, as long as the page holds the list, without slips that cannot work any more."""
+    office = office_now()
+    job = held_list(office, name)
+    if job.tried is None:
         go_to("/office/lists")
+    if office.has_label(job.label):
+        tell("bad", label_taken(job))
+        go_to("/office/lists")
+    if office.phase not in plain.kinds(office.version)[job.kind].phases:
+        tell("bad", _("This list cannot come in now. As long as it is not in, slips that you printed for it do not work."))
+        go_to("/office/lists")
+    if is_stale(office, job):
+        return look_again(office, job, tuple(key for key in job.tried.keys if key[0] not in office.people))
     people = job.people()
-    return show("fits", office=office_now(), job=job, count=len(people), made=job.tried.keys, replaced=[], beside=job.tried.beside,
+    return show("fits", office=office, job=job, count=len(people), made=job.tried.keys, replaced=[], beside=job.tried.beside,
                 kind_name=kind_name, read=job.tried.read, tries=list_slips.others(people, job.made), held=name, held_rest="")
 
 
@@ -188,27 +224,67 @@ def hold(office: Office, job: Job, people: list[str]) -> str:
     return memory.hold(clerk(), job._replace(saw=office.saw(part, *people) if part else None))
 
 
+def held_list(office: Office, name: str) -> Job:
+    """A list that waits for the clerk's yes. One that is in, or that the page does not hold, leads to the lists."""
+    job: Any = memory.held(clerk(), name)
+    if isinstance(job, Job):
+        if not is_in(office, job):
+            return job
+        come_in(name, job)
+    if isinstance(job, Brought):
+        for text in list_slips.once_in(job.label, job.slips):
+            tell("good", text)
+    else:
+        tell("bad", _(NO_LONGER))
+    go_to("/office/lists")
+
+
 @app.post("/office/lists/bring")
 def bring_list() -> str:
-    """Imports a list that was tried. If what it replaces has changed since, the clerk looks again."""
+    """Imports a list that was tried. If what it replaces has changed since, or nobody has said of people under former identifiers
+    that they are the same ones, the clerk looks again."""
     office, name = office_now(), text_of("held")
-    job: Any = memory.held(clerk(), name)
-    if not isinstance(job, Job):
-        tell("bad", _(NO_LONGER))
-    elif is_stale(office, job):
+    job = held_list(office, name)
+    if is_stale(office, job):
         return look_again(office, job)
-    elif office.has_label(job.label):
-        tell("bad", _("A list was imported under the label {label} meanwhile. Send yours under another label.", label=job.label))
-    elif change("import", **job.fields()):
-        memory.let_go(clerk(), name)
-        mail_lists.bring(job.mailed)
-        for kind, text in list_slips.which_work(job.people(), job.made) if job.kind == "people" else ():
-            tell(kind, text)
-        if job.departed:
-            go_to(f"/office/departed/{memory.hold(clerk(), Departed(job.departed))}")
-    elif is_stale(office := office_now(), job):
+    if office.has_label(job.label):
+        tell("bad", label_taken(job))
+        go_to("/office/lists")
+    again = [ident for ident, __ in job.former] if field("again") else []
+    try:
+        if change("import", **job.fields(again)):
+            come_in(name, job, is_told=True)
+    except WasAnothers as why:
+        return look_again(office, job, says=str(why))
+    if is_in(office := office_now(), job):
+        come_in(name, job)
+    if is_stale(office, job):
         return look_again(office, job)
     go_to("/office/lists")
+
+
+def come_in(name: str, job: Job, is_told: bool = False) -> NoReturn:
+    """What follows once a list is in. The clerk reads so now if nobody said it before: the keeper's answer may be lost."""
+    memory.replace(clerk(), name, Brought(job.label, job.made))
+    if not is_told:
+        tell("good", list_slips.once_in(job.label, None)[0])
+    mail_lists.bring(job.mailed)
+    for kind, text in list_slips.which_work(job.people(), job.made) if job.kind == "people" else ():
+        tell(kind, text)
+    if job.departed:
+        go_to(f"/office/departed/{memory.hold(clerk(), Departed(job.departed))}")
+    go_to("/office/lists")
+
+
+def is_in(office: Office, job: Job) -> bool:
+    """Whether just this list came in under its label: the program answers as it did then."""
+    return office.has_label(job.label) and try_list(job).status == 0
+
+
+def label_taken(job: Job) -> str:
+    """What a clerk reads if another list came in under the label of a list that was tried."""
+    says = _("A list was imported under the label {label} meanwhile. Send yours under another label.", label=job.label)
+    return f"{says} {list_slips.all_void(job.made)}" if job.made else says
 
 
 def is_stale(office: Office, job: Job) -> bool:
@@ -216,16 +292,17 @@ def is_stale(office: Office, job: Job) -> bool:
     return job.saw is not None and job.saw != office.saw(job.saw.part, *job.saw.people)
 
 
-def look_again(office: Office, job: Job) -> str:
-    """The page of a list, as it is now that somebody else has changed what it replaces."""
-    tell("bad", _("What this list replaces has changed since you tried it. Nothing came in: look again."))
+def look_again(office: Office, job: Job, keys: tuple[Key, ...] = (), says: str = "") -> str:
+    """The page of a list, as it is now that somebody else has changed what it replaces, or for the reason that is given. These keys
+    are shown once more."""
+    tell("bad", says or _("What this list replaces has changed since you tried it. Nothing came in: look again."))
     table, beside = CsvList(job.body), NOBODY
     if job.kind == "people":
         beside = known_people.compare(office, table)._replace(departed=list(job.departed))
     if beside.known:
         came = ", ".join(sorted(table.records[number].fields[0] for number in beside.known))
         tell("bad", list_slips.void(came, job.made))
-    return looked_at(office, job, table, beside, None)
+    return looked_at(office, job, table, beside, None, keys)
 
 
 # --- who is in the register, and not on the list

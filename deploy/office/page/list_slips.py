@@ -64,6 +64,21 @@ def which_work(idents: Iterable[str], own: Made | None) -> list[tuple[str, str]]
     return news
 
 
+def once_in(label: str, own: Made | None) -> list[str]:
+    """What a clerk reads who looks for a list, or for its slips, once the list is in."""
+    says = [_("The list {label} is in.", label=label)]
+    if own:
+        says.append(_("The slips of this list work: those that were made on {time}. The page no longer has them. If a slip is "
+                      "lost, make a new key on the person's page, or for many people at once (page People).",
+                      time=times.in_words(own.at)))
+    return says
+
+
+def all_void(own: Made) -> str:
+    """What the clerk has to know of the slips of a try whose list cannot come in any more."""
+    return _("Your slips for it, which were made on {time}, do not work: destroy them.", time=times.in_words(own.at))
+
+
 def void(came: str, own: Made | None) -> str:
     """What the clerk has to know of the slips of a try if some of its people came into the register meanwhile."""
     if own is None:

@@ -12,6 +12,7 @@ from keeper_client import KeeperFault
 from list_faults import Findings
 from mail_lists import Addresses, bring, in_file
 from people_pages import person_of
+from questions import must_be_sure
 from sheet_limits import LONGEST_FILE
 from understanding import NotUnderstood
 
@@ -72,6 +73,7 @@ def bring_addresses() -> None:
 @app.post(f"{HOME}/strangers")
 def erase_strangers() -> None:
     """Erases the addresses of people who are not in the register, of those whom the clerk saw alone."""
+    must_be_sure(HOME)
     strangers = set(ask("mail")["strangers"])
     set_addresses({ident: "" for ident in ticked("person") if ident in strangers})
     go_to(HOME)

@@ -113,7 +113,24 @@ def beside_people(office: Office, body: bytes, read: Understood) -> tuple[Addres
     beside = {"email": _("mail address, kept beside the register"), "language": _("language, kept beside the register")}
     names = [(name, next((text for target, text in beside.items() if columns.is_known_as(target, name)), taken))
              for name, taken in read.names]
-    return of_rows(rows, known), read._replace(names=names)
+    return without_others(of_rows(rows, known), office, read), read._replace(names=names)
+
+
+def without_others(found: Addresses, office: Office, read: Understood) -> Addresses:
+    """The addresses without those of lines that have another name for a person than the register: they may be another person's."""
+    says = _("The register has another name for this identifier, so the address may be another person's.")
+    others = {}
+    for record in read.table.records[1:]:
+        if has_another_name(office, record.fields):
+            ident, name = list_faults.fields_shown(record.fields[:2], "")
+            others[record.fields[0]] = AddressFault(record.row, ident[:SHOWN], name[:SHOWN], says)
+    left = found._replace(faults=(*found.faults, *others.values()))
+    return left.of({ident for ident, _text in (*found.pairs, *found.languages)} - set(others))
+
+
+def has_another_name(office: Office, fields: list[str]) -> bool:
+    """Whether a record of a list of people has another name for somebody than the register."""
+    return len(fields) > 1 and fields[0] in office.people and bool(fields[1]) and fields[1] != office.people[fields[0]].name
 
 
 def bring(found: Addresses) -> bool:

@@ -150,9 +150,15 @@ def go_back_if_wrong(office: Office, kind: str) -> None:
 
 
 def who_else(state: dict[str, Any]) -> list[str]:
-    """Who gets nothing now."""
+    """Who gets it although they have got one, and who gets nothing now."""
     sent, absent = len(state["sent"]), len(state["no_address"])
+    changed = len(set(state["to"]).intersection(person for person, *_rest in state.get("changed", ())))
     says = []
+    if changed:
+        says.append(ngettext("{count} of these people has got an earlier one, which is no longer right. Say in the text that "
+                             "this message replaces it.",
+                             "{count} of these people have got an earlier one, which is no longer right. Say in the text that "
+                             "this message replaces it.", changed))
     if sent:
         says.append(ngettext("{count} have got it already, and get nothing now.",
                              "{count} have got it already, and get nothing now.", sent))
@@ -240,10 +246,11 @@ def steer_receipts() -> None:
 def ask_again(kind: str) -> str:
     """Asks before everybody can get a message of this kind once more."""
     place, state = address_of_kind(kind), ask("mail")["kinds"][kind]
-    says = [ngettext("{count} have got this message. If you go on, they can get another one: a second reminder, for example, or "
-                     "results that have changed. Nothing is sent yet: write the text first.",
-                     "{count} have got this message. If you go on, they can get another one: a second reminder, for example, or "
-                     "results that have changed. Nothing is sent yet: write the text first.", len(state["sent"]))]
+    says = [ngettext("{count} have got this message. If you go on, they can get another one: a second reminder, for example. "
+                     "Nothing is sent yet: write the text first.",
+                     "{count} have got this message. If you go on, they can get another one: a second reminder, for example. "
+                     "Nothing is sent yet: write the text first.",
+                     len(state["sent"]) + len(state.get("changed", ())))]
     return put_question(office_now(), Question(_("{kind}: begin another message?", kind=_(KINDS[kind].title)), says,
                                                _("Yes: begin another message"), place, saw=state["mark"]))
 

@@ -16,13 +16,10 @@ from questions import must_be_sure
 from slips import show_once
 
 MOST_AT_ONCE = 300
-# People under one stop of the residents' server, which takes a second or two. All lines of a group take effect, or
-# none.
-GROUP = 15
 
 
-class Group(NamedTuple):
-    """Lines for some of the people, and what was on record of these people when the lines were tried."""
+class Bundle(NamedTuple):
+    """Lines for people, and what was on record of these people when the lines were tried."""
 
     lines: list[str]
     saw: Saw
@@ -33,7 +30,7 @@ class Many(NamedTuple):
 
     act: str
     idents: list[str]
-    groups: list[Group]
+    bundle: Bundle
 
 
 class Proposed(NamedTuple):
@@ -65,14 +62,11 @@ def lines_for(office: Office, act: str, ident: str) -> list[str]:
     return leave if act == "leave" else [*leave, f"remove {ident}"]
 
 
-def groups_of(office: Office, act: str, idents: list[str]) -> list[Group]:
-    """The lines for all of these people, in groups."""
+def bundle_of(office: Office, act: str, idents: list[str]) -> Bundle:
+    """The lines for all of these people."""
     if act == KEYS:
-        return [Group([], office.saw("key", *idents))]
-    parts = [idents[start:start + GROUP] for start in range(0, len(idents), GROUP)]
-    groups = [Group([line for ident in part for line in lines_for(office, act, ident)], office.saw("all", *part))
-              for part in parts]
-    return [group for group in groups if group.lines]
+        return Bundle([], office.saw("key", *idents))
+    return Bundle([line for ident in idents for line in lines_for(office, act, ident)], office.saw("all", *idents))
 
 
 def acts_for(office: Office) -> dict[str, str]:
@@ -118,11 +112,10 @@ def look_at_many() -> str:
     faults = wrong_with(office, act, idents, act in acts)
     job = None
     if not faults:
-        job = Many(act, idents, groups_of(office, act, idents))
-        tried = (attempt(*group.lines)[-1] for group in job.groups if group.lines)
-        refused = [last for last in tried if last.status]
-        if refused:
-            faults, job = [str(plain.meaning(refused[0].text))], None
+        job = Many(act, idents, bundle_of(office, act, idents))
+        last = attempt(*job.bundle.lines)[-1] if job.bundle.lines else None
+        if last and last.status:
+            faults, job = [str(plain.meaning(last.text))], None
     return show_many(office, acts, text, faults[:20], job, act)
 
 
@@ -146,7 +139,7 @@ def wrong_with(office: Office, act: str, idents: list[str], can_be_done: bool) -
 
 @app.post("/office/many/do")
 def do_many() -> None:
-    """Carries out what was tried, group by group, so that residents never wait for long."""
+    """Carries out what was tried, as one bundle."""
     name = text_of("held")
     job: Any = memory.held(clerk(), name)
     if not isinstance(job, Many):
@@ -157,13 +150,11 @@ def do_many() -> None:
     memory.let_go(clerk(), name)
     if job.act == KEYS:
         make_keys(job)
-    for number, group in enumerate(job.groups):
-        if fault := fault_of(group):
-            tell("bad", _("{number} of {groups} groups of up to {size} people were carried out, and then this came: {fault} "
-                          "Look how far it came before you go on.", number=number, groups=len(job.groups), size=GROUP,
-                          fault=fault))
-            go_to("/office/register")
-    tell("good", ngettext("Done for one person.", "Done for {count} people.", len(job.idents)))
+    came = carry_out(job.bundle) if job.bundle.lines else Came(len(job.idents), "")
+    if came.fault:
+        tell("bad", ended_after(came, len(job.idents)))
+    else:
+        tell("good", ngettext("Done for one person.", "Done for {count} people.", len(job.idents)))
     go_to("/office/register")
 
 
@@ -171,17 +162,33 @@ def make_keys(job: Many) -> None:
     """Makes all the new keys in one step, and leads to their slips."""
     office, keys = office_now(), {ident: secrets.token_hex(16) for ident in job.idents}
     try:
-        ask("keys", keys=keys, seen=field("seen"), saw=job.groups[0].saw)
+        ask("keys", keys=keys, seen=field("seen"), saw=job.bundle.saw)
     except KeeperFault as fault:
         tell("bad", _("This could not be done. {fault}", fault=plain.begun(str(fault))))
         go_to("/office/many")
     show_once([(ident, office.people[ident].name, key) for ident, key in keys.items()], "/office/register")
 
 
-def fault_of(group: Group) -> str:
-    """Carries out a group. What went wrong, or nothing."""
+class Came(NamedTuple):
+    """How many of the people a bundle was carried out for, and what ended it, or nothing."""
+
+    people: int
+    fault: str
+
+
+def carry_out(bundle: Bundle) -> Came:
+    """Carries out a bundle. If one of its lines is refused in the office, those before it stand."""
     try:
-        reply = ask("do", lines=group.lines, seen=field("seen"), saw=group.saw)
+        reply = ask("do", lines=bundle.lines, seen=field("seen"), saw=bundle.saw)
     except KeeperFault as fault:
-        return str(fault)
-    return "" if reply["done"] else str(plain.meaning(answers_of(reply)[-1].text))
+        return Came(0, str(fault))
+    made, left = ({line.split()[1] for line in part} for part in (bundle.lines[:reply["made"]], bundle.lines[reply["made"]:]))
+    return Came(len(made - left), "" if reply["done"] else str(plain.meaning(answers_of(reply)[-1].text)))
+
+
+def ended_after(came: Came, count: int) -> str:
+    """What the clerk reads of a bundle that was not carried out for all."""
+    if not came.people:
+        return _("This could not be done. {why}", why=plain.begun(came.fault))
+    return _("This was done for the first {people} of {count} people. Then the office refused it, since it was changed "
+             "meanwhile: {fault} Look how far it came before you go on.", people=came.people, count=count, fault=came.fault)

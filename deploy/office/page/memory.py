@@ -107,6 +107,12 @@ class Memory:
             self._forget()
             return [held.what for own in self._held.values() for held in own.values()]
 
+    def replace(self, clerk: str, name: str, what: Any) -> None:
+        """Holds something else under a name, as long as what it takes the place of would have been held."""
+        with self._lock:
+            if name in self._held[clerk]:
+                self._held[clerk][name] = self._held[clerk][name]._replace(what=what)
+
     def let_go(self, clerk: str, name: str) -> None:
         """Forgets what was held."""
         with self._lock:

@@ -120,7 +120,7 @@ class Office:  # pylint: disable=too-many-instance-attributes  # each is a part 
 
     @property
     def without_list(self) -> list[Person]:
-        """Who takes part and has handed in no list, or an empty one."""
+        """Who takes part and has no list on record, or an empty one."""
         return [person for person in self.participants if not self.choices.get(person.ident)]
 
     def has_label(self, label: str) -> bool:

@@ -10,8 +10,9 @@ from lines import IDENTIFIER
 
 import explaining
 import plain
-from app import app, ask, attempt, change, clerk, field, go_to, memory, office_now, saw, show, tell, text_of
-from keeper_client import KeeperFault
+from app import app, ask, attempt, change, clerk, field, go_to, memory, office_now, saw, show, tell, text_of, ticked
+from keeper_client import KeeperFault, WasAnothers
+from kept_beside import erased_with
 from mail_lists import address_of
 from office_view import Office, Person
 from resident_languages import own_of
@@ -140,9 +141,8 @@ def question_of(office: Office, ident: str, act: str) -> Question | None:
         title = _("Does {who} leave {room}?", who=who, room=person.home)
         return Question(title, says, _("Yes: leave the room"), place)
     if act == "remove":
-        says = [_("The room becomes free, and the program forgets name and key. The mail address is erased. Recorded moves stay.")
-                if office.view.get("mail") else
-                _("The room becomes free, and the program forgets name and key. Recorded moves stay."), _(plain.COPY_FIRST),
+        says = [_("The room becomes free, and the program forgets name and key. Recorded moves stay."), _(plain.COPY_FIRST),
+                *erased_with(ident),
                 _("Kept lists and copies still hold the name and the key. Blank the lists on the page Lists in.")]
         return Question(_("Remove {who} from the register?", who=who), says, _("Yes: remove this person"), place)
     if act == "withdraw":
@@ -153,7 +153,7 @@ def question_of(office: Office, ident: str, act: str) -> Question | None:
                         tick=right_person(person))
     if act == "going" and person.home:
         says = [_("The person takes no part in this round. {room} is given out in it, and the person moves out when the round is "
-                  "settled.", room=person.home), _("A list that this person handed in counts no more."),
+                  "settled.", room=person.home), _("A list that is on record of this person counts no more."),
                 _(plain.NOT_WITHIN), _(plain.COPY_FIRST)]
         return Question(_("Does {who} leave the college?", who=who), says, _("Yes: leaves the college"), place,
                         tick=right_person(person))
@@ -206,13 +206,18 @@ def change_person(ident: str, act: str) -> None:
 
 
 @app.post("/office/person")
-def new_person() -> None:
-    """Adds a person, and shows the key."""
+def new_person() -> str:
+    """Adds a person, and shows the key. If the identifier was somebody else's, the clerk gives another one, or says that it is the
+    same person: the box has the identifier that it speaks of."""
     ident = text_of("ident").upper()
     if not IDENTIFIER.fullmatch(ident):
         tell("bad", _("Nothing was changed. {what_to_do}", what_to_do=_(plain.IDENTIFIER)))
         go_to("/office/register")
     name, home, key = text_of("name"), text_of("room").upper(), secrets.token_hex(16)
-    if not change("do", lines=[f"person {ident} {key} {name}", *([f"home {ident} {home}"] if home else [])]):
-        go_to("/office/register")
+    lines = [f"person {ident} {key} {name}", *([f"home {ident} {home}"] if home else [])]
+    try:
+        if not change("do", lines=lines, again=ticked("again")):
+            go_to("/office/register")
+    except WasAnothers as why:
+        return show("former", office=office_now(), ident=ident, called=name, room=home, why=why)
     show_once([(ident, name, key)], f"/office/person/{ident}")

@@ -92,7 +92,7 @@ PHASES = {
 STEPS = {
     "open": Step(("idle",), N_("Open the next round"),
                  N_("Residents can hand in lists from then on. Homes cannot change until the round is over."),
-                 N_("To take it back, give the round up. Lists that residents have handed in by then can come back into the next "
+                 N_("To take it back, give the round up. Lists that are on record by then can come back into the next "
                     "round."), False),
     "close": Step(("open",), N_("Close the round"),
                   N_("Nobody can hand in or change a list any more. No person and no room can be added."),

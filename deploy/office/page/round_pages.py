@@ -38,7 +38,7 @@ def without_slash() -> None:
 
 @app.get("/office/")
 def overview() -> str:
-    """How far the round is, what comes next, and who has handed in no list."""
+    """How far the round is, what comes next, and who has no list."""
     office = office_now()
     given_up = coming_back.rounds(office) if office.phase == "idle" else []
     stopped = None if office.serves else why_stopped(office.ended)
@@ -91,7 +91,7 @@ def warnings(office: Office, step: str) -> list[str]:
         says.append(_("From round {number}, which was given up: {missing}. The overview leads to it.",
                       number=given_up.number, missing=missing))
     if step == "close" and office.without_list:
-        says.append(_("{count} of {all} participants have handed in no list.",
+        says.append(_("{count} of {all} participants have no list on record.",
                       count=len(office.without_list), all=len(office.participants)))
     if step in ("open", "close") and not office.participants:
         says.append(_(plain.NOBODY[step]))

@@ -15,8 +15,8 @@ class Second(NamedTuple):
 
     without: int
     free: int
-    asked: int           # people without a room who have handed in a list
-    tenants: list[str]   # who has a room, and has handed in no list
+    asked: int           # people without a room who have a list on record
+    tenants: list[str]   # who has a room, and no list on record
 
 
 class Said(NamedTuple):
@@ -54,5 +54,5 @@ def said_of(office: Office, found: Second) -> Said:
                  "{count} people left the college in round {number}, and would take part as people without a room.",
                  len(office.left), number=office.number),
         _(plain.PHASES[office.phase].numbered, number=office.number),
-        ngettext("{count} of {people} without a room has handed in a list.",
-                 "{count} of {people} without a room have handed in a list.", found.asked, people=plain.people(found.without)))
+        ngettext("{count} of {people} without a room has a list on record.",
+                 "{count} of {people} without a room have a list on record.", found.asked, people=plain.people(found.without)))

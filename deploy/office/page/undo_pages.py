@@ -55,8 +55,8 @@ def given_up_with(office: Office, ident: str) -> tuple[GivenUp, str] | None:
 
 def others_in(found: dict[str, Any], ident: str) -> list[str]:
     """What else would become of people by going back to a copy, in a few words each."""
-    lists, names, keys, come, gone, grades, rooms = (
-        len(found[part]) for part in ("lists", "names", "keys", "come", "go", "grades", "rooms"))
+    lists, names, keys, come, gone, grades, rooms, others = (
+        len(found[part]) for part in ("lists", "names", "keys", "come", "go", "grades", "rooms", "others"))
     part = sum(1 for one in found["part"] if one != ident)
     said = [
         lists and ngettext("one person with another list", "{count} people with another list", lists),
@@ -67,13 +67,16 @@ def others_in(found: dict[str, Any], ident: str) -> list[str]:
         gone and ngettext("one person who goes out of the register", "{count} people who go out of the register", gone),
         grades and ngettext("one person with another grade", "{count} people with another grade", grades),
         rooms and ngettext("a change of one room", "changes of {count} rooms", rooms),
+        others and ngettext("one identifier that may be another person's in the copy",
+                            "{count} identifiers that may be another person's in the copy", others),
     ]
     return [text for text in said if text]
 
 
 def copy_before(office: Office, ident: str) -> Before | None:
-    """The newest copy from before this one step, if it is of this round as it is now. A resident who withdraws makes none."""
-    named = re.compile(rf"before (?:.*; )?(?:going|withdraw) {re.escape(ident)}(?![A-Z0-9])")
+    """The newest copy from before this one step, alone or in a bundle of lines, if it is of this round as it is now. A resident
+    who withdraws makes none."""
+    named = re.compile(rf"before (?:.*[,;] )?(?:going|withdraw) (?:{re.escape(ident)}(?![A-Z0-9])|\([0-9]+\))")
     for name, _, why in reversed(ask("backups")["backups"]):
         if not named.match(why):
             continue
@@ -81,7 +84,7 @@ def copy_before(office: Office, ident: str) -> Before | None:
             found = ask("compare", name=name)
         except KeeperFault:  # the copy is damaged, or has gone
             continue
-        if found["round"] == [office.number, office.phase] and ident in found["part"]:
+        if found["round"] == [office.number, office.phase] and ident in found["part"] and ident not in found["others"]:
             return Before(name, others_in(found, ident))
     return None
 

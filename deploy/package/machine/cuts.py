@@ -2,7 +2,7 @@
 
 WORD.. starts qemu, without its disk, its serial lines and what the kernel is given. The machine's office changes all the
 time (machine/changes.sh). After each cut it has to be the office after the last change that was answered, or after the
-one that had begun. The cuts aim at each kind of change in turn.
+one that had begun, or after one of its lines. The cuts aim at each kind of change in turn.
 
 What is lost is the memory of the machine, not what it had handed to its disk: so a missing fsync is found, and a missing
 flush of a disk's own cache is not.
@@ -43,6 +43,11 @@ def after(change: int, office: Office, copy: Office) -> Office:
             return copy
         case kind:
             return office._replace(rooms=tuple(sorted([*office.rooms, *added.get(kind, [])])))
+
+
+def within(change: int, office: Office) -> list[Office]:
+    """The office after the first of the two lines of this change, if it has two."""
+    return [office._replace(rooms=tuple(sorted([*office.rooms, f"K{change}"])))] if change % KINDS == 3 else []
 
 
 class Machine:
@@ -110,7 +115,8 @@ class Cuts:
                 sys.exit(f"FAULT  sqlite3 says of the file: {whole}")
             if office not in self.expected:
                 sys.exit(f"FAULT  the office is {office}\n       and not one of {self.expected}")
-            which = ["after the last answer", "after the change that had begun"][self.expected.index(office)]
+            states = ["after the last answer", "after the change that had begun", "after the first line of that change"]
+            which = states[self.expected.index(office)]
             print(f"ok     start {cut}: the office {which if cut else 'is the new one'}; its file is whole", flush=True)
             if is_last:
                 return
@@ -130,7 +136,9 @@ class Cuts:
             copy = office if number % KINDS == 5 else copy
             office = after(number, office, copy)
         self.answered += len(ended)
-        self.expected = [office, *(after(number, office, copy) for number in begun if number not in ended)]
+        open_ones = [number for number in begun if number not in ended]
+        self.expected = [office, *(after(number, office, copy) for number in open_ones),
+                         *(state for number in open_ones for state in within(number, office))]
         print(f"       cut {cut + 1}: {len(ended)} changes answered; had begun: {begun[len(ended):]}", flush=True)
         self.next_change = (begun[-1] // KINDS + 1) * KINDS
 

@@ -1,0 +1,144 @@
+"""The office's history as a tree: after each way back to a copy the office goes on from the moment of that copy.
+
+The journal says in which order changes were made, and which copy was kept just before each. A state of the office is named by
+its place: how many changes came before it in the journal, those of other branches included.
+"""
+
+import datetime
+import re
+from collections.abc import Iterable, Iterator
+from typing import NamedTuple
+
+import times
+from journal import NOT_KNOWN
+from seeds import Entry, lines_of, merged
+
+SECOND = datetime.timedelta(seconds=1)
+LATEST = datetime.datetime.max.replace(tzinfo=datetime.timezone.utc) - SECOND
+WENT_BACK = re.compile(r"back (\S+?)(?:,|$)")
+REMOVED = ("remove", "forget")  # the lines after which an identifier can be another person's
+
+
+class Fork(NamedTuple):
+    """Where two states of the office part: the copy of the last state that both come from, its place, and what was carried out
+    since then, or may have been, on the way to the one and on the way to the other. Of what is `unsure` nobody knows on which
+    branch it was carried out, or whether before both."""
+
+    base: str
+    place: int
+    before_one: list[Entry]
+    before_other: list[Entry]
+    unsure: list[Entry]
+
+    def removed(self) -> set[str]:
+        """Who was removed on one of the two branches, or may have come on one: the identifier can be another person's there."""
+        gone = named_in([*self.before_one, *self.before_other, *self.unsure], *REMOVED)
+        return gone | named_in(self.unsure, "person")
+
+
+class Moment(NamedTuple):
+    """Between which places a copy was made. Of one that was asked for the second alone is known: what was done in it, between
+    both, may have come before the copy or after it."""
+
+    first: int
+    last: int
+
+
+class WayBack(NamedTuple):
+    """A way back that was carried out, or may have been: the copy before it, that of the state from which the office goes on,
+    the place of this state, and of what nobody knows whether it was carried out since then."""
+
+    before: str
+    copy: str
+    led_to: int
+    unsure: list[Entry]
+
+
+class Branches:
+    """The tree, by the journal as far as it is there. A way back that the keeper is about to make is none yet."""
+
+    def __init__(self, journal: Iterable[Entry]) -> None:
+        self.entries = merged([entry for entry in journal if "at" in entry])
+        self.now = Moment(len(self.entries), len(self.entries))
+        self.times = [datetime.datetime.fromisoformat(entry["at"]) for entry in self.entries]
+        self.kept = [kept_at(entry) for entry in self.entries]
+        self.kept_before = {str(entry["copy"]): place for place, entry in enumerate(self.entries) if entry.get("copy")}
+        self.ways: dict[int, WayBack] = {}
+        for place, entry in enumerate(self.entries):
+            if copy := went_back_to(entry):
+                self.ways[place] = self.way_back(place, copy)
+
+    def way_back(self, place: int, copy: str) -> WayBack:
+        """A way back to a copy. If nobody knows whether it was made, the office goes on from what both states share."""
+        first, last = (min(one, place) for one in self.moment_of(copy))
+        unsure = self.entries[first:last]
+        if is_done(self.entries[place]):
+            return WayBack(self.kept[place], copy, first, unsure)
+        fork = self.part((copy, first), ("", place))
+        unsure += [*fork.before_one, *fork.before_other, *fork.unsure]
+        return WayBack(self.kept[place], fork.base, fork.place, unsure)
+
+    def moment_of(self, copy: str) -> Moment:
+        """When a copy was made: just before a change, or at the time of its name. The names of copies are in order."""
+        if copy in self.kept_before:
+            return Moment(self.kept_before[copy], self.kept_before[copy])
+        made = times.moment_of(copy) or LATEST
+        first, last = (next((place for place, (at, kept) in enumerate(zip(self.times, self.kept)) if kept >= copy or at >= end),
+                            self.now.last) for end in (made, made + SECOND))
+        first = max([first, *(place + 1 for place, way in self.ways.items() if "" < way.before < copy)])
+        return Moment(first, max(first, last))
+
+    def fork(self, copy: str, other: str = "") -> Fork:
+        """Where the state of a copy, and that of another one or of now, part."""
+        made, other_made = self.moment_of(copy), self.moment_of(other) if other else self.now
+        fork = self.part((copy, made.last), (other, other_made.last))
+        fork.unsure.extend(self.entries[made.first:made.last] + self.entries[other_made.first:other_made.last])
+        return fork
+
+    def part(self, one: tuple[str, int], other: tuple[str, int]) -> Fork:
+        """Where two states part, by the copy and the place of each."""
+        names, at = {place: name for name, place in (other, one)}, [one[1], other[1]]
+        since: tuple[list[Entry], ...] = [], [], []
+        while at[0] != at[1]:
+            later = int(at[1] > at[0])
+            place = at[later] = at[later] - 1
+            since[later].append(self.entries[place])
+            if way := self.ways.get(place):
+                at[later] = way.led_to
+                names.setdefault(way.led_to, way.copy)
+                since[2].extend(way.unsure)
+        return Fork(names[at[0]], at[0], *since)
+
+    def before_ways(self) -> Iterator[str]:
+        """The copies that were kept before the ways back, the last one first."""
+        return (way.before for way in reversed(self.ways.values()) if way.before)
+
+    def removed_since_settled(self) -> set[str]:
+        """Who was removed since the last round was settled. Who has come in again since then did not leave in that round."""
+        settled = [str(entry["copy"]) for entry in self.entries
+                   if is_done(entry) and entry.get("copy") and "settle" in lines_of(entry)]
+        return named_in(self.fork(settled[-1]).before_other, *REMOVED) if settled else set()
+
+
+def named_in(entries: Iterable[Entry], *verbs: str) -> set[str]:
+    """What lines of these verbs name that were carried out, or may have been."""
+    lines = [line.split() for entry in entries for line in lines_of(entry)]
+    return {words[1] for words in lines if len(words) > 1 and words[0] in verbs}
+
+
+def is_done(entry: Entry) -> bool:
+    """Whether a change was carried out, for all that is known."""
+    return entry.get("status") == 0
+
+
+def went_back_to(entry: Entry) -> str:
+    """To which copy the office went back by a change, or may have done so when the keeper was ended; nothing if it did not."""
+    if is_done(entry) or entry.get("answer") == NOT_KNOWN:
+        found = WENT_BACK.match("; ".join(lines_of(entry)))
+        return found[1] if found and times.moment_of(found[1]) else ""
+    return ""
+
+
+def kept_at(entry: Entry) -> str:
+    """The copy that was kept just before a change, or that somebody asked for; nothing if there is none."""
+    return str(entry.get("copy") or (entry.get("answer", "") if entry.get("line") == "backup" else ""))

@@ -1,0 +1,70 @@
+"""A way back to a kept copy, as it is tried and then made."""
+
+import contextlib
+import sqlite3
+from pathlib import Path
+from typing import Any
+
+from beside_register import BesideRegister
+from branches import Branches
+from office import Office
+from parting import Parting, people_in
+from program import Answer, correct, is_of_earlier_version, keys_in
+from rows import rows_of
+from seen import Rows
+
+
+class GoingBack:
+    """A way back to a copy. With `newer_keys` those of the same people stay who have the newer key now."""
+
+    def __init__(self, office: Office, beside: BesideRegister, name: str, newer_keys: bool) -> None:
+        self.office, self.beside, self.name, self.newer_keys = office, beside, name, newer_keys
+        self.then: Rows = {}
+        self.found: dict[str, Any] = {}
+
+    @property
+    def line(self) -> str:
+        """What the journal says of it."""
+        return f"back {self.name}{', with the newer keys' if self.newer_keys else ''}"
+
+    def carry_out(self, copy: Path) -> list[Answer]:
+        """Puts the kept copy over one of the present office, which may be damaged. A copy from before an upgrade of the program
+        is brought to the program's version."""
+        now, keys, program = None, {}, self.office.program
+        with contextlib.suppress(sqlite3.Error):
+            now, keys = rows_of(copy), keys_in(copy)
+        self.office.backups.take(self.name, copy)
+        answer = program.look(copy)
+        if is_of_earlier_version(answer):
+            answer = program.migrate(copy)
+        if answer.status == 0:
+            self.then = rows_of(copy)
+            self.found = self.compared(now)
+            if stay := self.stay():
+                correct({person: {"key": keys[person]} for person in stay}, copy)
+                answer = program.look(copy)
+        return [answer]
+
+    def compared(self, now: Rows | None) -> dict[str, Any]:
+        """What becomes of people. Of a damaged office, all that is known is who may be somebody else."""
+        parting = Parting(self.office, Branches(self.office.journal.entries()), self.name)
+        if now:
+            return parting.compared(self.then, now)
+        everybody = people_in(self.then)
+        return {"gone": sorted(parting.others(everybody, everybody))}
+
+    def stay(self) -> list[str]:
+        """Who keeps the key of now."""
+        return self.found.get("newer_now", []) if self.newer_keys else []
+
+    def erase(self) -> None:
+        """Erases what the keeper has beside the register of people who may be somebody else in the copy."""
+        people = set(self.found["gone"])
+        self.found["gone"] = sorted(self.beside.with_something(people))
+        self.beside.erase_others(people)
+
+    def told(self) -> dict[str, Any]:
+        """What became of people, of whom some have kept their keys."""
+        stay = set(self.stay())
+        return {name: [one for one in found if one not in stay] if name in ("keys", "newer_now") else found
+                for name, found in self.found.items()}

@@ -1,0 +1,135 @@
+"""Messages of results that have changed since: /usr/bin/python3 deploy/trial/mail_changed.py PROGRAM.
+
+The office goes back behind a round that was published, corrects a list, and publishes again. Those whose message is no longer
+right are counted as without one, and get another; nobody else does; and the page names those for whom there is none any more.
+"""
+
+import sys
+from pathlib import Path
+
+# The repository stays as it is.
+sys.dont_write_bytecode = True
+
+# pylint: disable=wrong-import-position  # nothing may be written before
+from mail_server import MailServer
+from office_forms import flat
+from office_mail import FORM, kind_of, logs_of, mail_of, press, rest, settle_mail
+from office_requests import Page
+from stand import Stand, check
+
+PEOPLE = ["T01", "T02", "T03", "T04"]
+SEED = "5" * 64
+
+
+def idents(rows):
+    """Whom rows of a state are about."""
+    return [row[0] for row in rows]
+
+
+def publish(stand):
+    """From the open round to its results."""
+    stand.office("close")
+    stand.ask(ask="draw", who="anna", seed=SEED)
+    stand.office("run")
+    return stand.office("publish")
+
+
+def sent_by(page, stand, server, kind):
+    """Sends a kind of message. Who got it, and what."""
+    server.forget()
+    press(page, kind)
+    rest(stand)
+    return {recipients[0]: message.get_content() for _, _, recipients, message in server.got}
+
+
+def counts(page, kind):
+    """The page of a kind of message as a reader has it, and what the page of mail says of it."""
+    name = {"results": "Results", "moves": "Plan of moves"}[kind]
+    return flat(page.get(f"{FORM}/{kind}")[2]), flat(page.get(FORM)[2]).partition("Who gets it Now")[2].partition(name)[2]
+
+
+def try_first(stand, page, server):
+    """The first results."""
+    publish(stand)
+    got = sent_by(page, stand, server, "results")
+    check("everybody reads the first results", set(got) == set(map(mail_of, PEOPLE))
+          and "Your new room is A-3." in got[mail_of("T01")] and "You keep your room A-2." in got[mail_of("T04")], got)
+    got = sent_by(page, stand, server, "moves")
+    check("and the one who moves reads when", list(got) == [mail_of("T01")], got)
+    shown, said = counts(page, "results")
+    check("the page counts them", "Have got it 4 Get it now 0" in shown and "4 sent, 0 to send" in said, (shown, said))
+
+
+def try_same(stand, page, before):
+    """The office goes back and publishes the same results again."""
+    stand.ask(ask="back", name=before)
+    check("while nothing is published, the page counts nobody", "Have got it 4 Get it now" not in counts(page, "results")[0])
+    publish(stand)
+    shown, said = counts(page, "results")
+    check("who was told the same counts as told", "Have got it 4 Get it now 0" in shown and "4 sent, 0 to send" in said, shown)
+    check("and nobody gets another one", kind_of(stand, "results")["to"] == kind_of(stand, "moves")["to"] == [])
+
+
+def try_changed(stand, page, server, before):
+    """T01 keeps the old room after all, and T04 moves in the place of T01."""
+    stand.ask(ask="back", name=before)
+    stand.office("choose T01")
+    stand.office("choose T04 A-3")
+    publish(stand)
+    state = kind_of(stand, "results")
+    check("who was told what is not so any more counts as not told", (state["people"], idents(state["sent"]), state["to"],
+          idents(state["changed"]), state["others"]) == (4, ["T02", "T03"], ["T01", "T04"], ["T01", "T04"], []), state)
+    shown, said = counts(page, "results")
+    check("the page counts so", "Have got it 2 Get it now 2" in shown and "2 sent, 2 to send" in said, (shown, said))
+    check("and names those who know another result", "no longer right, and get it again: 2 T01" in shown, shown)
+    shown = flat(page.get(f"{FORM}/results/send")[2])
+    check("the question says how many have another one", "2 of these people have got an earlier one" in shown
+          and "2 have got it already, and get nothing now" in shown, shown)
+    got = sent_by(page, stand, server, "results")
+    check("only they get it", set(got) == {mail_of("T01"), mail_of("T04")}
+          and "You keep your room A-1." in got[mail_of("T01")] and "Your new room is A-3." in got[mail_of("T04")], got)
+    shown, said = counts(page, "results")
+    check("then all have got it", "Have got it 4 Get it now 0" in shown and "4 sent, 0 to send" in said
+          and "no longer right" not in shown, (shown, said))
+
+
+def try_moves(stand, page, server):
+    """The message about a move that is none any more cannot be corrected by another one: the page says who has it."""
+    state = kind_of(stand, "moves")
+    check("who moves gets the message, and who does not is set apart", (state["people"], idents(state["sent"]), state["to"],
+          idents(state["others"])) == (1, [], ["T04"], ["T01"]), state)
+    shown, said = counts(page, "moves")
+    check("the page counts those whom it is for", "Have got it 0 Get it now 1" in shown
+          and "0 sent, 1 to send" in said, (shown, said))
+    check("and names who has it although it is not for them", "Have got it, though it is not for them any more: 1 T01" in shown
+          and "Tell them in another way" in shown, shown)
+    got = sent_by(page, stand, server, "moves")
+    check("the one who moves reads when", list(got) == [mail_of("T04")], got)
+    shown, said = counts(page, "moves")
+    check("and counts", "Have got it 1 Get it now 0" in shown and "1 sent, 0 to send" in said, (shown, said))
+
+
+def try_mail_changed(program):
+    """All of it."""
+    with MailServer() as server, Stand(program) as stand:
+        stand.fill(["A-1", "A-2", "A-3"], PEOPLE)
+        settle_mail(stand, server)
+        stand.start()
+        stand.start_page()
+        stand.start_proxy()
+        page = Page(stand)
+        stand.ask(ask="mail-addresses", addresses={one: mail_of(one) for one in PEOPLE})
+        for line in ("home T01 A-1", "home T04 A-2", "open", "choose T01 A-3"):
+            stand.office(line)
+        before = stand.ask(ask="backup")["name"]
+        try_first(stand, page, server)
+        try_same(stand, page, before)
+        try_changed(stand, page, server, before)
+        try_moves(stand, page, server)
+        check("no address, name or key is in a log or in the journal", not logs_of(stand), logs_of(stand))
+
+
+if __name__ == "__main__":
+    if len(sys.argv) != 2 or not Path(sys.argv[1]).exists():
+        sys.exit("usage: /usr/bin/python3 deploy/trial/mail_changed.py PROGRAM")
+    try_mail_changed(sys.argv[1])

@@ -1,0 +1,78 @@
+"""Lists that the office put on record: no page, letter or mail says that the resident handed one in:
+/usr/bin/python3 deploy/trial/office_on_record.py PROGRAM.
+"""
+
+import sys
+from pathlib import Path
+
+# The repository stays as it is.
+sys.dont_write_bytecode = True
+
+# pylint: disable=wrong-import-position  # nothing may be written before
+from mail_server import MailServer
+from office_forms import seen_at
+from office_mail import mail_of, settle_mail
+from office_again import flat as lines
+from office_requests import Page
+from stand import Stand, check
+
+PEOPLE = ["T01", "T02", "T03"]
+
+
+def is_silent(page, path, *says):
+    """The page at this address speaks of lists on record, and of none that somebody handed in."""
+    shown = seen_at(page, path)
+    check(f"{path} says nothing of handing in", "handed in" not in shown and all(one in shown for one in says), shown)
+
+
+def try_open(stand, page):
+    """While the round is open."""
+    stand.office("open")
+    page.form("/office/person/T01/choose", {"text": "A-2"}, page="/office/person/T01")
+    is_silent(page, "/office/", "Lists on record 1 of 3", "No list yet: 2")
+    check("nor does its picture", "1 of 3 participants have a list on record" in page.get("/office/")[2])
+    is_silent(page, "/office/person/T01", "It replaces the list that is on record.")
+    is_silent(page, "/office/person/T01/going", "A list that is on record of this person counts no more.")
+    is_silent(page, "/office/lists", "replaces the list that is on record of this person")
+    is_silent(page, "/office/step/close", "2 of 3 participants have no list on record.")
+    is_silent(page, "/office/mail/reminder", "everybody who takes part and has no list on record: 2")
+    shown = lines(page.form("/office/lists", {"kind": "choices", "label": "paper"},
+                            files={"list": b"person,choices\nT01,A-3\nT02,A-3\n"})[2])
+    check("a list of choices replaces what is on record", "1 of these people has another list on record already." in shown
+          and "replaces what is on record of: T01" in shown and "handed in" not in shown, shown)
+
+
+def try_results(stand, page):
+    """Once there are results."""
+    for line in ("close", "draw", "run", "publish"):
+        if line == "draw":
+            stand.ask(ask="draw", who="anna", seed="7" * 64)
+        else:
+            stand.office(line)
+    is_silent(page, "/office/person/T01", "choice 1")
+    is_silent(page, "/office/person/T02", "No list of T02 was on record, so T02 gets no room.")
+    is_silent(page, "/office/person/T03", "No list of T03 was on record, so T03 keeps A-1.")
+    is_silent(page, "/office/letters", "You keep A-1, since no list of yours was on record.",
+              "You get no room, since no list of yours was on record.")
+
+
+def try_office_on_record(program):
+    """All of it."""
+    with MailServer() as server, Stand(program) as stand:
+        stand.fill(["A-1", "A-2", "A-3"], PEOPLE)
+        settle_mail(stand, server)
+        stand.start()
+        stand.start_page()
+        stand.start_proxy()
+        page = Page(stand)
+        stand.ask(ask="mail-addresses", addresses={one: mail_of(one) for one in PEOPLE})
+        stand.office("home T01 A-3")
+        stand.office("home T03 A-1")
+        try_open(stand, page)
+        try_results(stand, page)
+
+
+if __name__ == "__main__":
+    if len(sys.argv) != 2 or not Path(sys.argv[1]).exists():
+        sys.exit("usage: /usr/bin/python3 deploy/trial/office_on_record.py PROGRAM")
+    try_office_on_record(sys.argv[1])

@@ -1,0 +1,108 @@
+"""Who left the college in a round, and a second round, in the office of the trial of the way back (office_wayback.py)."""
+
+import contextlib
+import re
+import sqlite3
+
+from office_forms import boxes, flat, seen_at
+from office_requests import hand_in
+from stand import check, key_of
+
+ROOMS = [f"A-{number}" for number in range(101, 113)]
+PEOPLE = [f"P{number:02}" for number in range(1, 13)]
+HOMES = dict(zip(PEOPLE[:8], ROOMS))  # P01 to P08 live in A-101 to A-108; nobody lives in A-109 to A-112
+SEED = "5eed" * 16
+
+
+def fill(stand):
+    """The people move in, by SQLite itself."""
+    stand.fill(ROOMS, PEOPLE)
+    with contextlib.closing(sqlite3.connect(stand.file)) as database:
+        database.executemany("UPDATE person SET home = ? WHERE id = ?", [(room, person) for person, room in HOMES.items()])
+        database.commit()
+
+
+def away(stand):
+    """Who leaves, and who has withdrawn."""
+    view = stand.ask(ask="view")
+    return {row[0] for row in view["going"]}, {row[0] for row in view["people"] if row[3]}
+
+
+def finish_round(stand):
+    """From closing to settling."""
+    stand.office("close")
+    stand.ask(ask="draw", who="anna", seed=SEED)
+    for line in ("run", "publish"):
+        stand.office(line)
+
+
+def homes(stand):
+    """Where everybody lives who has a room."""
+    return {row[0]: row[2] for row in stand.ask(ask="view")["people"] if row[2]}
+
+
+def people_of(stand):
+    """The identifiers of the register."""
+    return {row[0] for row in stand.ask(ask="view")["people"]}
+
+
+def undo_of(page, person):
+    """What the clerk reads who asks to undo something of a person."""
+    return seen_at(page, page.get(f"/office/undo/{person}")[1]["location"])
+
+
+def try_left(stand, page):
+    """P06 and P07 leave the college; P12 and P02 only get no room."""
+    for line in ("going P06", "going P07"):
+        stand.office(line)
+    finish_round(stand)
+    check("a published round cannot be given up", "It can no longer be undone" in undo_of(page, "P06"))
+    stand.office("settle")
+    # P04 gets A-111, P09 A-109 and P10 A-112, since nobody else lists these.
+    expected = {**HOMES, "P04": "A-111", "P09": "A-109", "P10": "A-112"}
+    expected = {one: room for one, room in expected.items() if one not in ("P02", "P06", "P07")}
+    check("the round is settled", homes(stand) == expected, homes(stand))
+    check("the overview names them", "Left the college in round 3: 2" in seen_at(page, "/office/"), seen_at(page, "/office/"))
+    check("so does the question before the next round", "2 people who left the college in round 3"
+          in seen_at(page, "/office/step/open"))
+    shown = page.get("/office/left")[2]
+    check("who left is ticked, and nobody else is there",
+          boxes(shown) == {("person", "P06"): True, ("person", "P07"): True}, shown)
+    token = page.hidden("/office/left", "/office/many")
+    shown = flat(page.post("/office/many", token)[2])
+    check("if nobody is ticked the page says so", "You have named nobody." in shown and "Yes:" not in shown, shown)
+    shown = page.post("/office/many", [*token.items(), ("person", "P06")])[2]
+    check("the page asks first",
+          "Remove them from the register: one person" in flat(shown) and "P06" in people_of(stand), shown)
+    held = re.findall(r'name="held" value="(\w+)"', shown)[0]
+    page.form("/office/many/do", {"held": held}, page="/office/many")
+    check("and removes those who are ticked", set(PEOPLE) - people_of(stand) == {"P06", "P11"}, people_of(stand))
+    stand.office("home P07 A-106")
+    check("who has a room again is not offered", page.get("/office/left")[1].get("location") == "/office/")
+
+
+def try_second_round(stand, page):
+    """P02 and P12 have no room; A-102, A-104 and A-107 are free, and A-110 is out of use."""
+    check("the overview leads to a second round", 'href="/office/second"' in page.get("/office/")[2])
+    shown = seen_at(page, "/office/second")
+    for text in ("2 people have no room, and 3 rooms are free", "Somebody with a room who hands in no list keeps it",
+                 "Open the next round"):
+        check(f"the page says: {text}", text in shown, shown)
+    listed = page.get("/office/export/without-room.csv")[2]
+    check("the list of the people without a room", listed == "person,name,home\nP02,Person P02,\nP12,Person P12,\n", listed)
+    before = homes(stand)
+    stand.office("open")
+    check("one of them hands in", hand_in(stand, key_of("P12"), ["A-101", "A-104"]) == 200)
+    shown = seen_at(page, "/office/second")
+    check("the page counts them", "1 of 2 people without a room has a list on record" in shown, shown)
+    check("the overview leads on", 'href="/office/second"' in page.get("/office/")[2])
+    shown = page.form("/office/many", page="/office/second")[2]
+    tenants = {"P01", "P03", "P04", "P05", "P07", "P08", "P09", "P10"}
+    check("it offers to withdraw those who have a room and no list, and asks",
+          "Withdraw them from the round: 8 people" in flat(shown)
+          and set(re.findall("<td>(P[0-9]+)</td>", shown)) == tenants and away(stand) == (set(), set()), shown)
+    finish_round(stand)
+    stand.office("settle")
+    check("a tenant without a list keeps the room, and P12 gets a free one", homes(stand) == {**before, "P12": "A-104"},
+          homes(stand))
+    check("P02, who got no room, has not left", page.get("/office/left")[1].get("location") == "/office/")
