@@ -142,9 +142,11 @@ def try_stale(stand, page, bert):
     fields = bert.form("/office/person/T008/key", page="/office/person/T008/key")[1]
     key = slips_in(bert.get(fields["location"])[2])["T008"]
     before = marks(stand)
-    yes(page, shown, held)
+    led = yes(page, shown, held)[1]["location"]
     check("a slip that another clerk has made since stays good", marks(stand) == before and works(stand, key))
-    check("and the clerk reads so", "was changed after you looked" in page.get("/office/many")[2])
+    shown = page.get(led)[2]
+    check("and the clerk reads so, in a form that still names the people",
+          "was changed after you looked" in shown and ">T007\nT008</textarea>" in shown, shown[:2500])
 
 
 def try_everybody(stand, page):

@@ -49,8 +49,11 @@ def try_asked_twice(stand, page):
         check(f"with the tick {act} is done", any(person in one for one in away(stand)), away(stand))
     shown = page.form("/office/many", {"act": "going", "text": "P02"}, page="/office/many")[2]
     held = {"held": re.findall(r'name="held" value="(\w+)"', shown)[0]}
-    page.form("/office/many/do", held, page="/office/many")
+    led = page.form("/office/many/do", held, page="/office/many")[1]["location"]
     check("many people need a tick, too", "the right people" in flat(shown) and away(stand)[0] == {"P01"}, shown)
+    shown = page.get(led)[2]
+    check("without it the form still has them", "First tick the box" in flat(shown) and ">P02</textarea>" in shown
+          and re.search('value="going"\\s+required checked', shown), shown)
     page.form("/office/many/do", {**held, "sure": "yes"}, page="/office/many")
     check("and the page still has them then", away(stand)[0] == {"P01", "P02"}, away(stand))
 

@@ -93,9 +93,11 @@ def propose_keys(idents: list[str]) -> NoReturn:
 
 
 @app.get("/office/many/<name>")
-def many_proposed(name: str) -> str:
-    """The form for new keys."""
+def many_held(name: str) -> str:
+    """The form with identifiers that the page holds: they are proposed for new keys, or wait for a yes and are sent again."""
     office, found = office_now(), memory.held(clerk(), name)
+    if isinstance(found, Many):
+        return show_many(office, acts_for(office), "\n".join(found.idents), [], act=found.act)
     if not isinstance(found, Proposed):
         go_to("/office/many")
     return show_many(office, {KEYS: _(ACTS[KEYS][1])}, "\n".join(found.idents), [])
@@ -146,26 +148,31 @@ def do_many() -> None:
         tell("bad", _("The page no longer holds these identifiers. Nothing was changed: send them again."))
         go_to("/office/many")
     if job.act in AWAY:
-        must_be_sure("/office/many")
+        must_be_sure(f"/office/many/{name}")
     memory.let_go(clerk(), name)
     if job.act == KEYS:
         make_keys(job)
     came = carry_out(job.bundle) if job.bundle.lines else Came(len(job.idents), "")
     if came.fault:
         tell("bad", ended_after(came, len(job.idents)))
-    else:
-        tell("good", ngettext("Done for one person.", "Done for {count} people.", len(job.idents)))
+        go_to("/office/register" if came.people else sent_again(job))
+    tell("good", ngettext("Done for one person.", "Done for {count} people.", len(job.idents)))
     go_to("/office/register")
 
 
+def sent_again(job: Many) -> str:
+    """The address of the form with the same people."""
+    return f"/office/many/{memory.hold(clerk(), job)}"
+
+
 def make_keys(job: Many) -> None:
-    """Makes all the new keys in one step, and leads to their slips."""
+    """Makes all the new keys in one step, and leads to their slips, or to the form with the same people if none were made."""
     office, keys = office_now(), {ident: secrets.token_hex(16) for ident in job.idents}
     try:
         ask("keys", keys=keys, seen=field("seen"), saw=job.bundle.saw)
     except KeeperFault as fault:
         tell("bad", _("This could not be done. {fault}", fault=plain.begun(str(fault))))
-        go_to("/office/many")
+        go_to(sent_again(job))
     show_once([(ident, office.people[ident].name, key) for ident, key in keys.items()], "/office/register")
 
 
