@@ -169,9 +169,12 @@ class Accounts:
             raise Fault(_("the office was changed, but not the list of accounts. Bring this list in again, without those who "
                           "have left.")) from fault
 
-    def about(self, person: str) -> dict[str, Any]:
-        """The account of a person, if the list has one."""
-        return {"account": next((account for account, one in self.kept().people.items() if one == person), "")}
+    def about(self, person: str) -> dict[str, str]:
+        """The account of a person, if the list has one, or why that cannot be read."""
+        try:
+            return {"own": next((account for account, one in self.kept().people.items() if one == person), ""), "fault": ""}
+        except Fault as fault:
+            return {"own": "", "fault": str(fault)}
 
     def person_of(self, account: str) -> str:
         """Whose account this is, or nobody. The name counts sign by sign: one that differs only by capitals is another."""

@@ -47,14 +47,16 @@ def lists_text(rows: dict[str, Any]) -> str:
 
 
 def about_text(kept: dict[str, Any]) -> str:
-    """All that is kept of a person besides what is on record: moves, imported lists, copies, mail, account and journal."""
-    mail = kept["mail"]
+    """All that is kept of a person besides what is on record: moves, imported lists, copies, mail, language, account and
+    journal."""
+    mail, language, account = kept["mail"], kept["language"]["own"], kept["account"]["own"]
     lines = [f"move {number} {old or 'none'} {new or 'none'}" for number, old, new in kept["moves"]]
     lines += [f"list {label} {kind} {','.join(fields)}" for label, kind, fields in kept["lists"]]
     lines += [f"copy {name} until {until}" for name, until in kept["copies"]]
     lines += [f"mail address {mail['address']}"] if mail["address"] else []
     lines += [f"mail {at} {kind} of round {number}, {state}" for kind, number, state, at in mail["sent"]]
-    lines += [f"account {kept['account']}"] if kept["account"] else []
+    lines += [f"language {language}"] if language else []
+    lines += [f"account {account}"] if account else []
     lines += [f"journal {entry.get('at')} {entry.get('who', '')}: {entry.get('note', entry.get('line', ''))}"
               for entry in kept["journal"]]
     return "".join(f"{on_one_line(line)}\n" for line in lines)

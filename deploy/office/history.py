@@ -7,6 +7,7 @@ import datetime
 from typing import NamedTuple
 
 import times
+from branches import WENT_BACK
 from lines import on_one_line
 from seeds import DRAWN, STRUCK, Entry, lines_of, merged, noted_in, round_of_now
 
@@ -72,8 +73,8 @@ class Years:
         elif step == "cancel":
             drawn = "its order was drawn" if self.draws.get(number) else "no order was drawn"
             self.say(place, entry, f"round {number} was given up{AFTER.get(self.state.step, '')}: {drawn}")
-        elif step == "back":
-            self.go_back(place, entry, rest)
+        elif found := WENT_BACK.match(line):
+            self.go_back(place, entry, found[1])
             return
         if step in AFTER or step in OVER[1:]:
             self.ended |= {number} if step in OVER else set()

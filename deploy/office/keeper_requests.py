@@ -138,7 +138,7 @@ class Requests:
         """All that is kept of a person."""
         person = text(job, "person")
         return {**about(self.office, person), "mail": self.post.about(person),
-                "language": self.office.languages.about(person), **self.accounts.about(person)}
+                "language": self.office.languages.about(person), "account": self.accounts.about(person)}
 
     def try_out(self, job: Job) -> Job:
         """Questions, and what lines would do."""

@@ -164,7 +164,7 @@ def give(stand, person):
 def has(stand, person):
     """Whether anything is kept under an identifier: an address, a language, an account."""
     kept = stand.ask(ask="about", person=person)
-    return bool(kept["mail"]["address"]), bool(kept["language"]["own"]), bool(kept["account"])
+    return bool(kept["mail"]["address"]), bool(kept["language"]["own"]), bool(kept["account"]["own"])
 
 
 def people(stand):

@@ -291,11 +291,14 @@ def try_removal_question(stand, page):
     shown = page.get("/office/person/T11/remove")[2]
     check("of somebody who has no address it names none", "no copy has it" in shown and "the mail address" not in shown, shown)
     shown = page.form("/office/many", {"act": "remove", "text": "T06 T07"}, page="/office/many")[2]
-    check("and the question about many says what goes", "mail addresses, languages and accounts" in shown, shown)
+    check("and the question about many says what goes", "messages were sent, languages and accounts" in shown, shown)
     kept = (stand.data / "accounts").read_bytes()
     (stand.data / "accounts").write_bytes(b"none")
     shown = page.get(place)[2]
     check("a file that is damaged keeps nobody from asking", said in shown and "Yes: remove this person" in shown, shown)
+    shown, told = page.get("/office/about/T04")[2], stand.command("about", "T04")
+    check("nor from reading the rest", "an account of the college is not known: the file" in shown and mail_of("T04") in shown
+          and "\nlanguage de\n" in told[1] and "is damaged" in told[2], (shown, told))
     (stand.data / "accounts").write_bytes(kept)
 
 
@@ -347,12 +350,12 @@ def try_strangers(stand, page):
 def try_damaged(stand, page):
     """The file of the mail is damaged: the office goes on."""
     stand.ask(ask="set-accounts", rule="list", list="person,account\nT11,tim\n")
-    check("one person has an account", stand.ask(ask="accounts")["count"] == 1)
     stand.stop_keeper()
     (stand.data / "mail.db").write_bytes(b"this is no database" * 500)
     stand.start()
     check("a damaged file of the mail is named", "is damaged" in page.get(FORM)[2])
     check("the office goes on", page.get("/office/")[0] == 200 and "ok" in stand.office("room A-9"))
+    check("its steps can be asked for", "mails wait to be sent is not known" in page.get("/office/step/open")[2])
     check("and so do the pages of people", page.get("/office/person/T11")[0] == 200
           and "is damaged" in page.get("/office/about/T11")[2])
     status, printed, said = stand.command("do", "remove", "T11")

@@ -31,7 +31,7 @@ class Kept(NamedTuple):
     entries: list[Any]
     mail: dict[str, Any]
     language: dict[str, Any]
-    account: str
+    account: dict[str, str]
 
     @property
     def labels(self) -> list[str]:
@@ -97,7 +97,8 @@ def question_of(office: Office, ident: str, kept: Kept) -> Question:
         says.append(_("At once the lists that name the person are blanked: {lists}. This deletes what they say of everybody; the "
                       "register stays as it is. Their labels stay taken.", lists=", ".join(kept.labels)))
     says += erased({"mail": kept.mail, "language": kept.language, "account": kept.account})
-    says += [said_of_copies(len(kept.copies)), _("The moves and the journal stay. They have the identifier, and no name.")]
+    says += [said_of_copies(len(kept.copies)),
+             _("The moves and the journal stay. They have the identifier, and no name but one that a clerk has noted.")]
     return Question(_("Forget {person}?", person=who), says, _("Yes: forget this person"), place, saw=office.saw("all", ident).mark)
 
 

@@ -214,8 +214,8 @@ def ask_begin() -> str:
     state = ask("mail")["kinds"][RECEIPT]
     says = [_("Whoever has a mail address gets a message some minutes after their list on record has changed, by themselves or by "
               "you. Several changes in a row make one message. It names no room. This goes on in later rounds, until you end it."),
-            _("Lists that are on record already bring no message. If the office goes back to a copy, everybody gets one whose list "
-              "is another one then."),
+            _("Lists that are on record already bring no message. If the office goes back to a copy of the same round, everybody "
+              "gets one whose list is another one then."),
             " ".join(subjects(state)), *who_else({**state, "sent": []})]
     return put_question(office_now(), Question(_("Send receipts of lists?"), list(filter(None, says)), _("Yes: send receipts"),
                                                RECEIPTS, saw=state["mark"]))

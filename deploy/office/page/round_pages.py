@@ -7,6 +7,7 @@ import coming_back
 import explaining
 import plain
 from app import app, ask, attempt, change, go_to, office_now, show, tell
+from keeper_client import KeeperFault
 from office_view import Office
 from questions import Question, away_facts, put_question
 
@@ -104,7 +105,10 @@ def warnings(office: Office, step: str) -> list[str]:
 
 def mails_that_wait(office: Office) -> list[str]:
     """What a clerk has to know of mails that cannot be sent any more once the round goes on."""
-    run = ask("mail")["run"] if office.view.get("mail") else None
+    try:
+        run = ask("mail")["run"] if office.view.get("mail") else None
+    except KeeperFault as fault:
+        return [_("Whether mails wait to be sent is not known: {why}", why=fault)]
     if not run or run["state"] == "ended" or not run["waiting"] or KINDS[run["kind"]].phase != office.phase:
         return []
     return [ngettext("{count} mail is not sent yet ({title}). After this step it cannot be sent any more: see page Mail first.",
