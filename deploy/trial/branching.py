@@ -16,6 +16,7 @@ sys.path.append(str(OFFICE))
 
 # pylint: disable=wrong-import-position,wrong-import-order  # they are in the folder of the line above
 from branches import Branches, named_in
+from history import history
 from journal import NOT_KNOWN
 
 
@@ -151,6 +152,19 @@ def partly():
     told.has("an entry without a time is none", f"{ahead}-03", ahead, "Y")
 
 
+def record():
+    """What the public record says of a round that was given up after a way back, with four copies in one second."""
+    steps, keys = ("open", "close", "draw 3a", "run"), ", with the newer keys"
+    for number, phase in enumerate(("while it was open", "after it was closed", "after the order was drawn"), 1):
+        told, names = Told(), [name(0, end) for end in ("", "-02", "-03", "-04")]
+        for step, copy in zip(steps, names):
+            told.change(0, step, copy)
+        told.change(1, f"back {names[number]}{keys}", name(1)).change(2, "cancel", name(2))
+        said = history(told.entries, True, 1, [])
+        check(f"of four steps in one second the record says that the round was given up {phase}",
+              any(f"given up {phase}: " in one for one in said), said)
+
+
 class Chance:
     """An office that does this and that by chance, and knows who everybody is: each person who is added is another one."""
 
@@ -223,6 +237,7 @@ def try_branching():
     not_made()
     lines()
     partly()
+    record()
     by_chance()
 
 
