@@ -46,7 +46,7 @@ class Change:  # pylint: disable=too-many-instance-attributes  # what is asked f
     why: str = ""
     damaged: bool = False                       # even if the office is damaged
     register: Register | None = None            # learns who comes into the register and who leaves, before they do
-    before_put: Callable[[], None] | None = None  # done once the copy is the office to be, before it takes the office's place
+    before_put: Callable[[], None] | None = None  # done just before the copy takes the office's place, when nothing is in the way
     lines: list[str] = field(default_factory=list)  # that it carries out one after the other
     come: set[str] = field(default_factory=set)  # who comes into the register by it, if it is not whole; some may be there
     gone: set[str] = field(default_factory=set)  # who is out of the register after it, if it is not whole
@@ -261,9 +261,7 @@ class Worker:  # pylint: disable=too-many-instance-attributes  # the parts of th
             if change.register:
                 after = identifiers_in(copy)
                 change.register(after - before, before - after)
-            if change.before_put:
-                change.before_put()
-            self.place.put(copy, held)
+            self.place.put(copy, held, change.before_put)
             return answers
 
     @staticmethod

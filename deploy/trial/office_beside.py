@@ -247,6 +247,20 @@ def try_in_part(stand, between):
           and not any(has(stand, "Q5")), (reply, has(stand, "Q5")))
 
 
+def try_in_the_way(stand):
+    """The office cannot go back to a copy that has somebody else under an identifier, since a program reads its file."""
+    copy = stand.ask(ask="backup")["name"]
+    stand.ask(ask="do", lines=["remove P1", f"person P1 {key_of('newp1')} Paula New"], again=["P1"])
+    give(stand, "P1")
+    check("the copy has another P1", stand.ask(ask="compare", name=copy)["gone"] == ["P1"])
+    with open(stand.file, "rb"):
+        answer = stand.ask(ask="back", name=copy).get("fault", "")
+    check("while a program reads the office's file, there is no way back", "Nothing was changed" in answer, answer)
+    check("and nothing was changed: P1 has everything", all(has(stand, "P1")), has(stand, "P1"))
+    check("once it has ended, there is one", "fault" not in stand.ask(ask="back", name=copy))
+    check("and the other P1 gets nothing", not any(has(stand, "P1")), has(stand, "P1"))
+
+
 def try_office_beside(program):
     """All of it."""
     with Stand(program) as stand:
@@ -259,6 +273,7 @@ def try_office_beside(program):
         try_killed(stand, between)
         try_identifiers(stand)
         try_in_part(stand, between)
+        try_in_the_way(stand)
 
 
 if __name__ == "__main__":
