@@ -235,7 +235,7 @@ class Post:  # pylint: disable=too-many-instance-attributes  # the parts of the 
     def send(self, job: Job) -> Job:
         """Begins to send a message to all who have not got it, with the texts that the clerk saw."""
         must_read(self.path)
-        kind, link, rows = kind_in(job), link_in(job), self.worker.view.rows()
+        kind, link, rows = kind_in(job), link_in(job), self.worker.rows()
         if why := why_stale(rows, job["seen"], None):
             raise Fault(why)
         with self.lock:

@@ -16,13 +16,14 @@ from dataclasses import dataclass, field
 from pathlib import Path
 from typing import Any
 
+from backups import BACK
 from copies import make_whole
 from journal import spoken_of
 from languages import _, in_english, speaking, spoken
 from office import Office
 from program import Answer, Unanswered, is_refused
 from rows import View, identifiers_in
-from seen import Saw, why_stale
+from seen import Rows, Saw, why_stale
 from settings import Fault
 
 FIRST_PAUSE, LONGEST_PAUSE = 0.2, 5.0  # seconds before a server is started again that has ended by itself
@@ -109,6 +110,7 @@ class Worker:  # pylint: disable=too-many-instance-attributes  # the parts of th
         self.ends, self.ended_at = 0, 0.0    # how many have done so since the keeper began, and when the last one did
         self.due: float | None = None        # when the server is to be started again
         self.pause, self.over = FIRST_PAUSE, False
+        self.back = office.backups.before_back()  # by its name the last way back is known
 
     # --- asked by other threads
 
@@ -125,6 +127,10 @@ class Worker:  # pylint: disable=too-many-instance-attributes  # the parts of th
         if change.fault:
             raise Fault(change.fault)
         return change
+
+    def rows(self, still: bool = False) -> Rows:
+        """The rows of the office as it is now, with the last way back."""
+        return {**self.view.rows(still), "back": self.back}
 
     def ended(self) -> dict[str, Any] | None:
         """How many servers have ended by themselves, when the last one did, how many seconds ago, and with what status."""
@@ -209,10 +215,11 @@ class Worker:  # pylint: disable=too-many-instance-attributes  # the parts of th
         with contextlib.ExitStack() as holding:
             held = holding.enter_context(self.place.held())
             saw_something = change.seen is not None or change.saw is not None
-            if saw_something and (why := why_stale(self.view.rows(still=True), change.seen, change.saw)):
+            if saw_something and (why := why_stale(self.rows(still=True), change.seen, change.saw)):
                 raise Fault(why)
             if change.kind:
                 change.copy = self.backups.keep(change.kind, change.why, still=True, damaged=change.damaged)
+                self.back = change.copy if change.kind == BACK else self.back
             number = self.journal.begin(change.who, change.line, change.copy)
             try:
                 if change.whole:
