@@ -10,7 +10,7 @@
 | mail-run | act: pause, go-on or give-up | nothing |
 | mail-receipts | act: on, off or go-on; mark, link, seen | nothing |
 | mail-again | kind, turn, only: `uncertain`, or nothing | nothing: who has got this message can get it once more |
-| mail-addresses | addresses: by person; was: of one person, as the sender saw it | changed: of how many |
+| mail-addresses | addresses: by person; was: of one person, or of each, as the sender saw it | changed: of how many |
 | mail-list | | addresses: by person |
 
 Without settings (mail_settings.py) all of these but `mail-addresses` and `mail-list` are refused. One run sends at a time, one
@@ -24,7 +24,7 @@ import threading
 from collections.abc import Callable
 
 import mail_book
-from job import Job
+from job import Job, is_other
 from languages import _, languages, ngettext, speaking
 from mail_book import ENDED, PAUSED, RUNNING, Book, Run
 from mail_people import values_of
@@ -143,16 +143,17 @@ class Post:  # pylint: disable=too-many-instance-attributes  # the parts of the 
         if not isinstance(new, dict) or not all(isinstance(one, str) and (one == "" or is_address(one)) for one in new.values()):
             raise Fault(_("one of these is no mail address. Nothing was changed."))
         known = {row[0] for row in self.worker.view.rows()["people"]}
-        old = self.book.addresses()
         if strangers := [person for person in new if person not in known and new[person]]:
             raise Fault(_("nobody has the identifier {person}. Nothing was changed.", person=repr(strangers[0][:20])))
-        if job.get("was") is not None and [old.get(person, "") for person in new] != [job["was"]]:
-            raise Fault(_("the mail address was changed after you looked. Nothing was changed by you: decide again."))
-        changed = {person: one for person, one in new.items() if old.get(person, "") != one}
-        if changed:
-            who = next(iter(changed)) if len(changed) == 1 else f"{len(changed)} people"
-            with self.journal.change(job["who"], f"mail addresses of {who}"):
-                self.book.set_addresses(changed)
+        with self.book.lock:
+            old = self.book.addresses()
+            if is_other(job.get("was"), [old.get(person, "") for person in new]):
+                raise Fault(_("the mail address was changed after you looked. Nothing was changed by you: decide again."))
+            changed = {person: one for person, one in new.items() if old.get(person, "") != one}
+            if changed:
+                who = next(iter(changed)) if len(changed) == 1 else f"{len(changed)} people"
+                with self.journal.change(job["who"], f"mail addresses of {who}"):
+                    self.book.set_addresses(changed)
         return {"changed": len(changed)}
 
     # --- reading

@@ -209,7 +209,8 @@ def try_gone_back(stand, anna, bert):
         stand.stop_keeper()
         stand.start()
     anna.post("/office/person/T05/name", {**name, "name": "Eve Ear"})
-    check("a start of the keeper alone makes no form stale", person_of(stand, "T05")[0] == "Eve Ear", anna.get("/office/")[2][:2500])
+    shown = anna.get("/office/")[2]
+    check("a start of the keeper alone makes no form stale", person_of(stand, "T05")[0] == "Eve Ear", shown[:2500])
 
 
 def seeds_shown(page):
