@@ -182,10 +182,10 @@ class Journal:
             self.late.append({"at": now(), **values})
 
     @contextlib.contextmanager
-    def change(self, who: str, line: str) -> Iterator[None]:
-        """Notes a change beside the office's file, which the block makes: before it, and how it ended. If the first cannot be
-        noted, nothing is changed."""
-        number = self.begin(who, line)
+    def change(self, who: str, line: str, copy: str | None = None) -> Iterator[None]:
+        """Notes a change that the block makes, with the copy before it: before the change, and how it ended. If the first cannot
+        be noted, nothing is changed."""
+        number = self.begin(who, line, copy)
         try:
             yield
         except Exception as fault:
