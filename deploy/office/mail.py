@@ -5,7 +5,7 @@
 | mail | | from; per_minute; with, without: who has an address; strangers; run; kinds (mail_state.py) |
 | mail-show | kind, link, person, language, subject, body | to, subject, body: the message as this person gets it, if in this |
 | | | language; gets: in which one they get it; faults: of the text |
-| mail-text | kind, language, subject, body | nothing: the text is kept |
+| mail-text | kind, language, subject, body, saw | nothing: the text is kept |
 | mail-send | kind, mark, link, seen | to: to how many people it goes now |
 | mail-run | act: pause, go-on or give-up | nothing |
 | mail-receipts | act: on, off or go-on; mark, link, seen | nothing |
@@ -37,6 +37,7 @@ from mail_words import KINDS, RECEIPT, Text, faults_of, filled, is_address
 from office import Office
 from seen import why_stale
 from settings import Fault
+from told import mark_of
 from worker import Worker
 
 STEER_SECONDS = 10.0  # for the message that is on its way when a clerk stops the run
@@ -188,14 +189,18 @@ class Post:  # pylint: disable=too-many-instance-attributes  # the parts of the 
     # --- texts, and another turn
 
     def set_text(self, job: Job) -> Job:
-        """Keeps the text of a kind of message in a language."""
+        """Keeps the text of a kind of message in a language, if the text of before is as the sender saw it."""
         must_read(self.path)
         kind, language, text = kind_in(job), language_in(job), text_in(job)
         if faults := faults_of(kind, text):
             raise Fault(" ".join(faults))
-        if self.book.texts(kind).get(language) != text:
-            with self.journal.change(job["who"], f"mail text of {KINDS[kind].name} in {language}"):
-                self.book.set_text(kind, language, text)
+        with self.book.lock:
+            if job.get("saw") is not None and job["saw"] != mark_of(self.state.texts(kind).each.get(language)):
+                raise Fault(_("Another clerk has changed this text after you looked. Open this page in another window to read "
+                              "theirs, and enter there what you want to keep."))
+            if self.book.texts(kind).get(language) != text:
+                with self.journal.change(job["who"], f"mail text of {KINDS[kind].name} in {language}"):
+                    self.book.set_text(kind, language, text)
         return {}
 
     def again(self, job: Job) -> Job:

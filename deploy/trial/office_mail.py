@@ -193,6 +193,16 @@ def try_texts(stand, page):
     shown = page.get(fields["location"])[2]
     parts = (f"Dear {NAME} (T02), room none, round 1:\nhttps://{HOST}/", f"Räume für {NAME}", mail_of("T02"))
     check("which is shown as that person gets it", all(one in shown for one in parts), shown)
+    old = page.hidden(place, place)
+    stand.ask(ask="mail-text", who="bert", kind="invitation", language="en", subject="By Bert", body="x\n")
+    for person in ("T99", "T02"):
+        shown = page.post(place, {**old, "language": "en", "subject": "By Anna", "body": "y", "person": person})[2]
+    kept = kind_of(stand, "invitation")["texts"]["en"]
+    check("a text that another clerk has written meanwhile stays", kept == ["By Bert", "x\n"], kept)
+    check("the page says so, and still has the other one", "Another clerk has changed this text" in shown and "By Anna" in shown,
+          shown)
+    page.form(place, {**text, "person": "T02"}, page=place)
+    check("after another look it is kept", kind_of(stand, "invitation")["texts"]["en"][0] == text["subject"])
     for subject in ("a\r\nBcc: eve@college.example", "a\nb", "a\0b", ""):
         answer = stand.ask(ask="mail-text", kind="invitation", language="en", subject=subject, body="x")
         check(f"the keeper takes no subject {subject!r}", "fault" in answer, answer)
