@@ -26,7 +26,7 @@ from placing import beside, to_disk
 from settings import Fault, Settings, unwritten
 
 NAME = re.compile(r"[0-9]{8}T[0-9]{6}Z(-[0-9]{2})?")
-ASKED_FOR, BACK = "backup", "back"
+ASKED_FOR, BACK, RESTORE = "backup", "back", "restore"
 # What versions up to 3.1.0 wrote into the reason of a copy: the list that somebody handed in.
 WISHES = re.compile(r"\b(choose [^ ,;]+)(?: [^ ,;(]+)+")
 DAYS = "days"
@@ -104,6 +104,10 @@ class Backups:
         if not self.folder.exists():
             return []
         return sorted(one.name for one in self.folder.iterdir() if NAME.fullmatch(one.name) and one.is_dir())
+
+    def before_back(self) -> str:
+        """The newest copy that was made before the office went back to another one; nothing if there is none."""
+        return next((name for name in reversed(self.names()) if self.entry(name)["kind"] in (BACK, RESTORE)), "")
 
     def age(self) -> float | None:
         """How old the newest copy that was asked for is, in seconds; below zero if its time is to come."""

@@ -123,6 +123,16 @@ def bring_journal(goal: Goal, owner: Owner, copy: str) -> str:
     return f"{said}\nthe journal says that the office went back to the copy {copy}"
 
 
+def keep_pictures(folder: Path, brought: set[str], owner: Owner) -> None:
+    """Gives the pictures that are not brought a second name, as their texts get one: the keeper deletes those that no room has."""
+    with owner():
+        others = [one for one in folder.iterdir() if told.PICTURE.fullmatch(one.name) and one.name not in brought]
+        for one in others:
+            old = aside(one)
+            os.link(one, old, follow_symlinks=False)
+            print(f"the backup does not have the picture {one}, which is kept: {old}", flush=True)
+
+
 def date_in(until: Path) -> str:
     """The date until which lists are taken, as the keeper's file has it; nothing if there is none."""
     with contextlib.suppress(OSError, ValueError, KeyError, TypeError):
@@ -182,6 +192,10 @@ class Rest:
             folder.chmod(0o755)
             shutil.chown(folder, account, pwd.getpwnam(account).pw_gid)
         texts = [goal for goal in goals if goal.target.name == told.FILE]
+        with owner():
+            differs = any(os.path.lexists(goal.target) and not is_same(goal) for goal in texts)
+        if differs:
+            keep_pictures(folder, {goal.target.name for goal in goals}, owner)
         for goal in goals:
             said = bring(goal, owner)
             if goal in texts:

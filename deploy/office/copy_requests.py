@@ -64,7 +64,7 @@ class CopyRequests:
     def compare(self, job: Job) -> Job:
         """What becomes of people, if the office goes back to a kept copy."""
         name, now = text(job, "name"), self.worker.view.rows()
-        branches = Branches(self.journal.entries())
+        branches = Branches(self.journal.entries(whole=True))
         with self.backups.taken_out(name) as copy:
             found = Parting(self.office, branches, name).compared(rows_of(copy), now)
         forgotten = named_in(branches.entries, "forget")

@@ -184,7 +184,7 @@ class Dates:
         if not isinstance(written, str) or not isinstance(closes, bool):
             raise Fault(_("not understood: at is no text, or closes is not true or false"))
         with self.lock:
-            rows = self.worker.view.rows()
+            rows = self.worker.rows()
             if job.get("seen") is not None and (why := why_stale(rows, job["seen"], None)):
                 raise Fault(why)
             if job.get("saw") is not None and job["saw"] != mark_of(self.until):

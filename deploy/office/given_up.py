@@ -65,7 +65,7 @@ def given_up(office: Office, view: View, name: str | None) -> dict[str, Any]:
         raise Fault(_("no round was given up after this copy was made, or the copy is gone"))
     with office.backups.taken_out(name) as copy:
         rows = rows_of(copy)
-    parting = Parting(office, Branches(office.journal.entries()), name)
+    parting = Parting(office, Branches(office.journal.entries(whole=True)), name)
     # A list that came back before a room was reopened lacks it.
     return {**had_in(rows), "others": sorted(parting.others_in(rows, view.rows())),
             "reopened": sorted(named_in(parting.fork.before_other, "reopen"))}

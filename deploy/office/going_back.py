@@ -47,7 +47,7 @@ class GoingBack:
 
     def compared(self, now: Rows | None) -> dict[str, Any]:
         """What becomes of people. Of a damaged office, all that is known is who may be somebody else."""
-        parting = Parting(self.office, Branches(self.office.journal.entries()), self.name)
+        parting = Parting(self.office, Branches(self.office.journal.entries(whole=True)), self.name)
         if now:
             return parting.compared(self.then, now)
         everybody = people_in(self.then)

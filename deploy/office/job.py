@@ -33,6 +33,11 @@ def saw_in(job: Job) -> Saw | None:
     return Saw(part, people, mark)
 
 
+def is_other(was: Any, now: list[str]) -> bool:
+    """Whether the sender says what something was, of one person or of each, and it is something else by now."""
+    return was is not None and now != (was if isinstance(was, list) else [was])
+
+
 def lines_of(job: Job) -> list[str]:
     """The lines of a request."""
     lines = job["lines"]

@@ -182,10 +182,10 @@ class Journal:
             self.late.append({"at": now(), **values})
 
     @contextlib.contextmanager
-    def change(self, who: str, line: str) -> Iterator[None]:
-        """Notes a change beside the office's file, which the block makes: before it, and how it ended. If the first cannot be
-        noted, nothing is changed."""
-        number = self.begin(who, line)
+    def change(self, who: str, line: str, copy: str | None = None) -> Iterator[None]:
+        """Notes a change that the block makes, with the copy before it: before the change, and how it ended. If the first cannot
+        be noted, nothing is changed."""
+        number = self.begin(who, line, copy)
         try:
             yield
         except Exception as fault:
@@ -193,14 +193,14 @@ class Journal:
             raise
         self.end(number, "ok", 0, 0)
 
-    def entries(self) -> Iterator[dict[str, Any]]:
-        """The entries at the end of the journal, and the ends that could not be written down yet. An entry that is cut off is
-        skipped."""
+    def entries(self, whole: bool = False) -> Iterator[dict[str, Any]]:
+        """The entries at the end of the journal, or of all of it, and the ends that could not be written down yet. An entry that is
+        cut off is skipped."""
         with self.lock:
             late = list(self.late)
         try:
             with open(self.path, "rb") as held:
-                held.seek(max(0, os.fstat(held.fileno()).st_size - TAIL))
+                held.seek(0 if whole else max(0, os.fstat(held.fileno()).st_size - TAIL))
                 text = held.read().decode("utf-8", "replace")
         except FileNotFoundError:
             return

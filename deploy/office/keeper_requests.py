@@ -127,7 +127,7 @@ class Requests:
 
     def view(self, _job: Job) -> Job:
         """The office as it is now."""
-        rows = self.worker.view.rows()
+        rows = self.worker.rows()
         again = Branches(self.journal.entries()).removed_since_settled() if rows["left"] else set()
         return {**rows, "left": [row for row in rows["left"] if row[0] not in again],
                 "server": self.worker.server is not None, "status": self.worker.status,

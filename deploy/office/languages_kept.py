@@ -7,7 +7,7 @@ whom no language is set is written to in that of the office.
 |---|---|---|
 | language | language, to choose it | language: of the clerk who asks, or none |
 | languages | | office: of residents without one; residents: the others, by person |
-| set-languages | languages: by person; was: of one person, as the sender saw it; or office: of all others | changed: of how many |
+| set-languages | languages: by person; was: of one or of each, as the sender saw it; or office: of all others | changed: how many |
 """
 
 import json
@@ -16,7 +16,7 @@ from collections.abc import Callable, Iterable
 from pathlib import Path
 from typing import Any, NamedTuple
 
-from job import Job
+from job import Job, is_other
 from journal import Journal
 from languages import ENGLISH, _, languages
 from placing import beside, to_disk
@@ -174,7 +174,7 @@ class LanguageRequests:
         known, old = {row[0] for row in self.view.rows()["people"]}, self.kept.kept().residents
         if strangers := [person for person, code in codes.items() if code and person not in known]:
             raise Fault(_("nobody has the identifier '{person}'. Nothing was changed.", person=strangers[0][:20]))
-        if job.get("was") is not None and [old.get(person, "") for person in codes] != [job["was"]]:
+        if is_other(job.get("was"), [old.get(person, "") for person in codes]):
             raise Fault(_("the language was changed after you looked. Nothing was changed by you: decide again."))
         changed = [person for person, code in codes.items() if old.get(person, "") != code]
         if not changed:

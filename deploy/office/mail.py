@@ -5,12 +5,12 @@
 | mail | | from; per_minute; with, without: who has an address; strangers; run; kinds (mail_state.py) |
 | mail-show | kind, link, person, language, subject, body | to, subject, body: the message as this person gets it, if in this |
 | | | language; gets: in which one they get it; faults: of the text |
-| mail-text | kind, language, subject, body | nothing: the text is kept |
+| mail-text | kind, language, subject, body, saw | nothing: the text is kept |
 | mail-send | kind, mark, link, seen | to: to how many people it goes now |
 | mail-run | act: pause, go-on or give-up | nothing |
 | mail-receipts | act: on, off or go-on; mark, link, seen | nothing |
 | mail-again | kind, turn, only: `uncertain`, or nothing | nothing: who has got this message can get it once more |
-| mail-addresses | addresses: by person; was: of one person, as the sender saw it | changed: of how many |
+| mail-addresses | addresses: by person; was: of one person, or of each, as the sender saw it | changed: of how many |
 | mail-list | | addresses: by person |
 
 Without settings (mail_settings.py) all of these but `mail-addresses` and `mail-list` are refused. One run sends at a time, one
@@ -24,7 +24,7 @@ import threading
 from collections.abc import Callable
 
 import mail_book
-from job import Job
+from job import Job, is_other
 from languages import _, languages, ngettext, speaking
 from mail_book import ENDED, PAUSED, RUNNING, Book, Run
 from mail_people import values_of
@@ -37,6 +37,7 @@ from mail_words import KINDS, RECEIPT, Text, faults_of, filled, is_address
 from office import Office
 from seen import why_stale
 from settings import Fault
+from told import mark_of
 from worker import Worker
 
 STEER_SECONDS = 10.0  # for the message that is on its way when a clerk stops the run
@@ -143,16 +144,17 @@ class Post:  # pylint: disable=too-many-instance-attributes  # the parts of the 
         if not isinstance(new, dict) or not all(isinstance(one, str) and (one == "" or is_address(one)) for one in new.values()):
             raise Fault(_("one of these is no mail address. Nothing was changed."))
         known = {row[0] for row in self.worker.view.rows()["people"]}
-        old = self.book.addresses()
         if strangers := [person for person in new if person not in known and new[person]]:
             raise Fault(_("nobody has the identifier {person}. Nothing was changed.", person=repr(strangers[0][:20])))
-        if job.get("was") is not None and [old.get(person, "") for person in new] != [job["was"]]:
-            raise Fault(_("the mail address was changed after you looked. Nothing was changed by you: decide again."))
-        changed = {person: one for person, one in new.items() if old.get(person, "") != one}
-        if changed:
-            who = next(iter(changed)) if len(changed) == 1 else f"{len(changed)} people"
-            with self.journal.change(job["who"], f"mail addresses of {who}"):
-                self.book.set_addresses(changed)
+        with self.book.lock:
+            old = self.book.addresses()
+            if is_other(job.get("was"), [old.get(person, "") for person in new]):
+                raise Fault(_("the mail address was changed after you looked. Nothing was changed by you: decide again."))
+            changed = {person: one for person, one in new.items() if old.get(person, "") != one}
+            if changed:
+                who = next(iter(changed)) if len(changed) == 1 else f"{len(changed)} people"
+                with self.journal.change(job["who"], f"mail addresses of {who}"):
+                    self.book.set_addresses(changed)
         return {"changed": len(changed)}
 
     # --- reading
@@ -187,14 +189,18 @@ class Post:  # pylint: disable=too-many-instance-attributes  # the parts of the 
     # --- texts, and another turn
 
     def set_text(self, job: Job) -> Job:
-        """Keeps the text of a kind of message in a language."""
+        """Keeps the text of a kind of message in a language, if the text of before is as the sender saw it."""
         must_read(self.path)
         kind, language, text = kind_in(job), language_in(job), text_in(job)
         if faults := faults_of(kind, text):
             raise Fault(" ".join(faults))
-        if self.book.texts(kind).get(language) != text:
-            with self.journal.change(job["who"], f"mail text of {KINDS[kind].name} in {language}"):
-                self.book.set_text(kind, language, text)
+        with self.book.lock:
+            if job.get("saw") is not None and job["saw"] != mark_of(self.state.texts(kind).each.get(language)):
+                raise Fault(_("Another clerk has changed this text after you looked. Open this page in another window to read "
+                              "theirs, and enter there what you want to keep."))
+            if self.book.texts(kind).get(language) != text:
+                with self.journal.change(job["who"], f"mail text of {KINDS[kind].name} in {language}"):
+                    self.book.set_text(kind, language, text)
         return {}
 
     def again(self, job: Job) -> Job:
@@ -235,7 +241,7 @@ class Post:  # pylint: disable=too-many-instance-attributes  # the parts of the 
     def send(self, job: Job) -> Job:
         """Begins to send a message to all who have not got it, with the texts that the clerk saw."""
         must_read(self.path)
-        kind, link, rows = kind_in(job), link_in(job), self.worker.view.rows()
+        kind, link, rows = kind_in(job), link_in(job), self.worker.rows()
         if why := why_stale(rows, job["seen"], None):
             raise Fault(why)
         with self.lock:

@@ -34,6 +34,8 @@ CREATE TABLE IF NOT EXISTS message(kind TEXT, round INTEGER, turn INTEGER, perso
   why TEXT NOT NULL, PRIMARY KEY(kind, round, turn, person));
 CREATE TABLE IF NOT EXISTS told(kind TEXT, round INTEGER, turn INTEGER, person TEXT, mark TEXT NOT NULL,
   PRIMARY KEY(kind, round, turn, person));
+CREATE TABLE IF NOT EXISTS earlier(kind TEXT, round INTEGER, turn INTEGER, person TEXT, state TEXT NOT NULL, at TEXT NOT NULL,
+  why TEXT NOT NULL, mark TEXT, PRIMARY KEY(kind, round, turn, person));
 CREATE TABLE IF NOT EXISTS run(one INTEGER PRIMARY KEY, kind TEXT NOT NULL, round INTEGER NOT NULL, turn INTEGER NOT NULL,
   subject TEXT NOT NULL, body TEXT NOT NULL, link TEXT NOT NULL, who TEXT NOT NULL, state TEXT NOT NULL, why TEXT NOT NULL,
   at TEXT NOT NULL);
@@ -42,7 +44,8 @@ CREATE TABLE IF NOT EXISTS receipt(person TEXT PRIMARY KEY, now TEXT NOT NULL, a
 """
 # The table `text` has what clerks wrote before there were languages, and `words` what they write in each. `run` has the text of
 # everybody who has no other one in `run_words`. `told` has a mark of what a message told its person that may change, in the
-# place of the rooms.
+# place of the rooms. `earlier` has messages that those of the run are to replace, with their marks: who does not get another one
+# after all has the earlier one still.
 
 # The messages of the run, which is the only one.
 OF_RUN = "(kind, round, turn) = (SELECT kind, round, turn FROM run)"
@@ -121,13 +124,14 @@ class Book:  # pylint: disable=too-many-public-methods  # one for each thing tha
 
     def people(self) -> set[str]:
         """Who has an address, or was sent something."""
-        return {person for person, in self.rows("SELECT person FROM address UNION SELECT person FROM message")}
+        return {person for person, in self.rows("SELECT person FROM address UNION SELECT person FROM message "
+                                               "UNION SELECT person FROM earlier")}
 
     def erase(self, people: Iterable[str]) -> None:
         """Erases all that the file has of people."""
         if self.path.exists():
             with self.opened() as database:
-                for table in ("address", "message", "told", "receipt"):
+                for table in ("address", "message", "told", "earlier", "receipt"):
                     database.executemany(f"DELETE FROM {table} WHERE person = ?", [(person,) for person in people])
 
     def has(self, person: str) -> dict[str, Any]:
@@ -209,6 +213,7 @@ class Book:  # pylint: disable=too-many-public-methods  # one for each thing tha
             database.execute("INSERT OR REPLACE INTO run VALUES (1, ?, ?, ?, ?, ?, ?, ?, ?, ?, ?)", run)
             database.execute("DELETE FROM run_words")
             database.executemany("INSERT INTO run_words VALUES (?, ?, ?)", [(one, *text) for one, text in texts.items()])
+            set_aside(database, key, people)
             database.executemany("INSERT OR REPLACE INTO message VALUES (?, ?, ?, ?, ?, ?, '')",
                                  [(*key, person, WAITING, run.at) for person in people])
             forget_old(database, run.round)
@@ -223,6 +228,7 @@ class Book:  # pylint: disable=too-many-public-methods  # one for each thing tha
             database.execute("UPDATE run SET state = ?, why = ?, at = ?", (state, why, now()))
             if state == ENDED:
                 database.execute(f"DELETE FROM message WHERE {OF_RUN} AND state = ?", (WAITING,))
+                bring_earlier(database)
 
     def waiting(self) -> str:
         """Who is the next that waits for a message of the run, or nobody."""
@@ -264,6 +270,23 @@ class Book:  # pylint: disable=too-many-public-methods  # one for each thing tha
             found = database.execute(f"SELECT person FROM message WHERE {which} AND kind = ?", (BEGUN, RECEIPT)).fetchall()
             database.execute(f"UPDATE message SET state = ?, why = ? WHERE {which}", (UNCERTAIN, ENDED_MEANWHILE, BEGUN))
             return [person for person, in found]
+
+
+def set_aside(database: sqlite3.Connection, key: tuple[str, int, int], people: list[str]) -> None:
+    """Sets the messages aside that people have got, or may have got, and that those of a run are to replace."""
+    database.execute("DELETE FROM earlier")
+    database.executemany(
+        "INSERT INTO earlier SELECT message.*, mark FROM message LEFT JOIN told USING (kind, round, turn, person) "
+        "WHERE (kind, round, turn, person) = (?, ?, ?, ?) AND state IN (?, ?)",
+        [(*key, person, SENT, UNCERTAIN) for person in people])
+
+
+def bring_earlier(database: sqlite3.Connection) -> None:
+    """Who has got no other message in the run has the earlier one."""
+    left = "FROM earlier WHERE (kind, round, turn, person) NOT IN (SELECT kind, round, turn, person FROM message)"
+    database.execute(f"INSERT OR REPLACE INTO told SELECT kind, round, turn, person, mark {left} AND mark IS NOT NULL")
+    database.execute(f"INSERT INTO message SELECT kind, round, turn, person, state, at, why {left}")
+    database.execute("DELETE FROM earlier")
 
 
 def forget_old(database: sqlite3.Connection, number: int) -> None:

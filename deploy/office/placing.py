@@ -105,15 +105,18 @@ class Place:
             self.replaced.remove(held)
             os.close(held)
 
-    def put(self, copy: Path, held: int | None) -> None:
+    def put(self, copy: Path, held: int | None, before: Callable[[], None] | None = None) -> None:
         """Makes a whole copy the office. `held` is the old file, if there is one. A kill at any point leaves the one or
-        the other, and no line by hand gets through in between."""
+        the other, and no line by hand gets through in between. `before` is done once the disk has had room for the copy and no
+        other program has the old file: so nothing but its own fault can come between it and the copy."""
         try:
             shutil.copyfile(copy, self.part)
             to_disk(self.part)
             if held is not None:
                 os.link(self.file, self.second)
                 wait_until(functools.partial(self.has_alone, held))
+            if before:
+                before()
             self.part.rename(self.next)
         except (Fault, OSError) as fault:
             for one in (self.part, self.second):

@@ -61,11 +61,15 @@ class Start(NamedTuple):
 
 
 def merged(journal: list[Entry]) -> list[Entry]:
-    """The journal with one entry for each change. The keeper writes two, before the change and after it."""
+    """The journal with one entry for each change. The keeper writes two, before the change and after it. What is left of an entry
+    that was cut off has no time: it has that of the entry before."""
     rows: dict[str, Entry] = {}
+    at = ""
     for number, entry in enumerate(journal):
-        row = rows.setdefault(str(entry.get("n", f"entry {number}")), {"at": entry["at"]})
-        row.update({name: value for name, value in entry.items() if name != "at"})
+        at = entry.get("at", at)
+        if at:
+            row = rows.setdefault(str(entry.get("n", f"entry {number}")), {"at": at})
+            row.update({name: value for name, value in entry.items() if name != "at"})
     return list(rows.values())
 
 

@@ -21,6 +21,9 @@ PARTS = {
     "key": N_("The key of {who} was changed after you looked. Nothing was changed by you: decide again."),
     "all": N_("What is on record of {who} was changed after you looked. Nothing was changed by you: decide again."),
 }
+BACK = N_("The office went back to a copy after you looked, or was about to. Nothing was changed by you: look again, and decide "
+          "again.")
+NEVER = "never"  # has the office gone back
 # How far a round is, as a refusal says it.
 STATES = {
     "idle": N_("round {number} idle"), "open": N_("round {number} open"), "closed": N_("round {number} closed"),
@@ -47,6 +50,11 @@ def stamp(rows: Rows) -> str:
     return f"round {rows['number']} {rows['phase']}"
 
 
+def state_of(rows: Rows) -> str:
+    """The same as a form carries it, with the last way back: after it a round may be as far as before, and have other lists."""
+    return f"{stamp(rows)}, back {rows.get('back') or NEVER}"
+
+
 def saw(rows: Rows, part: str, people: list[str]) -> Saw:
     """What rows say of people."""
     known, grades = {person: row for person, *row in rows["people"]}, dict(rows["grades"])
@@ -61,8 +69,11 @@ def saw(rows: Rows, part: str, people: list[str]) -> Saw:
 
 
 def why_stale(rows: Rows, seen: str | None, had: Saw | None) -> str:
-    """Why a change is not made whose sender saw the round and people in another state, or nothing."""
-    if seen is not None and seen != stamp(rows):
+    """Why a change is not made whose sender saw the round and people in another state, or nothing. Who says nothing of ways back
+    means the round alone."""
+    if seen is not None and ", back " in seen and seen.partition(", back ")[2] != (rows.get("back") or NEVER):
+        return _(BACK)
+    if seen is not None and seen.partition(", back ")[0] != stamp(rows):
         now = _(STATES[rows["phase"]], number=rows["number"])
         return _("the office has gone on: it is at {state} now. Nothing was changed. Look before you go on.", state=now)
     if had is not None and had != saw(rows, had.part, had.people):

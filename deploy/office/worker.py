@@ -16,13 +16,14 @@ from dataclasses import dataclass, field
 from pathlib import Path
 from typing import Any
 
+from backups import BACK
 from copies import make_whole
 from journal import spoken_of
 from languages import _, in_english, speaking, spoken
 from office import Office
 from program import Answer, Unanswered, is_refused
 from rows import View, identifiers_in
-from seen import Saw, why_stale
+from seen import Rows, Saw, why_stale
 from settings import Fault
 
 FIRST_PAUSE, LONGEST_PAUSE = 0.2, 5.0  # seconds before a server is started again that has ended by itself
@@ -46,7 +47,7 @@ class Change:  # pylint: disable=too-many-instance-attributes  # what is asked f
     why: str = ""
     damaged: bool = False                       # even if the office is damaged
     register: Register | None = None            # learns who comes into the register and who leaves, before they do
-    before_put: Callable[[], None] | None = None  # done once the copy is the office to be, before it takes the office's place
+    before_put: Callable[[], None] | None = None  # done just before the copy takes the office's place, when nothing is in the way
     lines: list[str] = field(default_factory=list)  # that it carries out one after the other
     come: set[str] = field(default_factory=set)  # who comes into the register by it, if it is not whole; some may be there
     gone: set[str] = field(default_factory=set)  # who is out of the register after it, if it is not whole
@@ -109,6 +110,7 @@ class Worker:  # pylint: disable=too-many-instance-attributes  # the parts of th
         self.ends, self.ended_at = 0, 0.0    # how many have done so since the keeper began, and when the last one did
         self.due: float | None = None        # when the server is to be started again
         self.pause, self.over = FIRST_PAUSE, False
+        self.back = office.backups.before_back()  # by its name the last way back is known
 
     # --- asked by other threads
 
@@ -125,6 +127,10 @@ class Worker:  # pylint: disable=too-many-instance-attributes  # the parts of th
         if change.fault:
             raise Fault(change.fault)
         return change
+
+    def rows(self, still: bool = False) -> Rows:
+        """The rows of the office as it is now, with the last way back."""
+        return {**self.view.rows(still), "back": self.back}
 
     def ended(self) -> dict[str, Any] | None:
         """How many servers have ended by themselves, when the last one did, how many seconds ago, and with what status."""
@@ -209,10 +215,11 @@ class Worker:  # pylint: disable=too-many-instance-attributes  # the parts of th
         with contextlib.ExitStack() as holding:
             held = holding.enter_context(self.place.held())
             saw_something = change.seen is not None or change.saw is not None
-            if saw_something and (why := why_stale(self.view.rows(still=True), change.seen, change.saw)):
+            if saw_something and (why := why_stale(self.rows(still=True), change.seen, change.saw)):
                 raise Fault(why)
             if change.kind:
                 change.copy = self.backups.keep(change.kind, change.why, still=True, damaged=change.damaged)
+                self.back = change.copy if change.kind == BACK else self.back
             number = self.journal.begin(change.who, change.line, change.copy)
             try:
                 if change.whole:
@@ -261,9 +268,7 @@ class Worker:  # pylint: disable=too-many-instance-attributes  # the parts of th
             if change.register:
                 after = identifiers_in(copy)
                 change.register(after - before, before - after)
-            if change.before_put:
-                change.before_put()
-            self.place.put(copy, held)
+            self.place.put(copy, held, change.before_put)
             return answers
 
     @staticmethod

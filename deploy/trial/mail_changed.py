@@ -109,6 +109,28 @@ def try_moves(stand, page, server):
     check("and counts", "Have got it 1 Get it now 0" in shown and "1 sent, 0 to send" in said, (shown, said))
 
 
+def try_given_up(stand, page, server, before):
+    """The results change once more, and the clerk gives the messages up, since the mail server is away."""
+    stand.ask(ask="back", name=before)
+    publish(stand)
+    had = kind_of(stand, "results")["changed"]
+    check("T01 moves again, and T04 does not", idents(had) == ["T01", "T04"], had)
+    server.stop()
+    press(page, "results")
+    run = rest(stand)
+    check("the messages to both wait", (run["state"], run["waits"]) == ("paused", ["T01", "T04"]), run)
+    page.form(f"{FORM}/run", {"act": "give-up"}, page=FORM)
+    state, shown = kind_of(stand, "results"), flat(page.get(f"{FORM}/results")[2])
+    check("once the clerk gives them up, both have the wrong message still, and the page says so", state["changed"] == had
+          and state["to"] == ["T01", "T04"] and "no longer right, and get it again: 2 T01" in shown, (state, shown))
+    kept = stand.ask(ask="about", person="T01")["mail"]["sent"]
+    check("and all about one of them names it", ["results", 1, "sent"] in [one[:3] for one in kept], kept)
+    server.start()
+    got = sent_by(page, stand, server, "results")
+    check("then they get the right one", set(got) == {mail_of("T01"), mail_of("T04")}
+          and "Your new room is A-3." in got[mail_of("T01")] and kind_of(stand, "results")["changed"] == [], got)
+
+
 def try_mail_changed(program):
     """All of it."""
     with MailServer() as server, Stand(program) as stand:
@@ -126,6 +148,7 @@ def try_mail_changed(program):
         try_same(stand, page, before)
         try_changed(stand, page, server, before)
         try_moves(stand, page, server)
+        try_given_up(stand, page, server, before)
         check("no address, name or key is in a log or in the journal", not logs_of(stand), logs_of(stand))
 
 

@@ -300,6 +300,21 @@ def once_more(new, made, folder):
     check("what is the same has no second name", not again and said.count("as it was: ") == len(FILES) + 5, (said, again))
 
 
+def other_pictures(new, made):
+    """What residents read of rooms is another text here, with one more picture."""
+    new.start()
+    picture = b"\xff\xd8\xff another picture"
+    added = new.ask(ask="add-picture", room="OLD", body=base64.b64encode(picture).decode(), shows="the other side")["file"]
+    new.stop_keeper()
+    told = restore(new, "--with", "told", made)
+    new.start()
+    new.stop_keeper()
+    texts, kept = (list((new.folder / "told").glob(f"{name}.before-*")) for name in ("told.json.gz", added))
+    check("the text and its picture are kept beside, and it says so", told[0] == 0 and len(texts) == 1 and len(kept) == 1
+          and kept[0].read_bytes() == picture and f"which is kept: {kept[0]}" in told[1], (told, texts, kept))
+    check("residents do not see it", added not in pictures_of(new), pictures_of(new))
+
+
 def other_journal(new, made):
     """A journal that has another beginning is kept beside."""
     (new.data / "journal").write_text('{"at": "2031-01-01T00:00:00+00:00", "who": "x", "note": "another"}\n', encoding="utf-8")
@@ -338,6 +353,7 @@ def try_moving(program):
         office_alone(new, safe, other)
         moved(new, safe, other)
         once_more(new, safe, other)
+        other_pictures(new, safe)
         other_journal(new, safe)
         no_backup(new, safe)
 

@@ -7,6 +7,7 @@ goes on, a date closes its own round alone, and nobody gets what was somebody el
 import base64
 import datetime
 import gzip
+import json
 import sys
 import time
 import zlib
@@ -247,6 +248,27 @@ def try_in_part(stand, between):
           and not any(has(stand, "Q5")), (reply, has(stand, "Q5")))
 
 
+def try_in_the_way(stand):
+    """The office is to go back to a copy that has somebody else under an identifier. The journal is long, and a program reads the
+    office's file."""
+    copy = stand.ask(ask="backup")["name"]
+    stand.ask(ask="do", lines=["remove P1", f"person P1 {key_of('newp1')} Paula New"], again=["P1"])
+    give(stand, "P1")
+    check("the copy has another P1", stand.ask(ask="compare", name=copy)["gone"] == ["P1"])
+    with open(stand.data / "journal", "a", encoding="utf-8") as journal:
+        for number in range(5):
+            note = {"at": datetime.datetime.now().astimezone().isoformat(), "who": "bert", "note": f"{number}" * 1_000_000}
+            journal.write(json.dumps(note) + "\n")
+    found = stand.ask(ask="compare", name=copy)
+    check("also if the journal has grown by five megabytes since", found["gone"] == ["P1"] and not found["newer_now"], found)
+    with open(stand.file, "rb"):
+        answer = stand.ask(ask="back", name=copy).get("fault", "")
+    check("while a program reads the office's file, there is no way back", "Nothing was changed" in answer, answer)
+    check("and nothing was changed: P1 has everything", all(has(stand, "P1")), has(stand, "P1"))
+    check("once it has ended, there is one", "fault" not in stand.ask(ask="back", name=copy))
+    check("and the other P1 gets nothing", not any(has(stand, "P1")), has(stand, "P1"))
+
+
 def try_office_beside(program):
     """All of it."""
     with Stand(program) as stand:
@@ -259,6 +281,7 @@ def try_office_beside(program):
         try_killed(stand, between)
         try_identifiers(stand)
         try_in_part(stand, between)
+        try_in_the_way(stand)
 
 
 if __name__ == "__main__":

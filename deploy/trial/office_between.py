@@ -63,6 +63,20 @@ def try_way_back(stand, page):
     check("going back names whose list is lost", "had another list before, which does not count now: T03" in shown, shown)
 
 
+def try_way_back_to_others(stand, page):
+    """Another clerk gives an identifier to somebody else, with an address, after the clerk has read the question about a copy."""
+    name = stand.ask(ask="backup")["name"]
+    place = f"/office/copies/{name}/back"
+    form = page.hidden(place, place)
+    stand.ask(ask="do", lines=["remove T02", f"person T02 {key_of('other')} Other T02"], again=["T02"], who="bert")
+    stand.ask(ask="mail-addresses", addresses={"T02": NEWER}, who="bert")
+    page.post(place, form)
+    shown = flat(page.get("/office/")[2])
+    check("going back names whose address was erased", "of other people than those of the copy, and was erased: T02" in shown
+          and "T02" not in addresses(stand), (shown, addresses(stand)))
+    stand.ask(ask="mail-addresses", addresses={"T02": mail_of("T02")})
+
+
 def try_giving_up(stand, page):
     """The date goes with the round."""
     said = "The date until which lists are taken goes with the round"
@@ -118,6 +132,7 @@ def try_office_between(program):
         try_known_people(stand, page)
         stand.ask(ask="mail-addresses", addresses={one: mail_of(one) for one in PEOPLE[1:]})
         try_strangers(stand, page)
+        try_way_back_to_others(stand, page)
         stand.office("open")
         try_many(stand, page)
         try_way_back(stand, page)

@@ -194,6 +194,25 @@ def try_many(stand, anna, bert):
           STALE in shown and not person_of(stand, "T09")[4], shown[:2500])
 
 
+def try_gone_back(stand, anna, bert):
+    """A clerk says yes to a question of before the office went back to a copy, in which the round is as far as it was."""
+    copy = stand.ask(ask="backup")["name"]
+    check("a resident hands in after a copy", hand_in(stand, key_of("T05"), ["A-119"]) == 200)
+    old = anna.hidden("/office/step/close")
+    bert.form(f"/office/copies/{copy}/back", page=f"/office/copies/{copy}/back")
+    for when in ("", ", also after the keeper was started again"):
+        anna.post("/office/step/close", old)
+        shown = anna.get("/office/")[2]
+        check(f"a yes of before the way back closes no round{when}", stand.ask(ask="view")["phase"] == "open"
+              and "went back to a copy after you looked" in shown, shown[:2500])
+        name = anna.hidden("/office/person/T05", "/office/person/T05/name")
+        stand.stop_keeper()
+        stand.start()
+    anna.post("/office/person/T05/name", {**name, "name": "Eve Ear"})
+    shown = anna.get("/office/")[2]
+    check("a start of the keeper alone makes no form stale", person_of(stand, "T05")[0] == "Eve Ear", shown[:2500])
+
+
 def seeds_shown(page):
     """The seeds that the page shows, and those that it offers to draw with."""
     text = page.get("/office/draw")[2]
@@ -260,6 +279,7 @@ def try_office_clerks(program):
         try_people(stand, anna, bert)
         try_at_once(stand, anna, bert)
         try_lists(stand, anna, bert, between)
+        try_gone_back(stand, anna, bert)
         try_seeds(stand, anna, bert)
         try_flood(stand, anna)
         check("the page has noted no fault of its own", "rooms-page:" not in stand.log("page"), stand.log("page"))

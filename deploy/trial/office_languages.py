@@ -21,7 +21,7 @@ sys.dont_write_bytecode = True
 from made_up_language import CODE, NAME, OPEN, TEXTS, between, not_in_it, write_language
 from office_again import flat
 from office_requests import Page
-from stand import OFFICE, PYTHON, Stand, check
+from stand import OFFICE, PYTHON, Stand, check, key_of
 
 SEED = "ab" * 32
 PEOPLE = [f"T{number:02}" for number in range(1, 7)]
@@ -295,10 +295,24 @@ def try_gone(stand, page):
     stand.office("shut A-108")
     stand.script("rooms-office", "back", name)
     check("the way back to a copy keeps languages", stand.ask(ask="languages")["residents"] == {"T02": CODE})
+    try_not_seen(stand, page)
     journal = (stand.data / "journal").read_text(encoding="utf-8")
     check("the journal is in English", OPEN not in journal, [line for line in journal.splitlines() if OPEN in line][:3])
     record = stand.ask(ask="journal", last=1, speaks=CODE)
     check("also to a clerk of another language", OPEN not in json.dumps(record, ensure_ascii=False), record)
+
+
+def try_not_seen(stand, page):
+    """A clerk erases the languages of people who are not in the register, and the office has gone back once more meanwhile."""
+    copy, forms = stand.ask(ask="backup")["name"], []
+    for person in ("N1", "N2"):
+        stand.ask(ask="do", lines=[f"person {person} {key_of(person)} Person {person}"])
+        stand.ask(ask="set-languages", languages={person: CODE})
+        stand.script("rooms-office", "back", copy)
+        forms.append(page.hidden("/office/languages", "/office/languages/strangers"))
+    page.post("/office/languages/strangers", forms[0])
+    left = stand.ask(ask="languages")["residents"]
+    check("languages of people whom the clerk has not seen stay", left == {"T02": CODE, "N2": CODE}, left)
 
 
 def try_office_languages(program):

@@ -117,7 +117,7 @@ def try_people_list(stand, page):
     check("a list with nobody new offers its addresses", place and "Nobody on this list is new" in shown, shown)
     shown = page.get(place)[2]
     check("and shows what they change", "1 person gets an address, and 0 get another one" in " ".join(shown.split()), shown)
-    page.form(f"{FORM}/addresses/bring", {"held": place.rpartition("/")[2]}, page=FORM)
+    page.form(f"{FORM}/addresses/bring", page=place)
     check("then they are in", stand.ask(ask="mail-list")["addresses"].get("T07") == mail_of("T07"))
     rows = [["T06", "Person T06", mail_of("T06")], ["T07", "Somebody Else", "else@college.example"]]
     shown = bring_in(page, "people", "people-3", ["person", "name", "email"], rows)
@@ -193,6 +193,16 @@ def try_texts(stand, page):
     shown = page.get(fields["location"])[2]
     parts = (f"Dear {NAME} (T02), room none, round 1:\nhttps://{HOST}/", f"Räume für {NAME}", mail_of("T02"))
     check("which is shown as that person gets it", all(one in shown for one in parts), shown)
+    old = page.hidden(place, place)
+    stand.ask(ask="mail-text", who="bert", kind="invitation", language="en", subject="By Bert", body="x\n")
+    for person in ("T99", "T02"):
+        shown = page.post(place, {**old, "language": "en", "subject": "By Anna", "body": "y", "person": person})[2]
+    kept = kind_of(stand, "invitation")["texts"]["en"]
+    check("a text that another clerk has written meanwhile stays", kept == ["By Bert", "x\n"], kept)
+    check("the page says so, and still has the other one", "Another clerk has changed this text" in shown and "By Anna" in shown,
+          shown)
+    page.form(place, {**text, "person": "T02"}, page=place)
+    check("after another look it is kept", kind_of(stand, "invitation")["texts"]["en"][0] == text["subject"])
     for subject in ("a\r\nBcc: eve@college.example", "a\nb", "a\0b", ""):
         answer = stand.ask(ask="mail-text", kind="invitation", language="en", subject=subject, body="x")
         check(f"the keeper takes no subject {subject!r}", "fault" in answer, answer)
@@ -225,8 +235,32 @@ def try_languages(stand, page):
     stand.ask(ask="set-languages", office="en")
 
 
+def try_two_clerks(stand, page):
+    """Another clerk corrects what a file of addresses would change, after the first one has looked at it."""
+    old, newer = mail_of("T08"), "t08.newer@college.example"
+    def kept():
+        return stand.ask(ask="mail-list")["addresses"]["T08"], stand.ask(ask="languages")["residents"].get("T08", "")
+
+    for what, by_hand, wanted in (("mail-addresses", {"addresses": {"T08": newer}, "was": old}, (newer, "")),
+                                  ("set-languages", {"languages": {"T08": "de"}, "was": ""}, (newer, "de"))):
+        place, _ = send_file(page, b"person,email,language\nT08,t08.again@college.example,en\n")
+        form = page.hidden(place, f"{FORM}/addresses/bring")
+        check("another clerk corrects one", stand.ask(ask=what, who="bert", **by_hand).get("changed") == 1)
+        page.post(f"{FORM}/addresses/bring", form)
+        shown = " ".join(page.get(place)[2].split())
+        check(f"{what}: what the other clerk entered stays, and the page says so", kept() == wanted
+              and "Nothing came in: look again" in shown, (kept(), shown))
+    page.form(f"{FORM}/addresses/bring", page=place)
+    check("after another look it comes in", kept() == ("t08.again@college.example", "en"), kept())
+    answer = stand.ask(ask="mail-addresses", addresses={"T07": old, "T08": old}, was=[mail_of("T07"), newer]).get("fault", "")
+    check("the keeper compares each address, too", "changed after you looked" in answer, answer)
+    stand.ask(ask="mail-addresses", addresses={"T08": old})
+    stand.ask(ask="set-languages", languages={"T08": ""})
+
+
 def try_language_list(stand, page):
     """Languages come in with a list of addresses."""
+    try_two_clerks(stand, page)
     rows = f"T09,{mail_of('T09')},Deutsch\nT10,{mail_of('T10')},\nT11,,de\nT12,{mail_of('T12')},xx\nT08,,yy\n"
     place, shown = send_file(page, f"person,email,language\n{rows}".encode())
     said = ("0 people get an address, and 0 get another one", "2 people get another language", "There is no such language here")

@@ -289,6 +289,9 @@ def try_pictures(stand, page, resident):
         "2 pictures are on the residents' page."], said)
     check("what has no colour is white", [some_pictures.seen(data)["corners"][0] for _, data in pictures_of(stand, "N-102")]
           == ["white", "white"])
+    said = add(page, {f"N-102-{number}.jpg": b"no picture" for number in range(3, 12)})
+    check("of many that are none each is named", len(said) == 9 and all(f"N-102-{number}.jpg was not added" in "".join(said)
+                                                                        for number in range(3, 12)), said)
     before = told_of(stand)["pictures"]
     for what, data in some_pictures.hostile().items():
         said = add(page, {"S-202.png": data})

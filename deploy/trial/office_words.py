@@ -29,7 +29,7 @@ SEED = "ab" * 32
 BARE = re.compile(r"\b\d\d:\d\d:\d\d\b(?! IST)")
 OLD_LINES = "going T01; going T02; going T03; going T04; going T05; going "
 SECRET = f"choose T09 {' '.join(WISHES)}"
-
+CUT_OFF = "(an entry that was cut off)"
 
 def local(copy):
     """When a copy was made, by its name, in India, and the number of those of one second."""
@@ -112,6 +112,10 @@ def try_wishes(stand):
     check("and of nothing else", after.startswith(before.decode()) and not any(room in after for room in WISHES)
           and '"choose T09 (3 rooms); choose T08 (0 rooms); grade T08 1"' in after, after[len(before):])
     check("a second time there is nothing left", stand.script("rooms-office", "blank-journal") == "blanked 0\n")
+    with open(journal, "a", encoding="utf-8") as held:
+        held.write('{"n": "1-1-3", "at": "2026-11-29T15:0')  # as a power cut leaves it
+    check("of an entry that was cut off its place stays", stand.script("rooms-office", "blank-journal") == "blanked 0\n"
+          and CUT_OFF in journal.read_text(encoding="utf-8"))
 
 
 def try_times(stand, page):
@@ -128,6 +132,7 @@ def try_times(stand, page):
         found = BARE.findall(shown)
         check(f"each time on the page {name or 'overview'} names its zone",
               not found and ("IST" in shown or name in ("record", "results")), found or shown[:3000])
+    check("what was cut off is named there", CUT_OFF in page.get("/office/journal")[2])
     check("an entry of another zone is shown in this one", "2026-11-30 03:45:00 IST bert" in page.get("/office/journal")[2])
     shown = page.form("/office/person/T07/key", page="/office/person/T07/key")
     shown = page.get(shown[1]["location"])[2]

@@ -16,8 +16,14 @@ import time
 from pathlib import Path
 from unittest import mock
 
-from stand import DEPLOY, PYTHON, Stand, check
+from stand import DEPLOY, OFFICE, PYTHON, Stand, check
 
+sys.path.append(str(OFFICE))
+
+# pylint: disable=wrong-import-position,wrong-import-order  # they are in the folder of the line above
+from seeds import merged, noted_seeds
+
+SEED = "5eed" * 16
 KEPT_OFFICE = '{"kind": "backup", "why": "", "whole": true}\n'
 
 
@@ -129,6 +135,34 @@ def in_use(stand, folder):
     check(f"it was said after {took:.1f} s, and nothing was changed", took < 30 and rooms_of(stand.file) == before)
 
 
+def in_journal(stand):
+    """The office goes back to before a draw, after its round was settled. The journal says so, and no seed is hidden by it."""
+    stand.fill(["A-1"], ["T01"])
+    stand.start()
+    for line in ("open", "close"):
+        stand.office(line)
+    stand.ask(ask="note", line=f"seed {SEED} 50 throws of a die")
+    stand.ask(ask="draw", seed=SEED)
+    for line in ("run", "publish", "settle"):
+        stand.office(line)
+    copy = next(name for name, _, why in stand.ask(ask="backups")["backups"] if "before draw" in why)
+    stand.stop_keeper()
+    told = restore(stand, stand.data / "backups" / copy)
+    stand.start()
+    journal = stand.ask(ask="journal", last=100)["journal"]
+    backs = [entry for entry in merged(journal) if entry.get("line") == f"back {copy}"]
+    kept = Path(told[1].partition("what was there is kept: ")[2].partition("\n")[0]).name
+    check("the journal says that rooms-restore went back, to which copy, and what it kept before",
+          [(one["who"], one["answer"], one["copy"]) for one in backs] == [("rooms-restore", "ok", kept)], (told, backs))
+    seeds = noted_seeds(journal, True)
+    check("the seed of the draw before is among those of the round", [one.seed for one in seeds.found] == [SEED], seeds)
+    stand.ask(ask="draw", seed="b" * 64)
+    stand.office("run")
+    record = stand.ask(ask="record")["body"]
+    check("and the public record has both draws and the way back", record.count("was drawn, by the seed") == 2
+          and "the office went back to the copy of" in record, record[:2000])
+
+
 def try_restoring(program):
     """All of it."""
     if not can_restore():
@@ -141,6 +175,8 @@ def try_restoring(program):
         cut_before(stand, folder)
         no_office(stand, folder)
         in_use(stand, folder)
+    with Stand(program) as stand:
+        in_journal(stand)
     units()
 
 

@@ -254,6 +254,9 @@ def back(name: str) -> None:
     found = ask("back", name=name, seen=field("seen"), newer_keys=bool(field("newer")))
     tell("good", _("The office is back at the copy of {time}. What it was before is in the copy of {before}.",
                    time=times.of_copy(name), before=times.of_copy(found["name"])))
+    if gone := found.get("gone"):
+        tell("bad", _("What was kept of these identifiers may have been of other people than those of the copy, and was erased: "
+                      "{people}.", people=", ".join(gone)))
     newest = found.get("newest", [])
     if (lost := [person for person in found.get("lists", []) if person not in newest]) and found["round"][1] == "open":
         tell("bad", _("These people had another list before, which does not count now: {people}. Tell them to hand it in again.",

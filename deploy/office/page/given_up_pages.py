@@ -89,7 +89,7 @@ def bring_back(copy: str) -> None:
     out = TakenOut([ident for ident in back.away if ident not in going + withdrawn])
     place = f"/office/given-up/{copy}?out={memory.hold(clerk(), out)}"
     must_be_sure(place)
-    if office.phase != "open" or field("seen") != office.stamp:
+    if office.phase != "open" or field("seen") != office.state:
         tell("bad", _("Nothing was changed. {phase}. Look again.", phase=_(plain.PHASES[office.phase].title)))
         go_to(place)
     if field("saw") != office.saw("all", *back.away, *back.longer).mark:

@@ -6,7 +6,7 @@ from collections import Counter
 from languages import _, ngettext
 
 import plain
-from app import app, ask, clerk, field, go_to, memory, office_now, show, tell, text_of
+from app import app, ask, clerk, field, go_to, memory, office_now, show, tell, text_of, ticked
 from keeper_client import KeeperFault
 from people_pages import person_of
 from resident_languages import residents
@@ -61,9 +61,9 @@ def set_many() -> None:
 
 @app.post(f"{HOME}/strangers")
 def erase_strangers() -> None:
-    """Erases the languages of people who are not in the register."""
+    """Erases the languages of people who are not in the register, of those whom the clerk saw alone."""
     known = office_now().people
-    if done(languages={ident: "" for ident in residents().own if ident not in known}):
+    if done(languages={ident: "" for ident in ticked("person") if ident not in known}):
         tell("good", _("They are erased."))
     go_to(HOME)
 

@@ -3,6 +3,7 @@
 from bottle import HTTPResponse  # type: ignore[import]  # Debian's bottle has no types
 
 from languages import _, ngettext
+from told import mark_of
 
 import columns
 import plain
@@ -10,7 +11,7 @@ from app import app, ask, clerk, download, field, go_to, memory, office_now, sho
 from csv_list import line_of
 from keeper_client import KeeperFault
 from list_faults import Findings
-from mail_lists import Addresses, bring, in_file
+from mail_lists import Addresses, bring, in_file, now_of
 from people_pages import person_of
 from questions import must_be_sure
 from sheet_limits import LONGEST_FILE
@@ -50,22 +51,27 @@ def addresses(name: str) -> str:
     if not isinstance(found, Addresses):
         tell("bad", _("The page no longer holds this list. Nothing came in now."))
         go_to(HOME)
-    old = ask("mail-list")["addresses"]
-    new = [ident for ident, _text in found.pairs if ident not in old]
-    other = [(ident, old[ident], text) for ident, text in found.pairs if ident in old and old[ident] != text]
-    before = ask("languages")["residents"]
-    tongues = [ident for ident, code in found.languages if before.get(ident) != code]
-    return show("mail_addresses", office=office_now(), found=found, new=new, other=other, tongues=tongues, held=name)
+    had, spoken = now_of(found)
+    new = [ident for (ident, _text), was in zip(found.pairs, had) if not was]
+    other = [(ident, was, text) for (ident, text), was in zip(found.pairs, had) if was not in ("", text)]
+    tongues = [ident for (ident, code), was in zip(found.languages, spoken) if was != code]
+    return show("mail_addresses", office=office_now(), found=found, new=new, other=other, tongues=tongues, held=name,
+                saw=mark_of([had, spoken]))
 
 
 @app.post(f"{HOME}/addresses/bring")
 def bring_addresses() -> None:
-    """Brings addresses in."""
+    """Brings addresses in, if nobody has changed what they replace after the clerk looked."""
     name = text_of("held")
     found = memory.held(clerk(), name)
     if not isinstance(found, Addresses):
         tell("bad", _("The page no longer holds this list. Nothing came in now: send it again."))
-    elif bring(found):
+        go_to(HOME)
+    was = now_of(found)
+    if mark_of(was) != field("saw"):
+        tell("bad", _("What this list replaces has changed since you tried it. Nothing came in: look again."))
+        go_to(f"{HOME}/addresses/{name}")
+    if bring(found, was):
         memory.let_go(clerk(), name)
     go_to(HOME)
 

@@ -133,14 +133,21 @@ def has_another_name(office: Office, fields: list[str]) -> bool:
     return len(fields) > 1 and fields[0] in office.people and bool(fields[1]) and fields[1] != office.people[fields[0]].name
 
 
-def bring(found: Addresses) -> bool:
-    """Brings addresses and languages in, if there are any, and says so. Whether they are in."""
+def now_of(found: Addresses) -> tuple[list[str], list[str]]:
+    """The addresses and the languages that the people of a file have now."""
+    addresses, spoken = ask("mail-list")["addresses"], ask("languages")["residents"]
+    return ([addresses.get(ident, "") for ident, _text in found.pairs],
+            [spoken.get(ident, "") for ident, _code in found.languages])
+
+
+def bring(found: Addresses, was: tuple[list[str] | None, list[str] | None] = (None, None)) -> bool:
+    """Brings addresses and languages in, if there are any and those of before are these, and says so. Whether they are in."""
     try:
         if found.pairs:
-            changed = ask("mail-addresses", addresses=dict(found.pairs))["changed"]
+            changed = ask("mail-addresses", addresses=dict(found.pairs), was=was[0])["changed"]
             tell("good", ngettext("{count} mail address is new or changed.", "{count} mail addresses are new or changed.", changed))
         if found.languages:
-            changed = ask("set-languages", languages=dict(found.languages))["changed"]
+            changed = ask("set-languages", languages=dict(found.languages), was=was[1])["changed"]
             tell("good", ngettext("{count} language is new or changed.", "{count} languages are new or changed.", changed))
     except KeeperFault as fault:
         tell("bad", _("Not all of the mail addresses and languages came in: {why}", why=fault))

@@ -8,6 +8,7 @@ from typing import Any
 import times
 from languages import N_, _, languages, ngettext, spoken
 from mail_words import KINDS, RECEIPT, Text
+from told import mark_of
 
 import explaining
 from app import app, ask, field, go_to, office_now, residents_page, show, tell, text_of
@@ -69,7 +70,7 @@ def name_of(language: str) -> str:
 
 def kind_page(kind: str, language: str = "", ident: str = "", written: Text | None = None) -> str:
     """The page of a kind of message: its text in a language, one message, and who gets it. A text that was just written is not
-    kept yet."""
+    kept yet, and its form has the mark of the one that its clerk saw."""
     address_of_kind(kind)
     office, mail_now = office_now(), ask("mail")
     state = mail_now["kinds"][kind]
@@ -80,7 +81,8 @@ def kind_page(kind: str, language: str = "", ident: str = "", written: Text | No
         shown = ask("mail-show", kind=kind, language=language, person=ident, link=residents_page(), subject=text.subject,
                     body=text.body)
     return show("mail_kind", office=office, mail=mail_now, kind=kind, of=KINDS[kind], state=state, text=text, chosen=ident,
-                shown=shown, language=language, name_of=name_of, back=f"{HOME}/{kind}/in/{language}")
+                shown=shown, language=language, name_of=name_of, back=f"{HOME}/{kind}/in/{language}",
+                saw=field("saw") if written else mark_of(state["texts"].get(language)))
 
 
 @app.get(f"{HOME}/<kind>")
@@ -110,7 +112,7 @@ def write(kind: str) -> str:
         tell("bad", _("Nobody has this identifier. The text is not kept yet."))
         return kind_page(kind, language, "", text)
     try:
-        ask("mail-text", kind=kind, language=language, subject=text.subject, body=text.body)
+        ask("mail-text", kind=kind, language=language, subject=text.subject, body=text.body, saw=field("saw"))
     except KeeperFault as fault:
         tell("bad", _("The text is not kept. {why}", why=fault))
         return kind_page(kind, language, ident, text)

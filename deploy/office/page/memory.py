@@ -49,9 +49,11 @@ class Memory:
         self._languages: dict[str, str] = {}
 
     def tell(self, clerk: str, kind: str, text: str, began: float) -> None:
-        """Keeps a piece of news for the clerk's next page, and the four before it."""
+        """Keeps a piece of news for the clerk's next page, with all that the same request has told, and four of others."""
         with self._lock:
-            self._news[clerk] = [*self._news[clerk][-4:], Told(News(kind, text), time.monotonic(), began)]
+            others = [one for one in self._news[clerk] if one.began != began]
+            own = [one for one in self._news[clerk] if one.began == began]
+            self._news[clerk] = [*others[-4:], *own, Told(News(kind, text), time.monotonic(), began)]
 
     def news(self, clerk: str, began: float) -> list[News]:
         """Gives the clerk's news, once, to a request that began then."""

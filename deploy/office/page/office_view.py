@@ -3,7 +3,7 @@
 from typing import Any, NamedTuple
 
 from languages import _
-from seen import Saw, saw, stamp
+from seen import Saw, saw, stamp, state_of
 
 import plain
 
@@ -68,8 +68,14 @@ class Office:  # pylint: disable=too-many-instance-attributes  # each is a part 
 
     @property
     def stamp(self) -> str:
-        """The state of the round. A form carries it, and the keeper refuses a change that was meant for another one."""
+        """The state of the round."""
         return stamp(self.view)
+
+    @property
+    def state(self) -> str:
+        """The state of the round, and the last way back. A form carries it, and the keeper refuses a change that was meant for
+        another one."""
+        return state_of(self.view)
 
     def saw(self, part: str, *people: str) -> Saw:
         """What is on record of people. A form that changes them carries its mark, and the keeper refuses a change that
