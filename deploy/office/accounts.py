@@ -20,7 +20,7 @@ from copies import Copies
 from journal import Journal
 from languages import _
 from lines import IDENTIFIER
-from placing import beside, to_disk
+from placing import replace_file
 from rows import View
 from settings import Fault, unwritten
 
@@ -136,14 +136,9 @@ class Accounts:
 
     def write(self, kept: Kept) -> None:
         """Puts another file in the place of this one."""
-        part = beside(self.file, ".part")
         try:
-            part.write_text(json.dumps(kept._asdict(), ensure_ascii=False) + "\n", encoding="utf-8")
-            to_disk(part)
-            part.rename(self.file)
-            to_disk(self.file.parent)
+            replace_file(self.file, f"{json.dumps(kept._asdict(), ensure_ascii=False)}\n".encode())
         except OSError as fault:
-            part.unlink(missing_ok=True)
             raise unwritten("the list of accounts", fault) from fault
 
     def put(self, rule: str, people: dict[str, str]) -> None:

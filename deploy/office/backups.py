@@ -22,7 +22,7 @@ from typing import Any, NamedTuple
 import times
 from copies import ENDS, Copies, make_whole
 from languages import N_, _
-from placing import beside, to_disk
+from placing import beside, replace_file, to_disk
 from settings import Fault, Settings, unwritten
 
 NAME = re.compile(r"[0-9]{8}T[0-9]{6}Z(-[0-9]{2})?")
@@ -130,13 +130,9 @@ class Backups:
 
     def set_days(self, days: int) -> None:
         """Sets for how many days a copy stays at most, and deletes the older ones."""
-        part = self.folder / f"{DAYS}.part"
         try:
             self.folder.mkdir(mode=0o700, exist_ok=True)
-            part.write_text(f"{days}\n", encoding="ascii")
-            to_disk(part)
-            part.rename(self.folder / DAYS)
-            to_disk(self.folder)
+            replace_file(self.folder / DAYS, f"{days}\n".encode())
         except OSError as fault:
             raise unwritten(N_("the number of days"), fault) from fault
         self.drop_old()

@@ -21,7 +21,7 @@ from job import Job
 from languages import N_, _
 from mail_why import FAILED
 from office import Office
-from placing import beside, to_disk
+from placing import replace_file
 from program import is_refused
 from seen import Rows, stamp, why_stale
 from settings import Fault, unwritten
@@ -145,21 +145,9 @@ class Dates:
 
     def write(self, until: Until | None) -> None:
         """Keeps a date, or deletes it."""
-        path = self.office.settings.until
-        part = beside(path, ".part")
         try:
-            if until is None:
-                path.unlink(missing_ok=True)
-            else:
-                held = os.open(part, os.O_WRONLY | os.O_CREAT | os.O_TRUNC | os.O_CLOEXEC, 0o600)
-                with open(held, "w", encoding="utf-8") as opened:
-                    json.dump(until._asdict(), opened)
-                to_disk(part)
-                part.rename(path)
-            to_disk(path.parent)
+            replace_file(self.office.settings.until, None if until is None else json.dumps(until._asdict()).encode())
         except OSError as fault:
-            with contextlib.suppress(OSError):
-                part.unlink()
             raise unwritten(N_("the date"), fault) from fault
         self.until, self.fault, self.pause, self.due = until, Why("", {}), OFTEN, 0.0
 

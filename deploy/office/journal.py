@@ -21,7 +21,7 @@ from typing import Any
 
 from languages import N_, in_english
 from lines import LIKE_A_KEY, STEPS, on_one_line, verb_of
-from placing import beside, to_disk
+from placing import part_of, replace_file
 from settings import Fault, unwritten
 
 # What the program answers to a line that changes the office. Other answers, as to `people` or `me`, may have names.
@@ -125,7 +125,7 @@ class Journal:
     """The journal's file."""
 
     def __init__(self, path: Path) -> None:
-        self.path, self.part, self.lock = path, beside(path, ".part"), threading.Lock()
+        self.path, self.lock = path, threading.Lock()
         self.numbers = itertools.count(1)
         self.late: list[dict[str, Any]] = []  # ends of changes that could not be written down yet
 
@@ -227,18 +227,14 @@ class Journal:
             old = [line for line in self.path.read_bytes().split(b"\n") if line] if self.path.exists() else []
             new = [blanked(line) for line in old]
             try:
-                self.part.write_bytes(b"".join(line + b"\n" for line in new))
-                to_disk(self.part)
-                self.part.rename(self.path)
-                to_disk(self.path.parent)
+                replace_file(self.path, b"".join(line + b"\n" for line in new))
             except OSError as fault:
-                self.part.unlink(missing_ok=True)
                 raise unwritten(N_("the journal"), fault) from fault
             return sum(map(is_rid_of, old, new))
 
     def end_unfinished(self) -> None:
         """Notes of each change of which an earlier keeper has noted no answer that this is not known."""
-        self.part.unlink(missing_ok=True)
+        part_of(self.path).unlink(missing_ok=True)
         entries = list(self.entries())
         ended = {entry["n"] for entry in entries if "n" in entry and "answer" in entry}
         for entry in entries:

@@ -19,7 +19,7 @@ from typing import Any, NamedTuple
 from job import Job
 from journal import Journal
 from languages import ENGLISH, _, languages
-from placing import beside, to_disk
+from placing import replace_file
 from rows import View
 from settings import Fault, unwritten
 
@@ -60,14 +60,9 @@ class Languages:
 
     def write(self, kept: Kept) -> None:
         """Puts another file in the place of this one."""
-        part = beside(self.file, ".part")
         try:
-            part.write_text(json.dumps(kept._asdict(), ensure_ascii=False) + "\n", encoding="utf-8")
-            to_disk(part)
-            part.rename(self.file)
-            to_disk(self.file.parent)
+            replace_file(self.file, f"{json.dumps(kept._asdict(), ensure_ascii=False)}\n".encode())
         except OSError as fault:
-            part.unlink(missing_ok=True)
             raise unwritten(_("the file of the languages"), fault) from fault
 
     # --- clerks

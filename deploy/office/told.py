@@ -11,7 +11,6 @@ import contextlib
 import gzip
 import hashlib
 import json
-import os
 import re
 import threading
 import zlib
@@ -23,7 +22,7 @@ from job import Job
 from journal import Journal
 from languages import N_, _, in_english
 from lines import name_shows_a_key
-from placing import to_disk
+from placing import replace_file
 from settings import Fault, unwritten
 
 Value = dict[str, Any]
@@ -176,21 +175,12 @@ class Told:
 
     def put(self, name: str, data: bytes) -> None:
         """Puts a file into the folder, where everybody may read it."""
-        part = self.folder / PART
         try:
-            held = os.open(part, os.O_WRONLY | os.O_CREAT | os.O_TRUNC | os.O_CLOEXEC, 0o644)
-            with open(held, "wb") as opened:
-                os.fchmod(held, 0o644)  # the umask would keep it from the others
-                opened.write(data)
-            to_disk(part)
-            part.rename(self.folder / name)
-            to_disk(self.folder)
+            replace_file(self.folder / name, data, mode=0o644, part=self.folder / PART)
         except FileNotFoundError as fault:
             raise Fault(_("there is no folder {folder}. Nothing was changed: the administrator has to make it (deploy/README.md, "
                           "\"By hand\").", folder=self.folder)) from fault
         except OSError as fault:
-            with contextlib.suppress(OSError):
-                part.unlink()
             raise unwritten(_("what residents read"), fault) from fault
 
     @contextlib.contextmanager
