@@ -89,15 +89,14 @@ class Backups:
     def free_name(self) -> str:
         """The time as a name. Names are in order: if the last copy has this time, or a later one since the clock was set
         back, its name is counted on."""
-        now = datetime.datetime.now(datetime.timezone.utc).strftime(times.COPY)
+        now = times.as_name()
         last = (self.names() or [""])[-1]
         if last[:len(now)] < now:
             return now
         number = int(last[len(now) + 1:] or 1) + 1
         if number < 100:
             return f"{last[:len(now)]}-{number:02}"
-        following = datetime.datetime.strptime(last[:len(now)], times.COPY) + datetime.timedelta(seconds=1)
-        return following.strftime(times.COPY)
+        return (times.made_at(last) + datetime.timedelta(seconds=1)).strftime(times.COPY)
 
     def names(self) -> list[str]:
         """The names of the kept copies, the oldest first."""
@@ -147,7 +146,7 @@ class Backups:
         for kind, names in kinds.items():
             count = self.settings.kept_backups if kind == ASKED_FOR else self.settings.kept_before
             for newer, name in enumerate(reversed(names)):
-                until = made_at(name) + datetime.timedelta(days=days)
+                until = times.made_at(name) + datetime.timedelta(days=days)
                 found[name] = Stay(until.astimezone().date().isoformat(), count - newer)
         return found
 
@@ -193,18 +192,13 @@ class Backups:
                 self.drop_old()
 
 
-def made_at(name: str) -> datetime.datetime:
-    """When a copy was made, by its name."""
-    return datetime.datetime.strptime(name[:16], times.COPY).replace(tzinfo=datetime.timezone.utc)
-
-
 def too_old(names: list[str], nights: list[str], days: int) -> set[str]:
     """Those of these copies that are older than so many days. None, if one of the last two that were asked for is much older
     itself: then the clock may be set far ahead, and nobody knows how old any copy is."""
     last = datetime.datetime.now(datetime.timezone.utc) - datetime.timedelta(days=days)
-    if any(made_at(name) < last - DOUBT for name in sorted(nights or names)[-2:]):
+    if any(times.made_at(name) < last - DOUBT for name in sorted(nights or names)[-2:]):
         return set()
-    return {name for name in names if made_at(name) < last}
+    return {name for name in names if times.made_at(name) < last}
 
 
 def blank(labels: list[str], file: Path) -> None:

@@ -5,7 +5,6 @@ it is newer than the backup's.
 """
 
 import contextlib
-import datetime
 import hashlib
 import json
 import os
@@ -19,6 +18,7 @@ from pathlib import Path
 from typing import NamedTuple
 
 import house_list
+import times
 import told
 from house_places import Place
 from journal import Journal
@@ -53,9 +53,7 @@ class Goal(NamedTuple):
 
 def aside(target: Path) -> Path:
     """A name beside a file for what is there."""
-    now = datetime.datetime.now(datetime.timezone.utc).strftime("%Y%m%dT%H%M%SZ")
-    names = [f"{target.name}.before-{now}", *(f"{target.name}.before-{now}-{number:02}" for number in range(2, 100))]
-    return next(one for name in names if not os.path.lexists(one := target.with_name(name)))
+    return next(one for name in times.names() if not os.path.lexists(one := target.with_name(f"{target.name}.before-{name}")))
 
 
 def make_folder(folder: Path, mode: int) -> None:

@@ -8,7 +8,6 @@ the same `n`, `answer`, `status` and `ms`. If some of several lines took effect,
 """
 
 import contextlib
-import datetime
 import itertools
 import json
 import os
@@ -23,6 +22,7 @@ from languages import N_, in_english
 from lines import LIKE_A_KEY, STEPS, on_one_line, verb_of
 from placing import part_of, replace_file
 from settings import Fault, unwritten
+from times import now
 
 # What the program answers to a line that changes the office. Other answers, as to `people` or `me`, may have names.
 WITHOUT_NAMES = re.compile(
@@ -241,8 +241,3 @@ class Journal:
             if "n" in entry and "line" in entry and entry["n"] not in ended:
                 with contextlib.suppress(Fault, OSError):
                     self.note(n=entry["n"], status=3, answer=NOT_KNOWN)
-
-
-def now() -> str:
-    """The time, to the second, with the zone."""
-    return datetime.datetime.now().astimezone().isoformat(timespec="seconds")

@@ -18,12 +18,10 @@ message after the other. If the mail server is away, or refuses several people i
 """
 
 import contextlib
-import datetime
 import sqlite3
 import threading
 from collections.abc import Callable
 
-import mail_book
 from job import Job
 from languages import _, languages, ngettext, speaking
 from mail_book import ENDED, PAUSED, RUNNING, Book, Run
@@ -37,6 +35,7 @@ from mail_words import KINDS, RECEIPT, Text, faults_of, filled, is_address
 from office import Office
 from seen import why_stale
 from settings import Fault
+from times import now
 from worker import Worker
 
 STEER_SECONDS = 10.0  # for the message that is on its way when a clerk stops the run
@@ -176,7 +175,7 @@ class Post:  # pylint: disable=too-many-instance-attributes  # the parts of the 
         if person not in {row[0] for row in rows["people"]}:
             raise Fault(_("nobody has this identifier"))
         if kind == RECEIPT:
-            since = self.receipts.book.entry(person).at or datetime.datetime.now().astimezone().isoformat()
+            since = self.receipts.book.entry(person).at or now()
             shown = receipt_to(rows, person, since, link, (language, text))
         else:
             with speaking(language):
@@ -245,8 +244,7 @@ class Post:  # pylint: disable=too-many-instance-attributes  # the parts of the 
                 raise Fault(_("somebody else has begun this meanwhile, or changed a text. Nothing was sent by you: look again."))
             if not state["to"]:
                 raise Fault(_("nobody is left who has an address and has not got this message. Nothing was sent."))
-            run = Run(kind, rows["number"], state["turn"], *texts.each[texts.default], link, job["who"], RUNNING, "",
-                      mail_book.now())
+            run = Run(kind, rows["number"], state["turn"], *texts.each[texts.default], link, job["who"], RUNNING, "", now())
             with self.journal.change(job["who"], f"mail {kind} of round {rows['number']} begins: {len(state['to'])}"):
                 self.book.start(run, texts.each, state["to"])
             self.sender.begin()

@@ -6,7 +6,6 @@ back to a copy; so this file does not.
 """
 
 import contextlib
-import datetime
 import hashlib
 import json
 import secrets
@@ -20,6 +19,7 @@ from languages import _
 from mail_why import ENDED_MEANWHILE
 from mail_words import ALL, RECEIPT, Text
 from settings import Fault
+from times import now
 
 WAITING, BEGUN, SENT, REFUSED, UNCERTAIN = "waiting", "begun", "sent", "refused", "uncertain"
 SECRET = "told-secret"  # a setting: the key of the marks
@@ -66,11 +66,6 @@ class Run(NamedTuple):
     def text(self) -> Text:
         """The text of its messages."""
         return Text(self.subject, self.body)
-
-
-def now() -> str:
-    """The time, to the second."""
-    return datetime.datetime.now().astimezone().isoformat(timespec="seconds")
 
 
 class Book:  # pylint: disable=too-many-public-methods  # one for each thing that is written or read

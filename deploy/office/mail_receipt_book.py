@@ -10,9 +10,10 @@ import secrets
 import sqlite3
 from typing import Any, NamedTuple
 
-from mail_book import BEGUN, REFUSED, SENT, UNCERTAIN, WAITING, Book, forget_old, now
+from mail_book import BEGUN, REFUSED, SENT, UNCERTAIN, WAITING, Book, forget_old
 from mail_words import RECEIPT
 from seen import Rows
+from times import now
 
 # Settings of the file.
 ON, WHY, WHO, LINK, ROUND, MARK = (f"receipts-{name}" for name in ("on", "why", "who", "link", "round", "mark"))

@@ -12,7 +12,7 @@ import threading
 
 from languages import speaking
 from languages_kept import Languages
-from mail_book import REFUSED, SENT, UNCERTAIN, Book, now
+from mail_book import REFUSED, SENT, UNCERTAIN, Book
 from mail_people import receipt_of, values_of
 from mail_receipt_book import AWAY as LEAVES, NONE, NOTHING, Entry, ReceiptBook
 from mail_run import IN_A_ROW, LAST_WORDS, Pace
@@ -23,6 +23,7 @@ from mail_words import RECEIPT, Text, filled, texts_of
 from office import Office
 from seen import Rows
 from settings import Fault
+from times import now
 from worker import Worker
 
 MOST_PAUSE, LEAST_PAUSE, LOOKS = 15.0, 0.5, 10  # seconds between two looks, of which some come before a receipt is due

@@ -16,6 +16,7 @@ from dataclasses import dataclass, field
 from pathlib import Path
 from typing import Any
 
+import times
 from copies import make_whole
 from journal import spoken_of
 from languages import _, in_english, speaking, spoken
@@ -130,7 +131,7 @@ class Worker:  # pylint: disable=too-many-instance-attributes  # the parts of th
         """How many servers have ended by themselves, when the last one did, how many seconds ago, and with what status."""
         if not self.ends:
             return None
-        at = datetime.datetime.fromtimestamp(self.ended_at).astimezone().isoformat(timespec="seconds")
+        at = times.noted(datetime.datetime.fromtimestamp(self.ended_at))
         return {"times": self.ends, "at": at, "ago": round(abs(time.time() - self.ended_at)), "status": self.status}
 
     def end(self) -> None:
