@@ -73,7 +73,7 @@ def about(office: Office, person: str) -> dict[str, Any]:
     with office.copies.copied() as copy:
         kept = kept_in(copy, person)
     backups = office.backups
-    names = [name for name in backups.names() if has_person(backups.folder / name / office.settings.file.name, person)]
+    names = [name for name in backups.names() if has_person(backups.file_of(name), person)]
     stays = backups.stays(backups.days())
     return {**kept, "copies": [[name, stays[name].until] for name in names if name in stays],
             "journal": entries_of(office.settings.journal, person)}

@@ -9,10 +9,8 @@ import csv
 import io
 import json
 import re
-import sqlite3
 import threading
 import unicodedata
-from contextlib import closing
 from pathlib import Path
 from typing import Any, NamedTuple
 
@@ -21,7 +19,7 @@ from journal import Journal
 from languages import _
 from lines import IDENTIFIER
 from placing import replace_file
-from rows import View
+from rows import View, keys_in
 from settings import Fault, unwritten
 
 # How the person of an account is found.
@@ -206,17 +204,11 @@ class ClerkRequests:
         return self.show(job)
 
 
-def keys_of(file: Path) -> dict[str, Any]:
-    """The keys of a copy, by person."""
-    with closing(sqlite3.connect(file)) as database:
-        return dict(database.execute("SELECT id, passkey FROM person"))
-
-
 class KeyRequests:  # pylint: disable=too-few-public-methods  # there is one question
     """What is asked by the socket of signed_in.py: the key of an account's person, and nothing else."""
 
     def __init__(self, accounts: Accounts, copies: Copies) -> None:
-        self.accounts, self.view = accounts, View(copies, keys_of)
+        self.accounts, self.view = accounts, View(copies, keys_in)
 
     def answer(self, job: dict[str, Any]) -> dict[str, Any]:
         """The key; an empty one where nobody in the register has the account."""

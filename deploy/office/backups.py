@@ -104,6 +104,10 @@ class Backups:
             return []
         return sorted(one.name for one in self.folder.iterdir() if NAME.fullmatch(one.name) and one.is_dir())
 
+    def file_of(self, name: str) -> Path:
+        """The office's file in a kept copy."""
+        return self.folder / name / self.settings.file.name
+
     def age(self) -> float | None:
         """How old the newest copy that was asked for is, in seconds; below zero if its time is to come."""
         name = next((name for name in reversed(self.names()) if self.entry(name)["kind"] == ASKED_FOR), None)
@@ -163,7 +167,7 @@ class Backups:
 
     def take(self, name: str, target: Path) -> None:
         """Puts a kept copy over another copy, as one file."""
-        source = self.folder / name / target.name
+        source = self.file_of(name)
         if not NAME.fullmatch(name) or not source.is_file():
             raise Fault(_("there is no copy {name}. See them all: {command}", name=repr(name),
                           command=self.settings.place.command("rooms-office backups")))

@@ -9,8 +9,8 @@ from beside_register import BesideRegister
 from branches import Branches
 from office import Office
 from parting import Parting, people_in
-from program import Answer, correct, is_of_earlier_version, keys_in
-from rows import rows_of
+from program import Answer, correct, is_of_earlier_version
+from rows import keys_in, rows_of
 from seen import Rows
 
 

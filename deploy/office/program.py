@@ -89,12 +89,6 @@ def correct(people: dict[str, dict[str, str]], copy: Path) -> None:
                 raise Fault(_("nobody has the identifier {person}. Nothing was changed.", person=repr(person)))
 
 
-def keys_in(copy: Path) -> dict[str, str]:
-    """The key of each person in a copy."""
-    with contextlib.closing(sqlite3.connect(copy)) as database:
-        return dict(database.execute("SELECT id, passkey FROM person"))
-
-
 class Program:
     """The program, as the keeper runs it."""
 

@@ -45,6 +45,12 @@ def names_in(file: Path) -> dict[str, str]:
         return dict(database.execute("SELECT id, name FROM person"))
 
 
+def keys_in(file: Path) -> dict[str, str]:
+    """The key of each person in the register of a copy."""
+    with contextlib.closing(sqlite3.connect(file)) as database:
+        return dict(database.execute("SELECT id, passkey FROM person"))
+
+
 def records_of(body: bytes) -> Iterator[list[str]]:
     """The records of a kept list, as far as it can be read."""
     with contextlib.suppress(csv.Error):
