@@ -19,6 +19,7 @@ from journal import Journal
 from languages import _
 from lines import IDENTIFIER
 from placing import replace_file
+from register import people_in
 from rows import View, keys_in
 from settings import Fault, unwritten
 
@@ -198,7 +199,7 @@ class ClerkRequests:
         rule, text = job["rule"], job.get("list", "")
         if not isinstance(rule, str) or not isinstance(text, str):
             raise Fault("not understood: rule or list is no text")
-        people = people_of(text, {row[0] for row in self.view.rows()["people"]}) if rule == LIST else {}
+        people = people_of(text, people_in(self.view.rows())) if rule == LIST else {}
         with self.journal.change(job["who"], f"accounts {rule}: {len(people)}"):
             self.accounts.put(rule, people)
         return self.show(job)

@@ -19,6 +19,7 @@ from figures_counted import ALL, TABLES, Counts, Tables, coarse
 from languages import _
 from lines import verb_of
 from placing import beside, replace_file
+from register import going_in, homes_in
 from rows import rows_of
 from seen import Rows
 from settings import Fault
@@ -41,8 +42,8 @@ class Round(NamedTuple):
 
 def round_of(rows: Rows) -> Round:
     """The figures of a round that is published."""
-    homes = {row[0]: row[2] for row in rows["people"]}
-    moves = any(homes.get(person) != room for person, room in rows["results"]) or any(homes.get(one) for one, in rows["going"])
+    homes = homes_in(rows)
+    moves = any(homes.get(person) != room for person, room in rows["results"]) or any(map(homes.get, going_in(rows)))
     tables = coarse(Counts(rows).tables())
     if not tables:
         raise Fault(_("the results contradict each other"))

@@ -13,6 +13,7 @@ from copies import kept_copy
 from languages import _
 from office import Office
 from parting import Parting
+from register import going_in, withdrawn_in
 from rows import View, rows_of
 from seen import Rows
 from settings import Fault
@@ -51,8 +52,7 @@ def rounds(backups: Backups, now: Rows) -> list[tuple[str, int, str]]:
 def had_in(rows: Rows) -> dict[str, Any]:
     """What a round had: who had withdrawn, who was to leave the college, and all lists, also of these people."""
     return {"number": rows["number"], "phase": rows["phase"], "choices": rows["choices"],
-            "withdrawn": [person for person, _, _, withdrawn in rows["people"] if withdrawn],
-            "going": [person for person, in rows["going"]]}
+            "withdrawn": withdrawn_in(rows), "going": going_in(rows)}
 
 
 def given_up(office: Office, view: View, name: str | None) -> dict[str, Any]:

@@ -57,8 +57,9 @@ from lines import IDENTIFIER, gone_by, name_shows_a_key, named, only_reads, reas
 from mail import Post
 from office import Office
 from program import NOT_UNDERSTOOD, Answer, correct, is_refused
+from register import homes_in, takes_part
 from rows import identifiers_in, rows_of
-from seen import Rows, takes_part
+from seen import Rows
 from settings import Fault
 from watching import watch
 from worker import CarryOut, Change, Worker
@@ -271,7 +272,7 @@ class Requests:
             raise Fault("not understood: an identifier has up to twelve capital letters and digits")
 
         def carry_out(copy: Path) -> list[Answer]:
-            homes = {row[0]: row[2] for row in rows_of(copy)["people"]}
+            homes = homes_in(rows_of(copy))
             lines = [f"leave {person}"] if homes.get(person) else []
             lines += [f"remove {person}"] if person in homes else []
             answers = self.program.tell_all(lines, copy) if lines else []

@@ -20,6 +20,7 @@ from job import Job
 from journal import Journal
 from languages import ENGLISH, _, languages
 from placing import replace_file
+from register import people_in
 from rows import View
 from settings import Fault, unwritten
 
@@ -166,7 +167,7 @@ class LanguageRequests:
 
     def set_residents(self, job: Job, codes: dict[str, str]) -> int:
         """Sets languages of people, if they are as the sender saw them. Returns of how many."""
-        known, old = {row[0] for row in self.view.rows()["people"]}, self.kept.kept().residents
+        known, old = people_in(self.view.rows()), self.kept.kept().residents
         if strangers := [person for person, code in codes.items() if code and person not in known]:
             raise Fault(_("nobody has the identifier '{person}'. Nothing was changed.", person=strangers[0][:20]))
         if job.get("was") is not None and [old.get(person, "") for person in codes] != [job["was"]]:

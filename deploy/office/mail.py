@@ -33,6 +33,7 @@ from mail_state import State
 from mail_why import GIVEN_UP, RESTARTED, STOPPED, kept
 from mail_words import KINDS, RECEIPT, Text, faults_of, filled, is_address
 from office import Office
+from register import people_in
 from seen import why_stale
 from settings import Fault
 from times import now
@@ -141,7 +142,7 @@ class Post:  # pylint: disable=too-many-instance-attributes  # the parts of the 
         new = job["addresses"]
         if not isinstance(new, dict) or not all(isinstance(one, str) and (one == "" or is_address(one)) for one in new.values()):
             raise Fault(_("one of these is no mail address. Nothing was changed."))
-        known = {row[0] for row in self.worker.view.rows()["people"]}
+        known = people_in(self.worker.view.rows())
         old = self.book.addresses()
         if strangers := [person for person in new if person not in known and new[person]]:
             raise Fault(_("nobody has the identifier {person}. Nothing was changed.", person=repr(strangers[0][:20])))
@@ -172,7 +173,7 @@ class Post:  # pylint: disable=too-many-instance-attributes  # the parts of the 
         if faults := faults_of(kind, text):
             return {"faults": faults}
         person, link = job["person"], link_in(job)
-        if person not in {row[0] for row in rows["people"]}:
+        if person not in people_in(rows):
             raise Fault(_("nobody has this identifier"))
         if kind == RECEIPT:
             since = self.receipts.book.entry(person).at or now()

@@ -12,6 +12,7 @@ from typing import Any, NamedTuple
 
 from mail_book import BEGUN, REFUSED, SENT, UNCERTAIN, WAITING, Book, forget_old
 from mail_words import RECEIPT
+from register import going_in, withdrawn_in
 from seen import Rows
 from times import now
 
@@ -78,9 +79,7 @@ class ReceiptBook:
         secret = self.book.setting(MARK).encode()
         found = {person: hashlib.blake2b(" ".join(rooms).encode(), digest_size=12, key=secret).hexdigest()
                  for person, rooms in rows["choices"].items() if rooms}
-        found.update((person, "withdrawn") for person, _name, _home, withdrawn in rows["people"] if withdrawn)
-        found.update((person, AWAY) for person, in rows["going"])
-        return found
+        return {**found, **dict.fromkeys(withdrawn_in(rows), "withdrawn"), **dict.fromkeys(going_in(rows), AWAY)}
 
     def entries(self) -> dict[str, Entry]:
         """What is written down of each person."""

@@ -21,6 +21,7 @@ from mail_settings import MailSettings, read
 from mail_why import FAILED, MANY_REFUSED, NOBODY_KNOWS, TAKES_NONE, kept
 from mail_words import RECEIPT, Text, filled, texts_of
 from office import Office
+from register import people_in
 from seen import Rows
 from settings import Fault
 from times import now
@@ -169,7 +170,7 @@ class Receipts:  # pylint: disable=too-many-instance-attributes  # the parts of 
             at = now()
             changed = {one: Entry(mark, at, entry.told) for one in dict.fromkeys([*entries, *marks])
                        if (mark := marks.get(one, NOTHING)) != (entry := entries.get(one, NONE)).now}
-            known = {row[0] for row in rows["people"]}
+            known = people_in(rows)
             gone = [one for one in entries if one not in known]
             if changed or gone:
                 self.book.saw({one: entry for one, entry in changed.items() if one in known}, gone)

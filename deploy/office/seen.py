@@ -9,6 +9,7 @@ import json
 from typing import Any, NamedTuple
 
 from languages import N_, _
+from register import going_in
 
 Rows = dict[str, Any]
 
@@ -36,12 +37,6 @@ class Saw(NamedTuple):
     mark: str
 
 
-def takes_part(rows: Rows) -> list[str]:
-    """Who takes part in the round."""
-    going = {person for person, in rows["going"]}
-    return [person for person, _name, _home, withdrawn in rows["people"] if not withdrawn and person not in going]
-
-
 def stamp(rows: Rows) -> str:
     """The state of the round."""
     return f"round {rows['number']} {rows['phase']}"
@@ -50,7 +45,7 @@ def stamp(rows: Rows) -> str:
 def saw(rows: Rows, part: str, people: list[str]) -> Saw:
     """What rows say of people."""
     known, grades = {person: row for person, *row in rows["people"]}, dict(rows["grades"])
-    going = {row[0] for row in rows["going"]}
+    going = set(going_in(rows))
     found: list[Any] = []
     for person in people:
         name, home, withdrawn = known.get(person, (None, None, None))

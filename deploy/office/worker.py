@@ -22,6 +22,7 @@ from journal import spoken_of
 from languages import _, in_english, speaking, spoken
 from office import Office
 from program import Answer, Unanswered, is_refused
+from register import people_in
 from rows import View, identifiers_in
 from seen import Saw, why_stale
 from settings import Fault
@@ -232,7 +233,7 @@ class Worker:  # pylint: disable=too-many-instance-attributes  # the parts of th
     def prepare(self, change: Change) -> None:
         """Has what is beside the register follow a change of it that is carried out in place."""
         if change.register and (change.come or change.gone):
-            now = {row[0] for row in self.view.rows(still=True)["people"]}
+            now = people_in(self.view.rows(still=True))
             change.register(change.come - now, change.gone & now)
 
     def note_end(self, change: Change, number: str, began: float, last: Answer, known: bool = True) -> None:

@@ -3,6 +3,7 @@
 from typing import Any, NamedTuple
 
 from languages import _
+from register import going_in
 from seen import Saw, saw, stamp
 
 import plain
@@ -49,7 +50,7 @@ class Office:  # pylint: disable=too-many-instance-attributes  # each is a part 
         self.version: int = view["version"]
         self.number: int = view["number"]
         self.phase: str = view["phase"]
-        grades, going = dict(view["grades"]), {row[0] for row in view["going"]}
+        grades, going = dict(view["grades"]), set(going_in(view))
         self.people = {row[0]: Person(row[0], row[1], row[2], bool(row[3]), row[0] in going, grades.get(row[0], 0))
                        for row in view["people"]}
         self.rooms = {row[0]: Room(row[0], bool(row[1]), row[2]) for row in view["rooms"]}
