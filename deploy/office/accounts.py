@@ -17,7 +17,7 @@ from typing import Any, NamedTuple
 from copies import Copies
 from journal import Journal
 from languages import _
-from lines import IDENTIFIER
+from lines import IDENTIFIER, LONGEST_LIST
 from placing import replace_file
 from register import people_in
 from rows import View, keys_in
@@ -34,7 +34,6 @@ RULES = {
 SMALL = re.compile(r"[a-z0-9]{1,12}")  # an identifier in small letters: no other letter becomes one of these capitals
 HEADING = ["person", "account"]
 LONGEST = 128  # signs of an account's name
-LONGEST_LIST = 262_144  # bytes
 
 
 class Kept(NamedTuple):

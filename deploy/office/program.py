@@ -16,8 +16,8 @@ from pathlib import Path
 from typing import NamedTuple
 
 from languages import _
-from line_run import UNAVAILABLE, Ended, LineRun, is_skipped, status_of
-from lines import name_shows_a_key, shows_a_key, verb_of
+from line_run import Ended, LineRun, is_skipped, status_of
+from lines import UNAVAILABLE, name_shows_a_key, shows_a_key, verb_of
 from settings import Fault, Settings
 
 SEED = re.compile(r"[0-9A-Fa-f]{64}")

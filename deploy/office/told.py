@@ -21,7 +21,7 @@ from typing import Any
 from job import Job
 from journal import Journal
 from languages import N_, _, in_english
-from lines import name_shows_a_key
+from lines import CODE, name_shows_a_key
 from placing import replace_file
 from settings import Fault, unwritten
 
@@ -30,7 +30,6 @@ Value = dict[str, Any]
 FILE = "told.json.gz"
 PART = ".part"
 PICTURE = re.compile(r"[0-9a-f]{32}\.jpg")
-CODE = re.compile(r"[A-Z0-9][A-Z0-9-]{0,7}")
 LANGUAGE = re.compile(r"[a-z]{2,3}(-[A-Za-z0-9]{1,8})?")
 JPEG = b"\xff\xd8\xff"
 # An answer up to this size fits into a buffer of HAProxy (`tune.bufsize` in haproxy.cfg), so no slow reader holds the server.

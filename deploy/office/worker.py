@@ -20,6 +20,7 @@ import times
 from copies import make_whole
 from journal import spoken_of
 from languages import _, in_english, speaking, spoken
+from lines import NOT_TAKEN
 from office import Office
 from program import Answer, Unanswered, is_refused
 from register import people_in
@@ -29,7 +30,6 @@ from settings import Fault
 
 FIRST_PAUSE, LONGEST_PAUSE = 0.2, 5.0  # seconds before a server is started again that has ended by itself
 LIVED = 2.0                            # a server that ran for so long has worked: the pause begins anew
-REFUSED = (1, 2)                       # statuses of a server that another start does not help
 
 
 CarryOut = Callable[[Path], list[Answer]]
@@ -316,5 +316,5 @@ class Worker:  # pylint: disable=too-many-instance-attributes  # the parts of th
         self.ends, self.ended_at = self.ends + 1, time.time()
         if served:
             self.pause = FIRST_PAUSE
-        if ended.status not in REFUSED:
+        if ended.status not in NOT_TAKEN:
             self.start_later()

@@ -24,6 +24,7 @@ from bottle import HTTPResponse, request
 
 import times
 from languages import ENGLISH, N_, _, accepted, first_of, languages, speak, spoken
+from lines import UNAVAILABLE
 
 import keeper_client
 import plain
@@ -38,7 +39,6 @@ HERE = Path(__file__).resolve().parent
 # As in haproxy.cfg. A list that is too long comes as far as this page, which says so: where the proxy answers before all
 # of a body is there, some clients of HTTP/2, such as curl, report a failure in place of the answer.
 LONGEST_FORM = 5_000_000
-UNAVAILABLE = 3  # the program's status if the file, the disk or the memory failed
 HEADERS = {
     "Content-Security-Policy": "default-src 'none'; style-src 'self'; img-src 'self' data:; form-action 'self'; "
                                "base-uri 'none'; frame-ancestors 'none'",

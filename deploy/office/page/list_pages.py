@@ -6,6 +6,7 @@ from typing import Any, NamedTuple, NoReturn
 
 from journal import masked
 from languages import N_, _
+from lines import LONGEST_LIST
 from seen import Saw
 
 import known_people
@@ -128,7 +129,7 @@ def look_at_list() -> str:
     except NotUnderstood as fault:
         found = Findings([], fault.meaning, False)
         return show("faults", office=office, job=Job(kind, label, b""), found=found, answer="", beside=NOBODY, read=None)
-    if len(read.body) > plain.LONGEST_LIST:
+    if len(read.body) > LONGEST_LIST:
         tell("bad", _(plain.TOO_LONG))
         go_to("/office/lists")
     if kind == "people" and not office.rooms and known_people.names_rooms(read.table):

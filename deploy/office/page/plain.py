@@ -149,7 +149,6 @@ KINDS = {
     "choices": Kind("person,choices", N_("Identifier, and the room codes, the best first, with one space between two."),
                     ("open",), 1),
 }
-LONGEST_LIST = 262_144
 # What residents read of rooms comes as a list too, which the program knows nothing of.
 DESCRIPTIONS = "descriptions"
 OWN_KINDS = {

@@ -8,6 +8,7 @@ import re
 from typing import Any, NamedTuple
 
 from languages import N_, _, languages, ngettext
+from lines import LONGEST_LIST
 from told import FIELDS, LONGEST_CAPTION, LONGEST_CONTACT, LONGEST_NOTICE, MOST_OF_ROOM, PICTURE
 
 import pictures
@@ -102,7 +103,7 @@ def look_at_rooms() -> str:
         read = understanding.read(plain.DESCRIPTIONS, body)
     except NotUnderstood as fault:
         return show("told_faults", office=office, whole=fault.meaning, faults=list[Fault]())
-    if len(read.body) > plain.LONGEST_LIST:
+    if len(read.body) > LONGEST_LIST:
         tell("bad", _(plain.TOO_LONG))
         go_to(PLACE)
     said = told_rooms.described(read.table)
