@@ -19,7 +19,7 @@ from pathlib import Path
 from typing import Any
 
 from languages import N_, in_english
-from lines import LIKE_A_KEY, STEPS, on_one_line, verb_of
+from lines import BY_SEED, LIKE_A_KEY, SEED, STEPS, on_one_line, verb_of
 from placing import part_of, replace_file
 from settings import Fault, unwritten
 from times import now
@@ -40,8 +40,8 @@ KEY = N_("(key)")  # in the place of what may be a key
 WISHES = re.compile(r"(choose \S+|chosen)((?: (?!\()\S+)*)")
 COUNTED = re.compile(rb"\(\d+ rooms?\)")
 OWN = ("fault: ", "not known: ")  # the keeper's own answers begin so
-SEED = re.compile(r"seed [0-9A-Fa-f]{64}\b")
-SEEDS = re.compile(r"^(?:seed|draw \$\(rooms words --seed) ([0-9A-Fa-f]{64})\b")
+NOTED_SEED = re.compile(rf"seed {SEED.pattern}\b")
+SEEDS = re.compile(rf"^(?:seed|{re.escape(BY_SEED)}) ({SEED.pattern})\b")
 TAIL = 4 << 20   # bytes: so much of the end of the journal is read
 ANSWER = 300     # signs of an answer that are kept
 NOTE = 600       # signs of a note that are kept: a seed, and up to 400 of what the witnesses saw
@@ -90,7 +90,7 @@ def masked_note(text: str) -> str:
     """A note as the journal has it: on one line, so that no part of it looks like an entry of its own. It has a seed as
     it is: a seed is public. No note fills the journal."""
     text = on_one_line(text)
-    seed = SEED.match(text)
+    seed = NOTED_SEED.match(text)
     return (seed[0] + masked(text[seed.end():]) if seed else masked(text))[:NOTE]
 
 

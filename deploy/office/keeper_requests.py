@@ -53,7 +53,7 @@ from job import Job, again_in, body_of, lines_of, saw_in, seen_in, text
 from journal import masked, masked_line, masked_note, spoken_of
 from languages import ENGLISH, _, speaking
 from languages_kept import LanguageRequests
-from lines import IDENTIFIER, gone_by, name_shows_a_key, named, only_reads, reason_to_copy, verb_of
+from lines import BY_SEED, IDENTIFIER, gone_by, name_shows_a_key, named, only_reads, reason_to_copy, verb_of
 from mail import Post
 from office import Office
 from program import NOT_UNDERSTOOD, Answer, correct, is_refused
@@ -218,7 +218,7 @@ class Requests:
         """The draw by a seed."""
         seed, count = text(job, "seed"), len(takes_part(self.worker.view.rows()))
         line = " ".join(["draw", *self.program.words(seed, count)])
-        spoken = f"draw $(rooms words --seed {seed} --count {count})"
+        spoken = f"{BY_SEED} {seed} --count {count})"
         change = self.change_of(job, ("draw", spoken), "draw", lambda file: [self.program.tell(line, file)])
         return told_of(self.worker.change(change))
 

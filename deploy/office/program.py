@@ -6,7 +6,6 @@ Every account of the machine can read the command lines of all processes. So lin
 
 import contextlib
 import os
-import re
 import sqlite3
 import subprocess
 import tempfile
@@ -17,10 +16,9 @@ from typing import NamedTuple
 
 from languages import _
 from line_run import Ended, LineRun, is_skipped, status_of
-from lines import UNAVAILABLE, name_shows_a_key, shows_a_key, verb_of
+from lines import SEED, UNAVAILABLE, name_shows_a_key, shows_a_key, verb_of
 from settings import Fault, Settings
 
-SEED = re.compile(r"[0-9A-Fa-f]{64}")
 FURTHER, MOST = 0.02, 2_000  # seconds for each further line of a bundle, and for how many of them at most
 PATIENCE = 5.0               # seconds until a program by hand has to have closed the office's file
 AGAIN = 0.05                 # seconds after which the program tries again whether it has

@@ -11,10 +11,10 @@ import shlex
 from typing import Any, NamedTuple
 
 import times
-from lines import NOT_TAKEN
+from lines import BY_SEED, NOT_TAKEN, SEED
 
-NOTED = re.compile(r"seed ([0-9A-Fa-f]{64})\b ?(.*)", re.DOTALL)
-DRAWN = re.compile(r"draw \$\(rooms words --seed ([0-9A-Fa-f]{64})")
+NOTED = re.compile(rf"seed ({SEED.pattern})\b ?(.*)", re.DOTALL)
+DRAWN = re.compile(rf"{re.escape(BY_SEED)} ({SEED.pattern})")
 OF_TEXT = "SHA-256 of "
 STRUCK = "struck out"  # what is noted of a seed that was noted by mistake
 UNEXPLAINED = "without a word on how it came about"

@@ -7,7 +7,7 @@ from typing import NamedTuple
 
 from journal import masked
 from languages import N_, _, ngettext
-from lines import on_one_line
+from lines import SEED, on_one_line
 from seeds import OF_TEXT, STRUCK, UNEXPLAINED, Noted, Seeds, noted_seeds
 
 import plain
@@ -15,7 +15,6 @@ from app import app, ask, change, clerk, drawn_order, field, go_to, memory, offi
 from office_view import Office
 from questions import Question, put_question
 
-SEED = re.compile(r"[0-9a-f]{64}")
 # Throws of a die, with anything between them that is no letter and no other digit.
 THROWS = re.compile(r"(?:[1-6]|[^\w])+")
 ENOUGH = 50  # throws of a die are 129 bits
