@@ -247,7 +247,7 @@ class Dates:
         """Closes the round, after a copy of the office, as if the clerk had done it now. If that fails, it tries again later."""
         program, who = self.office.program, f"the date that {until.who} set"
         change = Change(who, "close", lambda file: [program.tell("close", file)], kind="close",
-                        why=f"before close, by {who}", seen=stamp({"number": until.round, "phase": "open"}))
+                        before="close", seen=stamp({"number": until.round, "phase": "open"}))
         try:
             answers = self.worker.change(change).answers
             fault = Why(ANSWERED, {"answer": answers[-1].text.strip()}) if is_refused(answers) else None

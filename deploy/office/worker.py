@@ -45,7 +45,7 @@ class Change:  # pylint: disable=too-many-instance-attributes  # what is asked f
     carry_out: CarryOut                         # on a copy, or on the office's file
     whole: bool = False                         # on a copy, which then replaces the file: all takes effect or nothing
     kind: str = ""                              # the kind of the copy that is kept before, or none
-    why: str = ""
+    before: str = ""                            # what the reason of this copy says that it was kept before
     damaged: bool = False                       # even if the office is damaged
     register: Register | None = None            # learns who comes into the register and who leaves, before they do
     before_put: Callable[[], None] | None = None  # done once the copy is the office to be, before it takes the office's place
@@ -62,6 +62,11 @@ class Change:  # pylint: disable=too-many-instance-attributes  # what is asked f
     fault: str = ""
     wanted: threading.Lock = field(default_factory=threading.Lock)  # taken to make the change, or to give it up
     done: threading.Event = field(default_factory=threading.Event)
+
+    @property
+    def why(self) -> str:
+        """Why the copy is kept. The office's page reads it (reasons.py)."""
+        return f"before {self.before}, by {self.who}"
 
     def end(self, fault: str) -> None:
         """Ends a change that is not made."""
