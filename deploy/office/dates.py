@@ -23,7 +23,7 @@ from mail_why import FAILED
 from office import Office
 from placing import replace_file
 from program import is_refused
-from seen import Rows, stamp, why_stale
+from seen import Rows, stamp, stamp_of, why_stale
 from settings import Fault, unwritten
 from told import mark_of
 from worker import Change, Worker
@@ -63,6 +63,10 @@ class Until(NamedTuple):
     def moment(self) -> datetime.datetime:
         """The moment."""
         return datetime.datetime.fromisoformat(self.at)
+
+    def is_of(self, rows: Rows) -> bool:
+        """Whether its round is open in these rows."""
+        return stamp(rows) == stamp_of(self.round, "open")
 
     def is_past(self) -> bool:
         """Whether the moment is over."""
@@ -173,7 +177,7 @@ class Dates:
             raise Fault(_("not understood: at is no text, or closes is not true or false"))
         with self.lock:
             rows = self.worker.view.rows()
-            if job.get("seen") is not None and (why := why_stale(rows, job["seen"], None)):
+            if why := why_stale(rows, job.get("seen"), None):
                 raise Fault(why)
             if job.get("saw") is not None and job["saw"] != mark_of(self.until):
                 raise Fault(_(CHANGED))
@@ -224,7 +228,7 @@ class Dates:
             until = self.until
             if until is not None:
                 rows = self.worker.view.rows()
-                if (rows["number"], rows["phase"]) != (until.round, "open"):
+                if not until.is_of(rows):
                     self.forget()
                 elif until.closes and until.is_past() and time.monotonic() >= self.due:
                     self.close(until)
@@ -235,7 +239,7 @@ class Dates:
         if a round of the same number has been opened since."""
         with self.lock, contextlib.suppress(Fault, OSError):  # then the next look forgets it
             until = self.until
-            if until is not None and (then["number"], then["phase"]) != (until.round, "open"):
+            if until is not None and not until.is_of(then):
                 self.forget()
 
     def forget(self) -> None:
@@ -246,8 +250,8 @@ class Dates:
     def close(self, until: Until) -> None:
         """Closes the round, after a copy of the office, as if the clerk had done it now. If that fails, it tries again later."""
         program, who = self.office.program, f"the date that {until.who} set"
-        change = Change(who, "close", lambda file: [program.tell("close", file)], kind="close",
-                        before="close", seen=stamp({"number": until.round, "phase": "open"}))
+        change = Change(who, "close", lambda file: [program.tell("close", file)], kind="close", before="close",
+                        seen=stamp_of(until.round, "open"))
         try:
             answers = self.worker.change(change).answers
             fault = Why(ANSWERED, {"answer": answers[-1].text.strip()}) if is_refused(answers) else None

@@ -13,7 +13,7 @@ from mail_settings import MailSettings, must_read
 from mail_why import FAILED, GONE_ON, MANY_REFUSED, NOBODY_KNOWS, TAKES_NONE, kept
 from mail_words import KINDS, Text, filled
 from office import Office
-from seen import Rows, stamp
+from seen import Rows, stamp, stamp_of
 from settings import Fault
 from worker import Worker
 
@@ -95,7 +95,7 @@ class Sender:
         person = self.book.waiting()
         if run is None or not person:
             self.end_run(run, "")
-        elif stamp(rows) != f"round {run.round} {KINDS[run.kind].phase}":
+        elif stamp(rows) != stamp_of(run.round, KINDS[run.kind].phase):
             self.end_run(run, GONE_ON)
         elif self.in_a_row >= IN_A_ROW:
             self.pause(kept(MANY_REFUSED, count=IN_A_ROW))

@@ -37,9 +37,14 @@ class Saw(NamedTuple):
     mark: str
 
 
+def stamp_of(number: int, phase: str) -> str:
+    """The state of a round."""
+    return f"round {number} {phase}"
+
+
 def stamp(rows: Rows) -> str:
-    """The state of the round."""
-    return f"round {rows['number']} {rows['phase']}"
+    """The state of the round of now."""
+    return stamp_of(rows["number"], rows["phase"])
 
 
 def saw(rows: Rows, part: str, people: list[str]) -> Saw:

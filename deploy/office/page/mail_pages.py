@@ -8,6 +8,7 @@ from typing import Any
 import times
 from languages import N_, _, languages, ngettext, spoken
 from mail_words import KINDS, RECEIPT, Text
+from seen import stamp_of
 
 import explaining
 from app import app, ask, field, go_to, office_now, residents_page, show, tell, text_of
@@ -46,7 +47,7 @@ def in_words(at: str) -> str:
 @app.get(HOME)
 def mail() -> str:
     """Who has an address, what is being sent, and the kinds of messages."""
-    return show("mail", office=office_now(), mail=ask("mail"), kinds=KINDS, in_words=in_words)
+    return show("mail", office=office_now(), mail=ask("mail"), kinds=KINDS, in_words=in_words, stamp_of=stamp_of)
 
 
 # --- a kind of message
