@@ -7,13 +7,11 @@ import datetime
 import times
 from languages import ENGLISH, _, ngettext, spoken
 from mail_words import RECEIPT
+from plan_of_moves import LEAVES, NONE, SWAP, moves_in
 from program import Program
 from copies import Copies
 from register import homes_in, people_in, takes_part, withdrawn_in
 from seen import Rows
-
-NONE = "none"  # as the program says it in a plan of moves, and an English message
-LEAVES, SWAP = "0", "swap"
 
 
 def goes_to(kind: str, rows: Rows, moves: dict[str, list[str]]) -> list[str]:
@@ -44,8 +42,8 @@ def planned_moves(rows: Rows, program: Program, copies: Copies) -> dict[str, lis
         return {}
     with copies.copied() as copy:
         answer = program.tell_all(["settle", f"moves {rows['number']}"], copy)[-1]
-    lines = [line.split() for line in answer.text.splitlines()[1:]] if answer.status == 0 else []
-    return {person: [wave, old, new] for wave, person, old, new in lines}
+    moves = moves_in(answer.text) if answer.status == 0 else []
+    return {move.person: [move.wave, move.old, move.new] for move in moves}
 
 
 def none() -> str:

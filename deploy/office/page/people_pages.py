@@ -7,6 +7,7 @@ import unicodedata
 from journal import masked
 from languages import _
 from lines import IDENTIFIER
+from plan_of_moves import NONE
 
 import explaining
 import plain
@@ -22,7 +23,6 @@ from slips import show_once
 MOST_SHOWN = 200
 # Letters that are no letter with a mark.
 LIKE = {"þ": "th", "ð": "d", "đ": "d", "ø": "o", "æ": "ae", "œ": "oe", "ł": "l", "ı": "i"}
-NO_ROOM = "none"  # as the program calls it
 
 
 def plain_letters(text: str) -> str:
@@ -81,7 +81,7 @@ def what_if(ident: str) -> None:
         tell("bad", str(plain.meaning(answer.text)))
         go_to(place)
     listed, room = wishes or _("(empty)"), answer.text.split()[-1]  # it answers `would get ROOM`, or `would get none`
-    tell("good", _("By the list {wishes} this person would get none.", wishes=listed) if room == NO_ROOM else
+    tell("good", _("By the list {wishes} this person would get none.", wishes=listed) if room == NONE else
          _("By the list {wishes} this person would get {room}.", wishes=listed, room=room))
     go_to(place)
 
