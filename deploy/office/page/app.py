@@ -183,6 +183,16 @@ def ask(question: str, **fields: Any) -> dict[str, Any]:
     return keeper_client.ask(question, clerk(), **fields)
 
 
+def is_done(question: str, **fields: Any) -> bool:
+    """Whether the keeper has done what it was asked to do; else the clerk reads why not."""
+    try:
+        ask(question, **fields)
+    except KeeperFault as fault:
+        tell("bad", _("This could not be done. {why}", why=plain.begun(str(fault))))
+        return False
+    return True
+
+
 def office_now() -> Office:
     """The office at this moment."""
     return Office(ask("view"))

@@ -53,7 +53,7 @@ def source_of(noted: Noted) -> str:
     """How a seed came about, with the number of throws."""
     text = noted.source.removeprefix(OF_TEXT)
     if text == noted.source:  # it may be in a clerk's own words
-        return _(SOURCES[text]) if text in SOURCES else text[:1].upper() + text[1:]
+        return _(SOURCES[text]) if text in SOURCES else plain.begun(text)
     throws = throws_in(text)
     if not throws:
         return _("SHA-256 of {source}", source=text)

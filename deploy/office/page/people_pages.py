@@ -11,8 +11,8 @@ from plan_of_moves import NONE
 
 import explaining
 import plain
-from app import app, ask, attempt, change, clerk, field, go_to, memory, office_now, saw, show, tell, text_of, ticked
-from keeper_client import KeeperFault, WasAnothers
+from app import app, attempt, change, clerk, field, go_to, is_done, memory, office_now, saw, show, tell, text_of, ticked
+from keeper_client import WasAnothers
 from kept_beside import erased_with
 from mail_lists import address_of
 from office_view import Office, Person
@@ -123,12 +123,7 @@ def correct_name(ident: str) -> None:
 
 def correct(part: str, ident: str, value: str) -> bool:
     """Gives a person another name or key. Whether that was done; else the clerk reads why not."""
-    try:
-        ask("correct", person=ident, seen=field("seen"), saw=saw(part, ident), **{part: value})
-    except KeeperFault as fault:
-        tell("bad", _("This could not be done. {fault}", fault=plain.begun(str(fault))))
-        return False
-    return True
+    return is_done("correct", person=ident, seen=field("seen"), saw=saw(part, ident), **{part: value})
 
 
 def question_of(office: Office, ident: str, act: str) -> Question | None:

@@ -54,7 +54,7 @@ def tell_keeper(question: str, good: str, **fields: Any) -> bool:
     try:
         ask(question, **fields)
     except KeeperFault as fault:
-        tell("bad", f"{str(fault)[:1].upper()}{str(fault)[1:]}")
+        tell("bad", plain.begun(str(fault)))
         return False
     tell("good", good)
     return True
