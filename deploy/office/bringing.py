@@ -19,7 +19,7 @@ from typing import NamedTuple
 
 import house_list
 import times
-import told
+import told_files
 from house_places import Place
 from journal import Journal
 from machine_backup import FILES, STATE, TOLD, About, Kept
@@ -179,7 +179,7 @@ class Rest:
             folder.mkdir(mode=0o755)
             folder.chmod(0o755)
             shutil.chown(folder, account, pwd.getpwnam(account).pw_gid)
-        texts = [goal for goal in goals if goal.target.name == told.FILE]
+        texts = [goal for goal in goals if goal.target.name == told_files.FILE]
         for goal in goals:
             said = bring(goal, owner)
             if goal in texts:

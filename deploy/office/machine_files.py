@@ -10,11 +10,11 @@ import time
 from collections.abc import Callable, Iterator
 from pathlib import Path
 
-import told
 from house_places import Place
 from machine_backup import FILES, PLACES, STATE, TOLD, Kept
 from placing import beside
 from settings import Fault, Settings
+from told_files import is_own
 
 MACHINE = Path(os.environ.get("ROOMS_MACHINE", "/"))  # the trial has a machine of its own
 # The files of each part of the plain office, as patterns.
@@ -77,7 +77,7 @@ def told_files(settings: Settings) -> Iterator[tuple[str, str, int, os.stat_resu
     """The same of what residents read of rooms, if somebody has written something there."""
     for _folder, folders, names, held in os.fwalk(settings.told, follow_symlinks=False):
         folders.clear()
-        for name in filter(told.is_own, sorted(names)):
+        for name in filter(is_own, sorted(names)):
             with contextlib.suppress(FileNotFoundError):
                 found = os.stat(name, dir_fd=held, follow_symlinks=False)
                 if stat.S_ISREG(found.st_mode):

@@ -17,12 +17,10 @@ import json
 import os
 import socket
 from collections.abc import Callable, Iterable
-from pathlib import Path
 from typing import Any
 
-import waitress
-
 from languages import _, accepted, first_of, speaking
+from serving import serve
 
 PLACE = os.environ.get("ROOMS_SIGNED_IN_SOCKET", "/run/rooms-account.sock")
 KEEPER = os.environ.get("ROOMS_ACCOUNT_SOCKET", "/run/rooms-keys.sock")
@@ -128,12 +126,7 @@ def main() -> None:
     """Serves until it is ended."""
     os.umask(0o077)
     # A thread waits for each request that waits for its turn. The keeper takes twelve requests of an account at a time.
-    options = {"threads": 10, "max_request_body_size": LONGEST_BODY + 1, "clear_untrusted_proxy_headers": True, "ident": None}
-    if "LISTEN_FDS" in os.environ:
-        waitress.serve(app, sockets=[socket.socket(fileno=3)], **options)
-    else:
-        Path(PLACE).unlink(missing_ok=True)
-        waitress.serve(app, unix_socket=PLACE, **options)
+    serve(app, PLACE, threads=10, max_request_body_size=LONGEST_BODY + 1)
 
 
 if __name__ == "__main__":

@@ -24,12 +24,11 @@ from languages import N_, _, in_english
 from lines import CODE, name_shows_a_key
 from placing import replace_file
 from settings import Fault, unwritten
+from told_files import FILE, PICTURE
 
 Value = dict[str, Any]
 
-FILE = "told.json.gz"
 PART = ".part"
-PICTURE = re.compile(r"[0-9a-f]{32}\.jpg")
 LANGUAGE = re.compile(r"[a-z]{2,3}(-[A-Za-z0-9]{1,8})?")
 JPEG = b"\xff\xd8\xff"
 # An answer up to this size fits into a buffer of HAProxy (`tune.bufsize` in haproxy.cfg), so no slow reader holds the server.
@@ -42,11 +41,6 @@ LONGEST_NOTICE, LONGEST_CONTACT, LONGEST_CAPTION = 600, 200, 80
 MOST_ROOMS, MOST_PICTURES, MOST_OF_ROOM = 2_000, 2_000, 4
 CHANGED = N_("What residents read has changed since you opened the page. Nothing was changed: look again.")
 KEY = N_("This text has a word that may be a key, and anybody can read it. Nothing was changed: take the word out.")
-
-
-def is_own(name: str) -> bool:
-    """Whether a file of this name is one of what residents read."""
-    return name == FILE or bool(PICTURE.fullmatch(name))
 
 
 def nothing() -> Value:

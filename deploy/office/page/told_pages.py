@@ -9,7 +9,8 @@ from typing import Any, NamedTuple
 
 from languages import N_, _, languages, ngettext
 from lines import LONGEST_LIST
-from told import FIELDS, LONGEST_CAPTION, LONGEST_CONTACT, LONGEST_NOTICE, MOST_OF_ROOM, PICTURE
+from told import FIELDS, LONGEST_CAPTION, LONGEST_CONTACT, LONGEST_NOTICE, MOST_OF_ROOM
+from told_files import PICTURE
 
 import pictures
 import plain
