@@ -34,6 +34,7 @@ from codes import unbroken
 from keeper_client import Answer, KeeperFault, WasAnothers
 from memory import Memory
 from office_view import Office
+from sheet_limits import LONGEST_FILE
 
 HERE = Path(__file__).resolve().parent
 # As in haproxy.cfg. A list that is too long comes as far as this page, which says so: where the proxy answers before all
@@ -138,10 +139,17 @@ def text_of(name: str) -> str:
     return " ".join(field(name).split())
 
 
-def upload_of(name: str, longest: int) -> bytes:
-    """The bytes of a file in a form. One that is too long is cut behind the limit."""
-    upload = request.files.get(name)  # pylint: disable=no-member  # bottle makes it when it is asked for
-    return bytes(upload.file.read(longest + 1)) if upload else b""
+def list_sent() -> bytes:
+    """The bytes of a list in a form. One that is too long is cut behind the limit."""
+    upload = request.files.get("list")  # pylint: disable=no-member  # bottle makes it when it is asked for
+    return bytes(upload.file.read(LONGEST_FILE + 1)) if upload else b""
+
+
+def why_not_read(body: bytes) -> str:
+    """Why the bytes of a list are not even looked at, or nothing."""
+    if not body:
+        return _("Choose a list first.")
+    return _(plain.TOO_LONG) if len(body) > LONGEST_FILE else ""
 
 
 def uploads_of(name: str) -> list[tuple[str, bytes]]:

@@ -16,7 +16,7 @@ import list_slips
 import mail_lists
 import plain
 import understanding
-from app import app, ask, change, clerk, field, go_to, memory, office_now, show, tell, text_of, upload_of
+from app import app, ask, change, clerk, field, go_to, list_sent, memory, office_now, show, tell, text_of, why_not_read
 from columns import kind_name
 from csv_list import CsvList
 from keeper_client import Answer, WasAnothers, answers_of
@@ -27,7 +27,6 @@ from list_slips import Made
 from mail_lists import NO_ADDRESSES, Addresses
 from office_view import Office
 from questions import Question, put_question
-from sheet_limits import LONGEST_FILE
 from slips import Key
 from understanding import NotUnderstood, Understood
 
@@ -104,11 +103,8 @@ def former_on(job: Job) -> tuple[tuple[str, str], ...]:
 
 def what_is_wrong(office: Office, kind: str, label: str, body: bytes) -> str:
     """Why a list is not even tried, or nothing."""
-    if kind not in plain.kinds(office.version) or not body:
-        return _("Choose a list first.")
-    if len(body) > LONGEST_FILE:
-        return _(plain.TOO_LONG)
-    return _(plain.LABEL_LIKE_A_KEY) if masked(label) != label else ""
+    why = why_not_read(body if kind in plain.kinds(office.version) else b"")
+    return why or (_(plain.LABEL_LIKE_A_KEY) if masked(label) != label else "")
 
 
 @app.get("/office/lists")
@@ -120,7 +116,7 @@ def lists() -> str:
 @app.post("/office/lists")
 def look_at_list() -> str:
     """Reads a file and tries its list. If it fits, the page holds it until the clerk says to import it."""
-    office, kind, label, body = office_now(), text_of("kind"), text_of("label"), upload_of("list", LONGEST_FILE)
+    office, kind, label, body = office_now(), text_of("kind"), text_of("label"), list_sent()
     if wrong := what_is_wrong(office, kind, label, body):
         tell("bad", wrong)
         go_to("/office/lists")

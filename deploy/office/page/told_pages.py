@@ -16,12 +16,13 @@ import pictures
 import plain
 import told_rooms
 import understanding
-from app import app, ask, clerk, field, go_to, memory, office_now, residents_page, show, tell, text_of, upload_of, uploads_of
+from app import (app, ask, clerk, field, go_to, list_sent, memory, office_now, residents_page, show, tell, text_of, uploads_of,
+                 why_not_read)
 from keeper_client import KeeperFault
 from list_faults import Fault
 from office_view import Office
 from questions import Question, put_question
-from sheet_limits import LONGEST_FILE, Unreadable
+from sheet_limits import Unreadable
 from told_rooms import Rooms
 from understanding import NotUnderstood
 
@@ -96,9 +97,9 @@ def tell_words() -> str:
 @app.post(f"{PLACE}/rooms")
 def look_at_rooms() -> str:
     """Reads a list of descriptions. Nothing is on the residents' page before the clerk says so."""
-    office, body = office_now(), upload_of("list", LONGEST_FILE)
-    if not body or len(body) > LONGEST_FILE:
-        tell("bad", _(plain.TOO_LONG) if body else _("Choose a list first."))
+    office, body = office_now(), list_sent()
+    if why := why_not_read(body):
+        tell("bad", why)
         go_to(PLACE)
     try:
         read = understanding.read(plain.DESCRIPTIONS, body)
