@@ -68,7 +68,7 @@ def draw_page(name: str = "") -> str:
     order = drawn_order() if office.phase in plain.DRAWN else []
     seeds = seeds_of(office)
     return show("draw", office=office, order=order, seeds=seeds.found, drawn=seeds.drawn, since=seeds.since,
-                source_of=source_of, entered=entered)
+                source_of=source_of, entered=entered, shortest=SHORTEST_TEXT, longest=LONGEST_TEXT)
 
 
 def seed_of(way: str, text: str) -> tuple[str, str] | str:

@@ -7,7 +7,7 @@ from typing import Any
 
 import times
 from languages import N_, _, languages, ngettext, spoken
-from mail_words import KINDS, RECEIPT, Text
+from mail_words import KINDS, LONGEST_BODY, LONGEST_SUBJECT, RECEIPT, Text
 from seen import stamp_of
 
 import explaining
@@ -81,7 +81,8 @@ def kind_page(kind: str, language: str = "", ident: str = "", written: Text | No
         shown = ask("mail-show", kind=kind, language=language, person=ident, link=residents_page(), subject=text.subject,
                     body=text.body)
     return show("mail_kind", office=office, mail=mail_now, kind=kind, of=KINDS[kind], state=state, text=text, chosen=ident,
-                shown=shown, language=language, name_of=name_of, back=f"{HOME}/{kind}/in/{language}")
+                shown=shown, language=language, name_of=name_of, back=f"{HOME}/{kind}/in/{language}", most_subject=LONGEST_SUBJECT,
+                most_body=LONGEST_BODY)
 
 
 @app.get(f"{HOME}/<kind>")

@@ -7,6 +7,7 @@ import unicodedata
 from journal import masked
 from languages import _
 from lines import IDENTIFIER
+from mail_words import LONGEST_ADDRESS
 from plan_of_moves import NONE
 
 import explaining
@@ -68,7 +69,7 @@ def person_page(ident: str) -> str:
     person_of(office, ident)
     told = explaining.about(office, ident) if office.results else []
     return show("person", office=office, person=office.people[ident], told=told, address=address_of(office, ident),
-                language=own_of(ident))
+                language=own_of(ident), longest_address=LONGEST_ADDRESS)
 
 
 @app.post("/office/person/<ident>/whatif")

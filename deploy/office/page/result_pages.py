@@ -77,7 +77,8 @@ def letters() -> str:
             letter = letter_of(office, ident, explaining.to_resident(facts) if facts else [])
             written.append(views.render("letter", letter=letter, number=office.number, closing=closings[spoken()],
                                         unbroken=unbroken))
-    return show("letters", office=office, letters=written, codes=list(codes), lines_of=lines_of, fault=spoken_by.fault)
+    return show("letters", office=office, letters=written, codes=list(codes), lines_of=lines_of, fault=spoken_by.fault,
+                longest=LONGEST_CLOSING)
 
 
 def lines_of(name: str) -> list[str]:
