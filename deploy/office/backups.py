@@ -15,7 +15,7 @@ import shutil
 import sqlite3
 import tempfile
 import time
-from collections.abc import Iterator
+from collections.abc import Callable, Iterator
 from pathlib import Path
 from typing import Any, NamedTuple
 
@@ -29,7 +29,7 @@ NAME = re.compile(r"[0-9]{8}T[0-9]{6}Z(-[0-9]{2})?")
 ASKED_FOR, BACK = "backup", "back"
 # What versions up to 3.1.0 wrote into the reason of a copy: the list that somebody handed in.
 WISHES = re.compile(r"\b(choose [^ ,;]+)(?: [^ ,;(]+)+")
-DAYS = "days"
+DAYS, WHY = "days", "why"
 MOST_DAYS = 3650
 DOUBT = datetime.timedelta(days=2)  # so much older than a copy may be none of the last two nights is, unless they failed
 
@@ -68,19 +68,8 @@ class Backups:
                               {"kind": kind, "why": why, "whole": False})
 
     def store(self, files: list[Path], entry: dict[str, Any]) -> str:
-        """Writes a copy to the disk. If that fails, nothing of it remains."""
-        part = Path(tempfile.mkdtemp(dir=self.folder, prefix=".part-"))
-        try:
-            for one in files:
-                shutil.copyfile(one, part / one.name)
-            (part / "why").write_text(json.dumps(entry) + "\n", encoding="utf-8")
-            to_disk(*part.iterdir(), part)
-            name = self.free_name()
-            part.rename(self.folder / name)
-            to_disk(self.folder)
-        except BaseException:
-            shutil.rmtree(part, ignore_errors=True)
-            raise
+        """Writes a copy to the disk, and deletes those that are too old."""
+        name = put_down(self.folder, files, entry, self.free_name)
         if entry["kind"] != BACK:  # the copy that is about to be put back may be the oldest one
             with contextlib.suppress(OSError):
                 self.drop_old()
@@ -116,7 +105,7 @@ class Backups:
     def entry(self, name: str) -> dict[str, str]:
         """Why a copy was taken. One that was put there by hand counts as asked for."""
         with contextlib.suppress(OSError, ValueError, KeyError, TypeError):
-            entry = json.loads((self.folder / name / "why").read_text(encoding="utf-8"))
+            entry = json.loads((self.folder / name / WHY).read_text(encoding="utf-8"))
             return {"kind": str(entry["kind"]), "why": WISHES.sub(r"\1", str(entry["why"]))}
         return {"kind": ASKED_FOR, "why": ""}
 
@@ -194,6 +183,24 @@ class Backups:
                 shutil.rmtree(part)
             with contextlib.suppress(OSError):
                 self.drop_old()
+
+
+def put_down(folder: Path, files: list[Path], entry: dict[str, Any], free_name: Callable[[], str]) -> str:
+    """Writes files and why they are kept to the disk, as a copy in this folder, and gives its name. If that fails, nothing of it
+    remains."""
+    part = Path(tempfile.mkdtemp(dir=folder, prefix=".part-"))
+    try:
+        for one in files:
+            shutil.copyfile(one, part / one.name)
+        (part / WHY).write_text(json.dumps(entry) + "\n", encoding="utf-8")
+        to_disk(*part.iterdir(), part)
+        name = free_name()
+        part.rename(folder / name)
+        to_disk(folder)
+    except BaseException:
+        shutil.rmtree(part, ignore_errors=True)
+        raise
+    return name
 
 
 def too_old(names: list[str], nights: list[str], days: int) -> set[str]:

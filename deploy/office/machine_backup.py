@@ -18,10 +18,11 @@ from dataclasses import asdict, dataclass, field
 from pathlib import Path
 from typing import Any, NamedTuple
 
+from backups import WHY
 from settings import Fault
 from told_files import is_own
 
-FILE, WHY, ABOUT, SUMS = "rooms.db", "why", "about.json", "SHA256SUMS"
+FILE, ABOUT, SUMS = "rooms.db", "about.json", "SHA256SUMS"
 STATE, TOLD, FILES = "state", "told", "files"
 FORMAT = 1
 # What `rooms-restore --with` brings beside the office's file.

@@ -32,6 +32,7 @@ class Answer(NamedTuple):
 
 
 NOT_UNDERSTOOD = Answer("not understood\n", 2)
+EARLIER = ("refused 22 OtherVersion 1", "refused 22 OtherVersion 2")  # of files that it can migrate
 
 
 class Unanswered(Fault):
@@ -49,7 +50,7 @@ def is_refused(answers: list[Answer]) -> bool:
 
 def is_of_earlier_version(answer: Answer) -> bool:
     """Whether the program says that a file is an office's of an earlier version, which it can migrate."""
-    return answer.text.startswith(("refused 22 OtherVersion 1\n", "refused 22 OtherVersion 2\n"))
+    return answer.text.partition("\n")[0] in EARLIER
 
 
 def bound(*words: str) -> list[str]:
