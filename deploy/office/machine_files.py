@@ -11,6 +11,7 @@ from collections.abc import Callable, Iterator
 from pathlib import Path
 
 from house_places import Place
+from house_proxy import OWN
 from machine_backup import FILES, PLACES, STATE, TOLD, Kept
 from placing import beside
 from settings import Fault, Settings
@@ -19,7 +20,7 @@ from told_files import is_own
 MACHINE = Path(os.environ.get("ROOMS_MACHINE", "/"))  # the trial has a machine of its own
 # The files of each part of the plain office, as patterns.
 WANTED = {
-    "portal": ["etc/rooms/**/*", "srv/rooms/portal/index.html", "srv/rooms/portal/texts.js", "srv/rooms/portal/rooms.csv"],
+    "portal": ["etc/rooms/**/*", *(f"srv/rooms/portal/{name}" for name in OWN)],
     "units": ["etc/systemd/system/rooms-*.d/*.conf", "etc/systemd/system/haproxy.service.d/*.conf",
               "etc/rsyslog.d/48-rooms.conf"],
 }
