@@ -76,6 +76,11 @@ def link_in(job: Job) -> str:
     return link
 
 
+def once_more(kind: str, number: int, only: bool) -> str:
+    """What the journal says when people get a message of a round once more: everybody, or `only` the people who may not have it."""
+    return f"mail {kind} of round {number} once more {'to those who may not have it' if only else 'to everybody'}"
+
+
 class Post:  # pylint: disable=too-many-instance-attributes  # the parts of the mail
     """Addresses, texts, and the run."""
 
@@ -207,8 +212,7 @@ class Post:  # pylint: disable=too-many-instance-attributes  # the parts of the 
             self.fail_if_busy()
             if turn != self.book.turn(kind, number):
                 raise changed_meanwhile()
-            what = "to those who may not have it" if job.get("only") else "to everybody"
-            with self.journal.change(job["who"], f"mail {kind} of round {number} once more {what}"):
+            with self.journal.change(job["who"], once_more(kind, number, bool(job.get("only")))):
                 if job.get("only"):
                     self.book.forget_uncertain(kind, number, turn)
                 else:
@@ -219,8 +223,7 @@ class Post:  # pylint: disable=too-many-instance-attributes  # the parts of the 
         """Lets those get a receipt of whom nobody knows whether they have it."""
         if not job.get("only"):
             raise Fault("not understood: a receipt is for the one whose list has changed")
-        line = f"mail {RECEIPT} of round {number} once more to those who may not have it"
-        with self.journal.change(job["who"], line):
+        with self.journal.change(job["who"], once_more(RECEIPT, number, True)):
             self.receipts.book.forget_uncertain(number)
         return {}
 

@@ -150,7 +150,7 @@ class Book:  # pylint: disable=too-many-public-methods  # one for each thing tha
     def set(self, **settings: str) -> None:
         """Sets some."""
         with self.opened() as database:
-            database.executemany("INSERT OR REPLACE INTO setting VALUES (?, ?)", settings.items())
+            set_in(database, settings)
 
     # --- messages
 
@@ -181,8 +181,7 @@ class Book:  # pylint: disable=too-many-public-methods  # one for each thing tha
         if not secret:
             secret = secrets.token_hex(16)
             self.set(**{SECRET: secret})
-        return {person: hashlib.blake2b(json.dumps(one).encode(), digest_size=12, key=secret.encode()).hexdigest()
-                for person, one in told.items()}
+        return {person: mark_by(secret, json.dumps(one)) for person, one in told.items()}
 
     def forget_uncertain(self, kind: str, number: int, turn: int) -> None:
         """Takes uncertain messages for such that were not sent."""
@@ -233,15 +232,13 @@ class Book:  # pylint: disable=too-many-public-methods  # one for each thing tha
     def mark(self, person: str, state: str, why: str = "") -> None:
         """What becomes of a message of the run."""
         with self.opened() as database:
-            database.execute(f"UPDATE message SET state = ?, at = ?, why = ? WHERE {OF_RUN} AND person = ?",
-                             (state, now(), why, person))
+            mark_in(database, person, state, why)
 
     def begin_message(self, person: str, told: Mapping[str, object]) -> None:
         """The message of the run to this person is on its way. `told` has what it tells them, if that may change."""
         marks = self.marks_of({one: what for one, what in told.items() if one == person})
         with self.opened() as database:
-            database.execute(f"UPDATE message SET state = ?, at = ?, why = '' WHERE {OF_RUN} AND person = ?",
-                             (BEGUN, now(), person))
+            mark_in(database, person, BEGUN, "")
             database.executemany("INSERT OR REPLACE INTO told SELECT kind, round, turn, ?, ? FROM run", marks.items())
 
     def skip(self, person: str) -> None:
@@ -259,6 +256,21 @@ class Book:  # pylint: disable=too-many-public-methods  # one for each thing tha
             found = database.execute(f"SELECT person FROM message WHERE {which} AND kind = ?", (BEGUN, RECEIPT)).fetchall()
             database.execute(f"UPDATE message SET state = ?, why = ? WHERE {which}", (UNCERTAIN, ENDED_MEANWHILE, BEGUN))
             return [person for person, in found]
+
+
+def set_in(database: sqlite3.Connection, settings: Mapping[str, str]) -> None:
+    """Sets some settings."""
+    database.executemany("INSERT OR REPLACE INTO setting VALUES (?, ?)", settings.items())
+
+
+def mark_in(database: sqlite3.Connection, person: str, state: str, why: str) -> None:
+    """What becomes of a message of the run."""
+    database.execute(f"UPDATE message SET state = ?, at = ?, why = ? WHERE {OF_RUN} AND person = ?", (state, now(), why, person))
+
+
+def mark_by(secret: str, text: str) -> str:
+    """What changes with a text, and says nothing of it to who does not know the secret."""
+    return hashlib.blake2b(text.encode(), digest_size=12, key=secret.encode()).hexdigest()
 
 
 def forget_old(database: sqlite3.Connection, number: int) -> None:
