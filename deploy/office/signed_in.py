@@ -19,6 +19,7 @@ import socket
 from collections.abc import Callable, Iterable
 from typing import Any
 
+import asking
 from languages import _, accepted, first_of, speaking
 from serving import serve
 
@@ -67,13 +68,7 @@ def account_in(field: str) -> str:
 
 def key_of(account: str) -> str:
     """The key of an account's person; nothing if nobody has the account."""
-    with socket.socket(socket.AF_UNIX) as connection:
-        connection.settimeout(KEEPER_SECONDS)
-        connection.connect(KEEPER)
-        connection.sendall(json.dumps({"ask": "key", "account": account}).encode() + b"\n")
-        with connection.makefile(encoding="utf-8") as reader:
-            answer = json.loads(reader.readline())
-    return str(answer["key"])
+    return str(asking.answer_to({"ask": "key", "account": account}, KEEPER, KEEPER_SECONDS)["key"])
 
 
 def sent(method: str, path: str, body: bytes | None, key: str) -> Answer:

@@ -24,6 +24,11 @@ class Person(NamedTuple):
         """Whether the person takes part in the round."""
         return not self.withdrawn and not self.going
 
+    @property
+    def part(self) -> str:
+        """The same in words."""
+        return _("no, has withdrawn") if self.withdrawn else _("no, leaves the college") if self.going else _("yes")
+
 
 class Room(NamedTuple):
     """A room of the register, with the identifier of the person who lives there."""
