@@ -22,7 +22,7 @@ from typing import Any, NamedTuple
 import times
 from copies import ENDS, Copies, make_whole
 from languages import N_, _
-from placing import beside, replace_file, to_disk
+from placing import beside, drop_half_made, half_made, replace_file, to_disk
 from settings import Fault, Settings, unwritten
 
 NAME = re.compile(r"[0-9]{8}T[0-9]{6}Z(-[0-9]{2})?")
@@ -179,8 +179,7 @@ class Backups:
     def clear(self) -> None:
         """Deletes what a keeper left that was killed while it wrote a copy."""
         if self.folder.exists():
-            for part in self.folder.glob(".part-*"):
-                shutil.rmtree(part)
+            drop_half_made(self.folder)
             with contextlib.suppress(OSError):
                 self.drop_old()
 
@@ -188,8 +187,7 @@ class Backups:
 def put_down(folder: Path, files: list[Path], entry: dict[str, Any], free_name: Callable[[], str]) -> str:
     """Writes files and why they are kept to the disk, as a copy in this folder, and gives its name. If that fails, nothing of it
     remains."""
-    part = Path(tempfile.mkdtemp(dir=folder, prefix=".part-"))
-    try:
+    with half_made(folder) as part:
         for one in files:
             shutil.copyfile(one, part / one.name)
         (part / WHY).write_text(json.dumps(entry) + "\n", encoding="utf-8")
@@ -197,9 +195,6 @@ def put_down(folder: Path, files: list[Path], entry: dict[str, Any], free_name: 
         name = free_name()
         part.rename(folder / name)
         to_disk(folder)
-    except BaseException:
-        shutil.rmtree(part, ignore_errors=True)
-        raise
     return name
 
 

@@ -18,6 +18,7 @@ import os
 import shutil
 import signal
 import struct
+import tempfile
 import threading
 import time
 from collections.abc import Callable, Iterator
@@ -72,6 +73,26 @@ def replace_file(file: Path, data: bytes | None, mode: int = 0o600, part: Path |
         with contextlib.suppress(OSError):
             part.unlink()
         raise
+
+
+HALF = ".part-"  # how the name of a folder begins that is not whole yet
+
+
+@contextlib.contextmanager
+def half_made(folder: Path) -> Iterator[Path]:
+    """A new folder below this one, to be filled and renamed in the block. If that fails, nothing of it remains."""
+    part = Path(tempfile.mkdtemp(dir=folder, prefix=HALF))
+    try:
+        yield part
+    except BaseException:
+        shutil.rmtree(part, ignore_errors=True)
+        raise
+
+
+def drop_half_made(folder: Path) -> None:
+    """Deletes what was left half made by somebody who was killed."""
+    for part in folder.glob(f"{HALF}*"):
+        shutil.rmtree(part)
 
 
 def is_done(held: int, command: int, value: int | bytes) -> bool:
