@@ -53,6 +53,11 @@ def is_of_earlier_version(answer: Answer) -> bool:
     return answer.text.partition("\n")[0] in EARLIER
 
 
+def late(seconds: float) -> str:
+    """What a clerk reads about a program that took longer than it may."""
+    return _("the program did not end within {seconds:g} seconds, and was ended.", seconds=seconds)
+
+
 def bound(*words: str) -> list[str]:
     """A command line that ends with the thread that starts it. If the keeper was killed before the system knew that,
     the shell has another parent, and does nothing."""
@@ -106,8 +111,7 @@ class Program:
         try:
             done = subprocess.run(line, stdin=subprocess.DEVNULL, capture_output=True, timeout=limit, check=False)
         except subprocess.TimeoutExpired as fault:
-            why = _("the program did not end within {seconds:g} seconds, and was ended.", seconds=limit)
-            raise Fault(_("{why} Look whether the line took effect.", why=why)) from fault
+            raise Fault(_("{why} Look whether the line took effect.", why=late(limit))) from fault
         return Answer((done.stdout + done.stderr).decode("utf-8", "replace"), done.returncode)
 
     def tell(self, line: str, file: Path) -> Answer:
@@ -167,7 +171,7 @@ class Program:
     def unanswered(self, run: LineRun, file: Path, answers: list[Answer], count: int) -> Unanswered:
         """The fault of a run that has ended before it answered so many lines. A copy is thrown away then."""
         if run.is_late:
-            why = _("the program did not end within {seconds:g} seconds, and was ended.", seconds=run.seconds)
+            why = late(run.seconds)
         else:
             why = _("the program ended before it had answered ({said}).", said=run.said.strip() or run.process.returncode)
         if file != self.settings.file or run.handed == 1:

@@ -191,12 +191,17 @@ def ask(question: str, **fields: Any) -> dict[str, Any]:
     return keeper_client.ask(question, clerk(), **fields)
 
 
+def tell_fault(fault: KeeperFault) -> None:
+    """Tells the clerk why the keeper has not done something."""
+    tell("bad", _("This could not be done. {why}", why=plain.begun(str(fault))))
+
+
 def is_done(question: str, **fields: Any) -> bool:
     """Whether the keeper has done what it was asked to do; else the clerk reads why not."""
     try:
         ask(question, **fields)
     except KeeperFault as fault:
-        tell("bad", _("This could not be done. {why}", why=plain.begun(str(fault))))
+        tell_fault(fault)
         return False
     return True
 
@@ -230,7 +235,7 @@ def change(question: str, **fields: Any) -> bool:
     except WasAnothers:
         raise
     except KeeperFault as fault:
-        tell("bad", _("This could not be done. {why}", why=plain.begun(str(fault))))
+        tell_fault(fault)
         return False
     answers = keeper_client.answers_of(reply)
     last = answers[-1]

@@ -5,8 +5,7 @@ from collections import Counter
 
 from languages import _, ngettext
 
-import plain
-from app import app, ask, clerk, field, go_to, is_done, memory, office_now, show, tell, text_of
+from app import app, ask, clerk, field, go_to, is_done, memory, office_now, show, tell, tell_fault, text_of
 from keeper_client import KeeperFault
 from people_pages import person_of
 from resident_languages import residents
@@ -26,7 +25,7 @@ def choose_language() -> None:
     try:
         memory.language(clerk(), str(ask("language", language=code)["language"]))
     except KeeperFault as fault:
-        tell("bad", _("This could not be done. {why}", why=plain.begun(str(fault))))
+        tell_fault(fault)
     go_to(back if OWN.fullmatch(back) else "/office/")
 
 
