@@ -153,7 +153,7 @@ class Worker:  # pylint: disable=too-many-instance-attributes  # the parts of th
         while not self.over:
             item = self.next_work()
             if isinstance(item, Ended):
-                self.take_note(item)
+                self.handle_end(item)
             elif isinstance(item, Change):
                 self.stop()
                 self.work_off(item)
@@ -186,7 +186,7 @@ class Worker:  # pylint: disable=too-many-instance-attributes  # the parts of th
             if isinstance(item, Change):
                 self.carry_out(item)
             elif isinstance(item, Ended):
-                self.take_note(item)
+                self.handle_end(item)
 
     def carry_out(self, change: Change) -> None:
         """One change, if its sender still waits for it."""
@@ -310,7 +310,7 @@ class Worker:  # pylint: disable=too-many-instance-attributes  # the parts of th
             self.server.stop()
             self.server = None
 
-    def take_note(self, ended: Ended) -> None:
+    def handle_end(self, ended: Ended) -> None:
         """Handles a server that has ended by itself. One that refuses the file would do so again, until a change."""
         if ended.server is not self.server:
             return
