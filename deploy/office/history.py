@@ -54,7 +54,7 @@ class Years:
 
     def carry_out(self, place: int, entry: Entry, line: str) -> None:
         """One line that the keeper carried out, or may have carried out."""
-        step, _, rest = line.partition(" ")
+        step = line.partition(" ")[0]
         number = self.state.number
         if step == "open":
             answer = str(entry.get("answer", "")).split()
