@@ -1,6 +1,5 @@
 """Upgrades files that an earlier program wrote; bench/earlier-files.sh says what is checked."""
 
-import random
 import sys
 import tempfile
 from dataclasses import dataclass
@@ -11,7 +10,7 @@ from foreign.earlier import ORDERS, STEPS
 from foreign.program import SHORTEST_LOG, Cases, Program, expect, finish, left_alone, status_of
 from foreign.tables import OWN_ORDER, Rows, expect_same, rows_of
 from lists import COUNT, Office
-from versions import filled
+from versions import drawn_words, filled
 
 LINES = Path("bench/earlier-files.txt")
 VERSION, TABLES = ORDERS["version 1 of the program"]
@@ -128,8 +127,7 @@ def small_rounds(earlier: str, folder: Path) -> Recorded:
 
 def large_round(earlier: str, folder: Path) -> Recorded:
     """The round of the large office, from when everybody has handed in a list."""
-    words = " ".join(f"{random.Random(number).getrandbits(64):016x}" for number in range(COUNT))
-    lines = ["do close", f"do draw {words}", "do run", "do publish", "do settle", "export people", "export moves"]
+    lines = ["do close", f"do draw {' '.join(drawn_words())}", "do run", "do publish", "do settle", "export people", "export moves"]
     return carry_out(filled(earlier, folder / "filled"), lines, folder)
 
 

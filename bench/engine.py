@@ -1,6 +1,5 @@
 """Times lines over a large office's file, and the engine alone; bench/engine.sh says what is timed."""
 
-import random
 import shutil
 import statistics
 import subprocess
@@ -10,33 +9,21 @@ import time
 from dataclasses import dataclass
 from pathlib import Path
 
-from faults import opened
+from faults import copy_office, opened
 from floor import floors
+from foreign.tables import documented_tables, name_of
 from growth import instructions
-from lists import COUNT, Office, name_of, person_of, room_of, write_choices, write_list
+from lists import COUNT, furnish, person_of, room_of, words_by_seed
 
 LISTED = 40
 TURNS = 5
-WORD = "CREATE TABLE word(person TEXT PRIMARY KEY NOT NULL REFERENCES person(id), hex TEXT NOT NULL) STRICT"
-RESULT = """CREATE TABLE result(person TEXT PRIMARY KEY NOT NULL REFERENCES person(id),
-  room TEXT UNIQUE REFERENCES room(code)) STRICT"""
-GOING = "CREATE TABLE going(person TEXT PRIMARY KEY NOT NULL REFERENCES person(id)) STRICT"
-CHOICE = """CREATE TABLE choice(person TEXT NOT NULL REFERENCES person(id), place INTEGER NOT NULL,
-  room TEXT NOT NULL REFERENCES room(code), PRIMARY KEY(person, place), UNIQUE(person, room)) STRICT"""
-
-
-def parts(file):
-    """An office's file and its log."""
-    return [file, file.with_name(file.name + "-wal")]
+MADE_ANEW = ("word", "result", "choice", "going")  # the tables that a settlement drops and makes again, as it does
 
 
 def copied(file, name):
     """A copy of the file and its log under another name."""
     copy = file.with_name(name)
-    for old, new in zip(parts(file), parts(copy)):
-        new.unlink(missing_ok=True)
-        if old.exists():
-            shutil.copyfile(old, new)
+    copy_office(file, copy)
     return copy
 
 
@@ -128,7 +115,8 @@ def settlement(file):
     by_wave = sorted(moves, key=lambda move: (move[4] is None, move[4] or 0, move[1]))
     arrive = [f"UPDATE person SET home = '{move[3]}' WHERE id = '{move[1]}'" for move in by_wave]
     record = [f"INSERT INTO move VALUES({', '.join(map(text_of, move))})" for move in moves]
-    clear = [*(f"DROP TABLE {table}" for table in ("going", "choice", "result", "word")), WORD, RESULT, CHOICE, GOING]
+    documented = {name_of(text): text for text in documented_tables()}
+    clear = [*(f"DROP TABLE {table}" for table in reversed(MADE_ANEW)), *(documented[table] for table in MADE_ANEW)]
     return leave + arrive + record + clear + ["UPDATE person SET withdrawn = 0 WHERE withdrawn = 1",
                                               "UPDATE round SET phase = 'idle'"]
 
@@ -136,22 +124,6 @@ def settlement(file):
 def in_one(statements):
     """The statements in one transaction."""
     return ";\n".join(["BEGIN", *statements, "COMMIT"])
-
-
-def furnish(program, folder, housed):
-    """An office in whose open round everybody has a list, and everybody is housed, or nobody."""
-    draws = random.Random(1999)
-    rooms = [room_of(n) for n in range(COUNT)]
-    choices = {person_of(n): draws.sample(rooms, LISTED) for n in range(COUNT)}
-    keyed = [(person_of(n), name_of(n), f"key000000000{n:04d}", room_of(n) if housed else "") for n in range(COUNT)]
-    office = Office(program, folder / "office.db")
-    for sent in [write_list(folder, "rooms", 1, "room", [(room,) for room in rooms]),
-                 write_list(folder, "people", 1, "person,name,key,home", keyed)]:
-        assert office.bring(sent.kind, sent.label, sent.path).status == 0
-    office.do("open", "round 1 open")
-    for sent in write_choices(folder, choices, COUNT // 2):
-        assert office.bring(sent.kind, sent.label, sent.path).status == 0
-    return office
 
 
 def compare_lines(programs, office):
@@ -162,9 +134,7 @@ def compare_lines(programs, office):
     choosing = [f"DELETE FROM choice WHERE person = '{person_of(7)}'", *listed]
     compare(programs, office.file, Line(["choose", person_of(7), *rooms], choosing, False))
     office.do("close", f"closed {COUNT}")
-    words = [programs[0], "words", "--seed", "0" * 64, "--count", str(COUNT)]
-    drawn = subprocess.run(words, check=True, capture_output=True, text=True).stdout
-    office.do("draw " + drawn, f"drawn {COUNT}")
+    office.do("draw " + words_by_seed(programs[0]), f"drawn {COUNT}")
     before = copied(office.file, "before.db")
     office.do("run", f"ran {COUNT}")
     compare(programs, before, Line(["run"], results(office.file), True))
@@ -176,10 +146,10 @@ def compare_lines(programs, office):
 
 def main(*programs):
     """Compares lines, first with everybody housed, and then with nobody."""
-    for what, housed in (("everybody housed", True), ("nobody housed", False)):
+    for what, housed in (("everybody housed", COUNT), ("nobody housed", 0)):
         print(f"lines over a file, {what}:")
         with tempfile.TemporaryDirectory() as name:
-            compare_lines(programs, furnish(programs[0], Path(name), housed))
+            compare_lines(programs, furnish(programs[0], Path(name), housed, LISTED))
 
 
 if __name__ == "__main__":

@@ -23,6 +23,7 @@ import tempfile
 import time
 from collections import Counter
 from contextlib import closing, contextmanager
+from dataclasses import dataclass
 from pathlib import Path
 
 ASKED = ("rooms", "people", "round", "order", "results", "moves 1", "moves 2", "me key00000000000t1", "whatif T1 V")
@@ -131,6 +132,15 @@ def small_disk(folder):
         subprocess.run(["umount", str(disk)], check=True)
 
 
+@dataclass
+class Due:
+    """What the program answers to a line, and all that it says of the office before the line and after it."""
+
+    answer: str
+    before: tuple
+    after: tuple
+
+
 class Trial:
     """The program, the fault that it meets, a folder to work in, and what was seen."""
 
@@ -167,31 +177,31 @@ class Trial:
         """Lets runs of one line fail, and leaves the office after it."""
         after = self.folder / "after.db"
         copy_office(office, after)
-        before_shown, (answer, took) = self.shown(office), self.told(after, words)
-        after_shown, longest = self.shown(after), bytes_of(after)
+        before, (answer, took) = self.shown(office), self.told(after, words)
+        due, longest = Due(answer, before, self.shown(after)), bytes_of(after)
         for _ in range(times):
             victim = self.fault.victim
             copy_office(office, victim)
             came = self.fault.meet(self.words(victim, words), took, longest)
-            self.judge(victim, words, came, answer, before_shown, after_shown)
+            self.judge(victim, words, came, due)
         copy_office(after, office)
 
-    def judge(self, victim, words, came, answer, before_shown, after_shown):
+    def judge(self, victim, words, came, due):
         """Counts a run that met the fault, or ends at what must not be."""
-        shown, changed, line = self.shown(victim), after_shown != before_shown, " ".join(words)
+        shown, changed, line = self.shown(victim), due.after != due.before, " ".join(words)
         if not self.is_whole(victim):
             sys.exit(f"not whole after {line}")
-        if shown not in (before_shown, after_shown):
+        if shown not in (due.before, due.after):
             sys.exit(f"neither before nor after: {line}")
-        if came == answer and shown != after_shown:
+        if came == due.answer and shown != due.after:
             sys.exit(f"answered and lost: {line}")
-        if not answer.startswith(came) and came != "unavailable\n":
+        if not due.answer.startswith(came) and came != "unavailable\n":
             sys.exit(f"another answer: {line}: {came}")
         self.seen["runs"] += 1
-        self.seen["answered"] += came == answer
+        self.seen["answered"] += came == due.answer
         self.seen["answered unavailable"] += came == "unavailable\n"
-        self.seen["kept, and not answered"] += changed and came != answer and shown == after_shown
-        self.seen["nothing kept"] += changed and shown == before_shown
+        self.seen["kept, and not answered"] += changed and came != due.answer and shown == due.after
+        self.seen["nothing kept"] += changed and shown == due.before
 
 
 def tried(program, fault, folder, script, times):

@@ -4,12 +4,12 @@ Counts instructions of `sqlite3`, which runs the statements in one process: alon
 with a full check of the file as well. bench/engine.sh says what this is compared with.
 """
 
+from foreign.tables import OWN_ORDER
 from growth import instructions
 
-TABLES = ("room", "person", "round", "move", "list", "grade", "word", "result", "choice", "going")
 CHECK = ["PRAGMA integrity_check", "PRAGMA foreign_key_check"]
 # The rows are written out, since anybody who reads an office needs the values.
-READ = [f"SELECT * FROM {table}" for table in TABLES]
+READ = [f"SELECT * FROM {table}" for table in OWN_ORDER]
 
 
 def sqlite_count(file, statements):

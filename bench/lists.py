@@ -78,6 +78,10 @@ def room_of(number):
     return f"R{number:04d}"
 
 
+def key_of(number):
+    return f"key000000000{number:04d}"
+
+
 def name_of(number):
     """A name, some of which a list has to quote."""
     return f"Person, {number}" if number % 3 == 0 else f'Pérsön "{number}"' if number % 3 == 1 else f"Person {number}"
@@ -107,6 +111,45 @@ def write_choices(folder, choices, part):
     """The lists of choices."""
     rows = [(person, " ".join(codes)) for person, codes in choices.items()]
     return [write_list(folder, "choices", at // part + 1, "person,choices", rows[at:at + part]) for at in range(0, COUNT, part)]
+
+
+def rooms_of_all():
+    """The codes of all rooms."""
+    return [room_of(n) for n in range(COUNT)]
+
+
+def people_of_all(housed):
+    """The records of all people, of whom the first so many live somewhere."""
+    return [(person_of(n), name_of(n), key_of(n), room_of(n) if n < housed else "") for n in range(COUNT)]
+
+
+def choices_of_all(longest):
+    """A drawn list of so many rooms for each person."""
+    draws, rooms = random.Random(1999), rooms_of_all()
+    return {person_of(n): draws.sample(rooms, longest) for n in range(COUNT)}
+
+
+def register_lists(folder, housed):
+    """The lists of rooms and people."""
+    return [write_list(folder, "rooms", 1, "room", [(room,) for room in rooms_of_all()]),
+            write_list(folder, "people", 1, "person,name,key,home", people_of_all(housed))]
+
+
+def furnish(program, folder, housed, longest):
+    """An office in whose open round everybody has a list of so many rooms, and the first so many people live somewhere."""
+    office = Office(program, folder / "office.db")
+    for sent in [*register_lists(folder, housed), *write_choices(folder, choices_of_all(longest), PART[longest])]:
+        if sent.label == "choices-1":
+            office.do("open", "round 1 open")
+        ran = office.bring(sent.kind, sent.label, sent.path)
+        assert ran.text == f"added {sent.count}\n", ran.text
+    return office
+
+
+def words_by_seed(program):
+    """The words of a draw for everybody, by a seed of zeros."""
+    words = [program, "words", "--seed", "0" * 64, "--count", str(COUNT)]
+    return subprocess.run(words, check=True, capture_output=True, text=True).stdout
 
 
 def bring_twice(office, sent):
@@ -143,9 +186,7 @@ def carry_out_round(office, longest):
     tell("round", office.do("round", f"round 1 open people {COUNT} withdrawn 0"))
     tell("choose", office.do(f"choose {person} {codes}", f"chosen {codes}"))
     tell("close", office.do("close", f"closed {COUNT}"))
-    words = subprocess.run([office.program, "words", "--seed", "0" * 64, "--count", str(COUNT)], check=True,
-                           capture_output=True, text=True).stdout
-    tell("draw", office.do("draw " + words, f"drawn {COUNT}"))
+    tell("draw", office.do("draw " + words_by_seed(office.program), f"drawn {COUNT}"))
     tell("run", office.do("run", f"ran {COUNT}"))
     tell("publish", office.do("publish", f"published {COUNT}"))
     settled = office.run("do", "settle")
@@ -155,20 +196,17 @@ def carry_out_round(office, longest):
 
 def main(program, longest):
     """Times a year by lists, and compares each export with what it has to have."""
-    draws = random.Random(1999)
-    rooms = [room_of(n) for n in range(COUNT)]
-    choices = {person_of(n): draws.sample(rooms, longest) for n in range(COUNT)}
+    choices = choices_of_all(longest)
     with tempfile.TemporaryDirectory() as name:
         folder = Path(name)
         office = Office(program, folder / "office.db")
-        keyed = [(person_of(n), name_of(n), f"key000000000{n:04d}", room_of(n)) for n in range(COUNT)]
-        bring_twice(office, write_list(folder, "rooms", 1, "room", [(room,) for room in rooms]))
-        bring_twice(office, write_list(folder, "people", 1, "person,name,key,home", keyed))
+        for sent in register_lists(folder, COUNT):
+            bring_twice(office, sent)
         office.do("open", "round 1 open")
         for sent in write_choices(folder, choices, PART[longest]):
             bring_twice(office, sent)
-        people = [[person, name, room] for person, name, _, room in keyed]
-        compare("export of rooms", office.export("rooms"), [[r, "occupied", p[0]] for r, p in zip(rooms, people)])
+        people = [[person, name, room] for person, name, _, room in people_of_all(COUNT)]
+        compare("export of rooms", office.export("rooms"), [[room, "occupied", person] for person, _, room in people])
         compare("export of people", office.export("people"), people)
         compare("recorded choices", recorded_choices(office), choices)
         settled = carry_out_round(office, longest)

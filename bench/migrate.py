@@ -6,7 +6,7 @@ from pathlib import Path
 
 from foreign.earlier import ORDERS
 from foreign.tables import declare, expect_rows, fill_some, opened
-from lists import COUNT, Office, compare, name_of, person_of, room_of, tell, write_list
+from lists import COUNT, Office, compare, key_of, name_of, person_of, room_of, tell, write_list
 
 LISTED = 40
 MOST_SECONDS = {"migrate": 5.0, "import": 1.0}
@@ -28,7 +28,7 @@ def rows_of_office():
     codes = [room_of(n) for n in range(COUNT)]
     return {
         "room": [(code, 0) for code in codes],
-        "person": [(person_of(n), name_of(n), f"key000000000{n:04d}", codes[n], 0) for n in range(COUNT)],
+        "person": [(person_of(n), name_of(n), key_of(n), codes[n], 0) for n in range(COUNT)],
         "round": [(1, 1, 1, "open")],
         "choice": [(person_of(n), k, codes[(n + k + 1) % COUNT]) for n in range(COUNT) for k in range(LISTED)],
         **{table: [] for table in ("word", "result", "move", "list", "grade", "going")},

@@ -13,6 +13,7 @@ from pathlib import Path
 from floor import CHECK, READ
 from foreign.tables import declare, opened
 from growth import instructions
+from lists import key_of, person_of, room_of
 from versions import timed
 
 # How many people there are in files without lists, whose openings are counted, and in files with lists, which are timed.
@@ -25,17 +26,17 @@ TURNS = 3
 def write_office(file, count, housed, listed):
     """An office of so many people and rooms, with a list of so many rooms for each person."""
     draws, numbers = random.Random(1999), range(count)
-    rooms = [f"R{number:04d}" for number in numbers]
+    rooms = [room_of(number) for number in numbers]
     file.unlink(missing_ok=True)
     with opened(file) as database:
         declare(database)
         database.execute("BEGIN")
         database.executemany("INSERT INTO room VALUES (?, 0)", [(room,) for room in rooms])
         database.executemany("INSERT INTO person VALUES (?, ?, ?, ?, 0)", [
-            (f"P{number:04d}", f"Person {number}", f"key000000000{number:04d}", rooms[number] if housed else None)
+            (person_of(number), f"Person {number}", key_of(number), rooms[number] if housed else None)
             for number in numbers])
         database.executemany("INSERT INTO choice VALUES (?, ?, ?)", [
-            (f"P{number:04d}", place, room) for number in numbers for place, room in enumerate(draws.sample(rooms, listed))])
+            (person_of(number), place, room) for number in numbers for place, room in enumerate(draws.sample(rooms, listed))])
         database.execute("COMMIT")
 
 

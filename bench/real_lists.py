@@ -20,6 +20,7 @@ PEOPLE = [
 ]
 ROOMS = [["H1"], ["H2"], ["V"]]
 CHOICES = [["E1", "H2 V"], ["E2", "H1"], ["E4", ""], ["E2", "V H1"]]
+LISTS = (("rooms", ROOMS), ("people", PEOPLE), ("choices", CHOICES))
 HEADERS = {"rooms": ["room"], "people": ["person", "name", "key", "home"], "choices": ["person", "choices"]}
 BOM = b"\xef\xbb\xbf"
 # How LibreOffice reads and writes CSV: commas, double quotes, UTF-8, from the first line on.
@@ -79,16 +80,21 @@ def check(what, ran, answer):
     print(f"{what}: {answer}, {ran.seconds:.3f} s, {ran.kilobytes // 1024} MB")
 
 
-def try_maker(program, folder, maker):
-    """A year's lists, all made in this way, are imported, and exported as they were."""
-    office = Office(program, folder / f"{maker.__name__}.db")
-    for kind, rows in (("rooms", ROOMS), ("people", PEOPLE), ("choices", CHOICES)):
+def bring_all(office, folder, what, lists=LISTS, maker=written, turns=("",)):
+    """Lists that are made in this way come in, each so often: choices once the round is open."""
+    for kind, rows in lists:
         path = folder / f"{kind}.csv"
         path.write_bytes(maker(kind, rows))
         if kind == "choices":
             office.do("open", "round 1 open")
-        check(f"{maker.__name__}, {kind}", office.bring(kind, f"{kind}-1", path), f"added {len(rows)}")
-        check(f"{maker.__name__}, {kind} again", office.bring(kind, f"{kind}-1", path), f"added {len(rows)}")
+        for turn in turns:
+            check(f"{what}{kind}{turn}", office.bring(kind, f"{kind}-1", path), f"added {len(rows)}")
+
+
+def try_maker(program, folder, maker):
+    """A year's lists, all made in this way, are imported, and exported as they were."""
+    office = Office(program, folder / f"{maker.__name__}.db")
+    bring_all(office, folder, f"{maker.__name__}, ", maker=maker, turns=("", " again"))
     homes = {home: person for person, _, _, home in PEOPLE if home}
     assert office.export("people") == [[person, name, home] for person, name, _, home in PEOPLE]
     assert office.export("rooms") == [[r, "occupied" if r in homes else "free", homes.get(r, "")] for [r] in ROOMS]
@@ -100,12 +106,7 @@ def try_maker(program, folder, maker):
 def try_exports(program, folder):
     """Exports of a settled round, read by LibreOffice field by field as Python reads them."""
     office = Office(program, folder / "settled.db")
-    for kind, rows in (("rooms", ROOMS), ("people", PEOPLE), ("choices", CHOICES)):
-        path = folder / f"settled-{kind}.csv"
-        path.write_bytes(written(kind, rows))
-        if kind == "choices":
-            office.do("open", "round 1 open")
-        check(f"settled {kind}", office.bring(kind, f"{kind}-1", path), f"added {len(rows)}")
+    bring_all(office, folder, "settled ")
     for line, answer in (("close", "closed 6"), ("draw " + " ".join(f"{n:016x}" for n in range(6)), "drawn 6"), ("run", "ran 6"),
                          ("publish", "published 6"), ("settle", "settled 2")):
         office.do(line, answer)
@@ -166,10 +167,7 @@ def told(office):
 def make_known(program, folder):
     """An office with rooms and people, in an open round."""
     office = Office(program, folder / "known.db")
-    for kind, rows in (("rooms", ROOMS), ("people", PEOPLE)):
-        path = folder / f"known-{kind}.csv"
-        path.write_bytes(written(kind, rows))
-        check(f"known {kind}", office.bring(kind, f"{kind}-1", path), f"added {len(rows)}")
+    bring_all(office, folder, "known ", LISTS[:2])
     office.do("open", "round 1 open")
     return office
 

@@ -10,20 +10,10 @@ import tempfile
 import time
 from pathlib import Path
 
+from lists import key_of, person_of, room_of
+
 PEOPLE = 2000
 LONGEST = 40
-
-
-def person_of(number):
-    return f"P{number:04d}"
-
-
-def key_of(number):
-    return f"key000000000{number:04d}"
-
-
-def room_of(number):
-    return f"R{number:04d}"
 
 
 def home_of(number):

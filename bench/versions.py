@@ -10,7 +10,7 @@ import tempfile
 from pathlib import Path
 
 from growth import instructions
-from lists import COUNT, PART, Office, name_of, person_of, room_of, write_choices, write_list
+from lists import COUNT, furnish, person_of, room_of
 
 LISTED = 40
 TURNS = 9
@@ -54,22 +54,12 @@ def compare(what, lines, given=b"", prepare=lambda: None):
 def filled(program, folder):
     """An office whose round is open, with everybody's list."""
     folder.mkdir()
-    office = Office(program, folder / "office.db")
-    draw = random.Random(1999)
-    people, codes = range(COUNT), [room_of(number) for number in range(COUNT)]
-    people_rows = [
-        (person_of(one), name_of(one), f"key{one:013d}", codes[one] if one < COUNT * 4 // 5 else "") for one in people]
-    sent = [
-        write_list(folder, "rooms", 1, "room", [(code,) for code in codes]),
-        write_list(folder, "people", 1, "person,name,key,home", people_rows),
-    ]
-    wishes = {person_of(one): draw.sample(codes, LISTED) for one in people}
-    for one in [*sent, *write_choices(folder, wishes, PART[LISTED])]:
-        if one.label == "choices-1":
-            office.do("open", "round 1 open")
-        ran = office.bring(one.kind, one.label, one.path)
-        assert ran.text == f"added {one.count}\n", ran.text
-    return office
+    return furnish(program, folder, COUNT * 4 // 5, LISTED)
+
+
+def drawn_words():
+    """A word for each person."""
+    return [f"{random.Random(number).getrandbits(64):016x}" for number in range(COUNT)]
 
 
 def main():
@@ -79,10 +69,9 @@ def main():
     compare("a round in memory", [[program, "rehearse"] for program in programs], given)
     with tempfile.TemporaryDirectory() as name:
         offices = [filled(program, Path(name) / str(number)) for number, program in enumerate(programs)]
-        words = [f"{random.Random(number).getrandbits(64):016x}" for number in range(COUNT)]
         steps = [
             ("choose", ["choose", person_of(7), *map(room_of, range(LISTED))]),
-            ("", ["close"]), ("", ["draw", *words]),
+            ("", ["close"]), ("", ["draw", *drawn_words()]),
             ("run", ["run"]), ("", ["publish"]), ("settle", ["settle"]),
         ]
 

@@ -19,6 +19,7 @@ from pathlib import Path
 from types import TracebackType
 
 # The keeper's modules.
+from house_places import PLAIN_PORT
 from program import bound
 from settings import Fault
 
@@ -118,7 +119,7 @@ class DemoOffice:  # pylint: disable=too-many-instance-attributes  # a machine i
             "log /dev/log local0 ": "log stdout format raw local0 ",
             "    maxconn 5000\n": "    maxconn 200\n",
             "bind :::443 v4v6 ssl crt /etc/haproxy/rooms.pem alpn h2,http/1.1 strict-sni\n": f"bind {HOST}:{self.port}\n",
-            "server one 127.0.0.1:290 ": f"server one {HOST}:{self.server_port} ",
+            f"server one 127.0.0.1:{PLAIN_PORT} ": f"server one {HOST}:{self.server_port} ",
             "server page unix@/rooms-page.sock ": f"server page unix@{self.folder}/page.sock ",
             "server told unix@/rooms-told.sock ": f"server told unix@{self.folder}/told.sock ",
             "userlist office\n": f"userlist office\n    user {CLERK} insecure-password {self.password}\n",

@@ -9,10 +9,8 @@ from typing import Any
 
 from copies import kept_copy
 from languages import _
-from lines import IDENTIFIER
 from office import Office
 from rows import records_of
-from settings import Fault
 
 # The columns of an imported list that are shown; that of the key in a list of people is not.
 KEY_COLUMN = {"people": 2}
@@ -68,12 +66,10 @@ def entries_of(journal: Path, person: str) -> list[dict[str, Any]]:
 
 def about(office: Office, person: str) -> dict[str, Any]:
     """All that the office keeps of a person, beside the rows that are shown."""
-    if not IDENTIFIER.fullmatch(person):
-        raise Fault("not understood: an identifier has up to twelve capital letters and digits")
     with office.copies.copied() as copy:
         kept = kept_in(copy, person)
     backups = office.backups
-    names = [name for name in backups.names() if has_person(backups.folder / name / office.settings.file.name, person)]
+    names = [name for name in backups.names() if has_person(backups.file_of(name), person)]
     stays = backups.stays(backups.days())
     return {**kept, "copies": [[name, stays[name].until] for name in names if name in stays],
             "journal": entries_of(office.settings.journal, person)}

@@ -9,19 +9,18 @@ import csv
 import io
 import json
 import re
-import sqlite3
 import threading
 import unicodedata
-from contextlib import closing
 from pathlib import Path
 from typing import Any, NamedTuple
 
 from copies import Copies
 from journal import Journal
 from languages import _
-from lines import IDENTIFIER
-from placing import beside, to_disk
-from rows import View
+from lines import IDENTIFIER, LONGEST_LIST
+from placing import replace_file
+from register import people_in
+from rows import View, keys_in
 from settings import Fault, unwritten
 
 # How the person of an account is found.
@@ -35,7 +34,6 @@ RULES = {
 SMALL = re.compile(r"[a-z0-9]{1,12}")  # an identifier in small letters: no other letter becomes one of these capitals
 HEADING = ["person", "account"]
 LONGEST = 128  # signs of an account's name
-LONGEST_LIST = 262_144  # bytes
 
 
 class Kept(NamedTuple):
@@ -136,14 +134,9 @@ class Accounts:
 
     def write(self, kept: Kept) -> None:
         """Puts another file in the place of this one."""
-        part = beside(self.file, ".part")
         try:
-            part.write_text(json.dumps(kept._asdict(), ensure_ascii=False) + "\n", encoding="utf-8")
-            to_disk(part)
-            part.rename(self.file)
-            to_disk(self.file.parent)
+            replace_file(self.file, f"{json.dumps(kept._asdict(), ensure_ascii=False)}\n".encode())
         except OSError as fault:
-            part.unlink(missing_ok=True)
             raise unwritten("the list of accounts", fault) from fault
 
     def put(self, rule: str, people: dict[str, str]) -> None:
@@ -205,23 +198,17 @@ class ClerkRequests:
         rule, text = job["rule"], job.get("list", "")
         if not isinstance(rule, str) or not isinstance(text, str):
             raise Fault("not understood: rule or list is no text")
-        people = people_of(text, {row[0] for row in self.view.rows()["people"]}) if rule == LIST else {}
+        people = people_of(text, people_in(self.view.rows())) if rule == LIST else {}
         with self.journal.change(job["who"], f"accounts {rule}: {len(people)}"):
             self.accounts.put(rule, people)
         return self.show(job)
-
-
-def keys_of(file: Path) -> dict[str, Any]:
-    """The keys of a copy, by person."""
-    with closing(sqlite3.connect(file)) as database:
-        return dict(database.execute("SELECT id, passkey FROM person"))
 
 
 class KeyRequests:  # pylint: disable=too-few-public-methods  # there is one question
     """What is asked by the socket of signed_in.py: the key of an account's person, and nothing else."""
 
     def __init__(self, accounts: Accounts, copies: Copies) -> None:
-        self.accounts, self.view = accounts, View(copies, keys_of)
+        self.accounts, self.view = accounts, View(copies, keys_in)
 
     def answer(self, job: dict[str, Any]) -> dict[str, Any]:
         """The key; an empty one where nobody in the register has the account."""

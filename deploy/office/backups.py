@@ -15,21 +15,21 @@ import shutil
 import sqlite3
 import tempfile
 import time
-from collections.abc import Iterator
+from collections.abc import Callable, Iterator
 from pathlib import Path
 from typing import Any, NamedTuple
 
 import times
 from copies import ENDS, Copies, make_whole
 from languages import N_, _
-from placing import beside, to_disk
+from placing import beside, drop_half_made, half_made, replace_file, to_disk
 from settings import Fault, Settings, unwritten
 
 NAME = re.compile(r"[0-9]{8}T[0-9]{6}Z(-[0-9]{2})?")
 ASKED_FOR, BACK, RESTORE = "backup", "back", "restore"
 # What versions up to 3.1.0 wrote into the reason of a copy: the list that somebody handed in.
 WISHES = re.compile(r"\b(choose [^ ,;]+)(?: [^ ,;(]+)+")
-DAYS = "days"
+DAYS, WHY = "days", "why"
 MOST_DAYS = 3650
 DOUBT = datetime.timedelta(days=2)  # so much older than a copy may be none of the last two nights is, unless they failed
 
@@ -68,19 +68,8 @@ class Backups:
                               {"kind": kind, "why": why, "whole": False})
 
     def store(self, files: list[Path], entry: dict[str, Any]) -> str:
-        """Writes a copy to the disk. If that fails, nothing of it remains."""
-        part = Path(tempfile.mkdtemp(dir=self.folder, prefix=".part-"))
-        try:
-            for one in files:
-                shutil.copyfile(one, part / one.name)
-            (part / "why").write_text(json.dumps(entry) + "\n", encoding="utf-8")
-            to_disk(*part.iterdir(), part)
-            name = self.free_name()
-            part.rename(self.folder / name)
-            to_disk(self.folder)
-        except BaseException:
-            shutil.rmtree(part, ignore_errors=True)
-            raise
+        """Writes a copy to the disk, and deletes those that are too old."""
+        name = put_down(self.folder, files, entry, self.free_name)
         if entry["kind"] != BACK:  # the copy that is about to be put back may be the oldest one
             with contextlib.suppress(OSError):
                 self.drop_old()
@@ -89,15 +78,14 @@ class Backups:
     def free_name(self) -> str:
         """The time as a name. Names are in order: if the last copy has this time, or a later one since the clock was set
         back, its name is counted on."""
-        now = datetime.datetime.now(datetime.timezone.utc).strftime(times.COPY)
+        now = times.as_name()
         last = (self.names() or [""])[-1]
         if last[:len(now)] < now:
             return now
         number = int(last[len(now) + 1:] or 1) + 1
         if number < 100:
             return f"{last[:len(now)]}-{number:02}"
-        following = datetime.datetime.strptime(last[:len(now)], times.COPY) + datetime.timedelta(seconds=1)
-        return following.strftime(times.COPY)
+        return (times.made_at(last) + datetime.timedelta(seconds=1)).strftime(times.COPY)
 
     def names(self) -> list[str]:
         """The names of the kept copies, the oldest first."""
@@ -109,6 +97,10 @@ class Backups:
         """The newest copy that was made before the office went back to another one; nothing if there is none."""
         return next((name for name in reversed(self.names()) if self.entry(name)["kind"] in (BACK, RESTORE)), "")
 
+    def file_of(self, name: str) -> Path:
+        """The office's file in a kept copy."""
+        return self.folder / name / self.settings.file.name
+
     def age(self) -> float | None:
         """How old the newest copy that was asked for is, in seconds; below zero if its time is to come."""
         name = next((name for name in reversed(self.names()) if self.entry(name)["kind"] == ASKED_FOR), None)
@@ -117,7 +109,7 @@ class Backups:
     def entry(self, name: str) -> dict[str, str]:
         """Why a copy was taken. One that was put there by hand counts as asked for."""
         with contextlib.suppress(OSError, ValueError, KeyError, TypeError):
-            entry = json.loads((self.folder / name / "why").read_text(encoding="utf-8"))
+            entry = json.loads((self.folder / name / WHY).read_text(encoding="utf-8"))
             return {"kind": str(entry["kind"]), "why": WISHES.sub(r"\1", str(entry["why"]))}
         return {"kind": ASKED_FOR, "why": ""}
 
@@ -134,13 +126,9 @@ class Backups:
 
     def set_days(self, days: int) -> None:
         """Sets for how many days a copy stays at most, and deletes the older ones."""
-        part = self.folder / f"{DAYS}.part"
         try:
             self.folder.mkdir(mode=0o700, exist_ok=True)
-            part.write_text(f"{days}\n", encoding="ascii")
-            to_disk(part)
-            part.rename(self.folder / DAYS)
-            to_disk(self.folder)
+            replace_file(self.folder / DAYS, f"{days}\n".encode())
         except OSError as fault:
             raise unwritten(N_("the number of days"), fault) from fault
         self.drop_old()
@@ -155,7 +143,7 @@ class Backups:
         for kind, names in kinds.items():
             count = self.settings.kept_backups if kind == ASKED_FOR else self.settings.kept_before
             for newer, name in enumerate(reversed(names)):
-                until = made_at(name) + datetime.timedelta(days=days)
+                until = times.made_at(name) + datetime.timedelta(days=days)
                 found[name] = Stay(until.astimezone().date().isoformat(), count - newer)
         return found
 
@@ -172,7 +160,7 @@ class Backups:
 
     def take(self, name: str, target: Path) -> None:
         """Puts a kept copy over another copy, as one file."""
-        source = self.folder / name / target.name
+        source = self.file_of(name)
         if not NAME.fullmatch(name) or not source.is_file():
             raise Fault(_("there is no copy {name}. See them all: {command}", name=repr(name),
                           command=self.settings.place.command("rooms-office backups")))
@@ -195,24 +183,32 @@ class Backups:
     def clear(self) -> None:
         """Deletes what a keeper left that was killed while it wrote a copy."""
         if self.folder.exists():
-            for part in self.folder.glob(".part-*"):
-                shutil.rmtree(part)
+            drop_half_made(self.folder)
             with contextlib.suppress(OSError):
                 self.drop_old()
 
 
-def made_at(name: str) -> datetime.datetime:
-    """When a copy was made, by its name."""
-    return datetime.datetime.strptime(name[:16], times.COPY).replace(tzinfo=datetime.timezone.utc)
+def put_down(folder: Path, files: list[Path], entry: dict[str, Any], free_name: Callable[[], str]) -> str:
+    """Writes files and why they are kept to the disk, as a copy in this folder, and gives its name. If that fails, nothing of it
+    remains."""
+    with half_made(folder) as part:
+        for one in files:
+            shutil.copyfile(one, part / one.name)
+        (part / WHY).write_text(json.dumps(entry) + "\n", encoding="utf-8")
+        to_disk(*part.iterdir(), part)
+        name = free_name()
+        part.rename(folder / name)
+        to_disk(folder)
+    return name
 
 
 def too_old(names: list[str], nights: list[str], days: int) -> set[str]:
     """Those of these copies that are older than so many days. None, if one of the last two that were asked for is much older
     itself: then the clock may be set far ahead, and nobody knows how old any copy is."""
     last = datetime.datetime.now(datetime.timezone.utc) - datetime.timedelta(days=days)
-    if any(made_at(name) < last - DOUBT for name in sorted(nights or names)[-2:]):
+    if any(times.made_at(name) < last - DOUBT for name in sorted(nights or names)[-2:]):
         return set()
-    return {name for name in names if made_at(name) < last}
+    return {name for name in names if times.made_at(name) < last}
 
 
 def blank(labels: list[str], file: Path) -> None:

@@ -19,7 +19,7 @@ from accounts import Accounts
 from languages import N_, _
 from languages_kept import Languages
 from mail import Post
-from placing import beside, to_disk
+from placing import beside, part_of, replace_file
 from settings import Fault, unwritten
 
 
@@ -88,7 +88,7 @@ class BesideRegister:
     def finish(self, register: Callable[[], set[str]]) -> None:
         """Erases what a keeper has left that was ended. A person who is in the register did not leave after all, or is somebody
         else, before whom all was erased."""
-        beside(self.path, ".part").unlink(missing_ok=True)
+        part_of(self.path).unlink(missing_ok=True)
         with contextlib.suppress(Fault, OSError, sqlite3.Error):  # of a file that is damaged: the next start tries again
             if left := self.leaving():
                 self.let_go(left - register())
@@ -105,15 +105,7 @@ class BesideRegister:
 
     def write(self, people: set[str]) -> None:
         """Puts another file in the place of this one, or takes it away if nobody is left."""
-        part = beside(self.path, ".part")
         try:
-            if people:
-                part.write_text(json.dumps(sorted(people)) + "\n", encoding="ascii")
-                to_disk(part)
-                part.rename(self.path)
-            else:
-                self.path.unlink(missing_ok=True)
-            to_disk(self.path.parent)
+            replace_file(self.path, f"{json.dumps(sorted(people))}\n".encode() if people else None)
         except OSError as fault:
-            part.unlink(missing_ok=True)
             raise unwritten(N_("who goes out of the register"), fault) from fault

@@ -5,7 +5,6 @@ it is newer than the backup's.
 """
 
 import contextlib
-import datetime
 import hashlib
 import json
 import os
@@ -19,7 +18,8 @@ from pathlib import Path
 from typing import NamedTuple
 
 import house_list
-import told
+import times
+import told_files
 from house_places import Place
 from journal import Journal
 from machine_backup import FILES, STATE, TOLD, About, Kept
@@ -53,9 +53,7 @@ class Goal(NamedTuple):
 
 def aside(target: Path) -> Path:
     """A name beside a file for what is there."""
-    now = datetime.datetime.now(datetime.timezone.utc).strftime("%Y%m%dT%H%M%SZ")
-    names = [f"{target.name}.before-{now}", *(f"{target.name}.before-{now}-{number:02}" for number in range(2, 100))]
-    return next(one for name in names if not os.path.lexists(one := target.with_name(name)))
+    return next(one for name in times.names() if not os.path.lexists(one := target.with_name(f"{target.name}.before-{name}")))
 
 
 def make_folder(folder: Path, mode: int) -> None:
@@ -126,7 +124,7 @@ def bring_journal(goal: Goal, owner: Owner, copy: str) -> str:
 def keep_pictures(folder: Path, brought: set[str], owner: Owner) -> None:
     """Gives the pictures that are not brought a second name, as their texts get one: the keeper deletes those that no room has."""
     with owner():
-        others = [one for one in folder.iterdir() if told.PICTURE.fullmatch(one.name) and one.name not in brought]
+        others = [one for one in folder.iterdir() if told_files.PICTURE.fullmatch(one.name) and one.name not in brought]
         for one in others:
             old = aside(one)
             os.link(one, old, follow_symlinks=False)
@@ -191,7 +189,7 @@ class Rest:
             folder.mkdir(mode=0o755)
             folder.chmod(0o755)
             shutil.chown(folder, account, pwd.getpwnam(account).pw_gid)
-        texts = [goal for goal in goals if goal.target.name == told.FILE]
+        texts = [goal for goal in goals if goal.target.name == told_files.FILE]
         with owner():
             differs = any(os.path.lexists(goal.target) and not is_same(goal) for goal in texts)
         if differs:

@@ -3,13 +3,13 @@
 from typing import Any
 
 from lines import on_one_line
+from register import going_in, takes_part, withdrawn_in
 
 
 def office_text(rows: dict[str, Any]) -> str:
     """How far the round is, and who has handed in no list."""
-    away = [person for person, _, _, withdrawn in rows["people"] if withdrawn]
-    going = [person for person, in rows["going"]]
-    without = [person for person, *_ in rows["people"] if person not in {*away, *going, *rows["choices"]}]
+    away, going = withdrawn_in(rows), going_in(rows)
+    without = [person for person in takes_part(rows) if person not in rows["choices"]]
     states = [bool(shut) for _, shut, _ in rows["rooms"]]
     lines = [f"round {rows['number']} {rows['phase']}",
              f"rooms {len(states)} shut {sum(states)}",
@@ -30,7 +30,7 @@ def person_text(rows: dict[str, Any], person: str) -> str:
     """What is on record of somebody in the register."""
     _, name, home, withdrawn = next(row for row in rows["people"] if row[0] == person)
     result = dict(rows["results"]).get(person, "no result")
-    grade, going = dict(rows["grades"]).get(person, 0), [person] in rows["going"]
+    grade, going = dict(rows["grades"]).get(person, 0), person in going_in(rows)
     return (f"person {person}\nname {name}\nhome {home or 'none'}\ngrade {grade}\nround {rows['number']} {rows['phase']}\n"
             + " ".join(["choices", *rows["choices"].get(person, [])]) + "\n"
             + f"withdrawn {'yes' if withdrawn else 'no'}\ngoing {'yes' if going else 'no'}\nresult {result or 'none'}\n")
@@ -41,8 +41,7 @@ def lists_text(rows: dict[str, Any]) -> str:
 
     Those of people who take no part are left out: with one of them the whole list could not be imported again.
     """
-    away = {person for person, _, _, withdrawn in rows["people"] if withdrawn} | {person for person, in rows["going"]}
-    lists = sorted((person, rooms) for person, rooms in rows["choices"].items() if person not in away)
+    lists = [(person, rows["choices"][person]) for person in sorted(takes_part(rows)) if person in rows["choices"]]
     return "".join(["person,choices\n", *(f"{person},{' '.join(rooms)}\n" for person, rooms in lists)])
 
 

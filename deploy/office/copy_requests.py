@@ -11,7 +11,7 @@
 
 from collections.abc import Callable
 
-from backups import ASKED_FOR, MOST_DAYS
+from backups import ASKED_FOR, BACK, MOST_DAYS
 from beside_register import BesideRegister
 from branches import Branches, named_in
 from dates import Dates
@@ -79,9 +79,8 @@ class CopyRequests:
         """Puts a kept copy in the office's place. The present office is copied before, even if it is damaged."""
         name = text(job, "name")
         way = GoingBack(self.office, self.beside, name, bool(job.get("newer_keys")))
-        change = self.worker.change(Change(job["who"], way.line, way.carry_out, whole=True, kind="back",
-                                           why=f"before back {name}, by {job['who']}", damaged=True, seen=seen_in(job),
-                                           before_put=way.erase))
+        change = self.worker.change(Change(job["who"], way.line, way.carry_out, whole=True, kind=BACK,
+                                           before=f"back {name}", damaged=True, seen=seen_in(job), before_put=way.erase))
         if is_refused(change.answers):
             said = change.answers[-1].text.strip()
             raise Fault(_("the program does not take this copy ({said}). Nothing was changed.", said=said))

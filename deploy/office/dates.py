@@ -21,9 +21,9 @@ from job import Job
 from languages import N_, _
 from mail_why import FAILED
 from office import Office
-from placing import beside, to_disk
+from placing import replace_file
 from program import is_refused
-from seen import Rows, stamp, why_stale
+from seen import Rows, stamp, stamp_of, why_stale
 from settings import Fault, unwritten
 from told import mark_of
 from worker import Change, Worker
@@ -63,6 +63,10 @@ class Until(NamedTuple):
     def moment(self) -> datetime.datetime:
         """The moment."""
         return datetime.datetime.fromisoformat(self.at)
+
+    def is_of(self, rows: Rows) -> bool:
+        """Whether its round is open in these rows."""
+        return stamp(rows) == stamp_of(self.round, "open")
 
     def is_past(self) -> bool:
         """Whether the moment is over."""
@@ -145,21 +149,9 @@ class Dates:
 
     def write(self, until: Until | None) -> None:
         """Keeps a date, or deletes it."""
-        path = self.office.settings.until
-        part = beside(path, ".part")
         try:
-            if until is None:
-                path.unlink(missing_ok=True)
-            else:
-                held = os.open(part, os.O_WRONLY | os.O_CREAT | os.O_TRUNC | os.O_CLOEXEC, 0o600)
-                with open(held, "w", encoding="utf-8") as opened:
-                    json.dump(until._asdict(), opened)
-                to_disk(part)
-                part.rename(path)
-            to_disk(path.parent)
+            replace_file(self.office.settings.until, None if until is None else json.dumps(until._asdict()).encode())
         except OSError as fault:
-            with contextlib.suppress(OSError):
-                part.unlink()
             raise unwritten(N_("the date"), fault) from fault
         self.until, self.fault, self.pause, self.due = until, Why("", {}), OFTEN, 0.0
 
@@ -185,7 +177,7 @@ class Dates:
             raise Fault(_("not understood: at is no text, or closes is not true or false"))
         with self.lock:
             rows = self.worker.rows()
-            if job.get("seen") is not None and (why := why_stale(rows, job["seen"], None)):
+            if why := why_stale(rows, job.get("seen"), None):
                 raise Fault(why)
             if job.get("saw") is not None and job["saw"] != mark_of(self.until):
                 raise Fault(_(CHANGED))
@@ -236,7 +228,7 @@ class Dates:
             until = self.until
             if until is not None:
                 rows = self.worker.view.rows()
-                if (rows["number"], rows["phase"]) != (until.round, "open"):
+                if not until.is_of(rows):
                     self.forget()
                 elif until.closes and until.is_past() and time.monotonic() >= self.due:
                     self.close(until)
@@ -247,7 +239,7 @@ class Dates:
         if a round of the same number has been opened since."""
         with self.lock, contextlib.suppress(Fault, OSError):  # then the next look forgets it
             until = self.until
-            if until is not None and (then["number"], then["phase"]) != (until.round, "open"):
+            if until is not None and not until.is_of(then):
                 self.forget()
 
     def forget(self) -> None:
@@ -258,8 +250,8 @@ class Dates:
     def close(self, until: Until) -> None:
         """Closes the round, after a copy of the office, as if the clerk had done it now. If that fails, it tries again later."""
         program, who = self.office.program, f"the date that {until.who} set"
-        change = Change(who, "close", lambda file: [program.tell("close", file)], kind="close",
-                        why=f"before close, by {who}", seen=stamp({"number": until.round, "phase": "open"}))
+        change = Change(who, "close", lambda file: [program.tell("close", file)], kind="close", before="close",
+                        seen=stamp_of(until.round, "open"))
         try:
             answers = self.worker.change(change).answers
             fault = Why(ANSWERED, {"answer": answers[-1].text.strip()}) if is_refused(answers) else None

@@ -3,13 +3,13 @@ key."""
 
 from typing import Any
 
+from register import going_in, withdrawn_in
 from seen import Rows
 
 
 def away_in(rows: Rows) -> dict[str, str]:
     """Who takes no part in the round, and why."""
-    return {**{person: "withdrawn" for person, _, _, withdrawn in rows["people"] if withdrawn},
-            **{person: "going" for person, in rows["going"]}}
+    return {**dict.fromkeys(withdrawn_in(rows), "withdrawn"), **dict.fromkeys(going_in(rows), "going")}
 
 
 def differences(then: Rows, now: Rows) -> dict[str, Any]:

@@ -10,6 +10,7 @@ import itertools
 from collections import Counter
 from collections.abc import Iterator
 
+from register import homes_in
 from seen import Rows
 
 FEWEST = 5  # of fewer people nothing is said
@@ -58,7 +59,7 @@ class Counts:
             if not shut:
                 self.add("rooms", room)
                 self.add("houses", house_of(room), "rooms")
-        homes, grades = {row[0]: row[2] for row in rows["people"]}, dict(rows["grades"])
+        homes, grades = homes_in(rows), dict(rows["grades"])
         for person, room in rows["results"]:
             home = homes.get(person)
             self.count(wishes_of(home, rows["choices"].get(person, [])), home, room, str(grades.get(person, 0)))

@@ -8,7 +8,6 @@ before it is settled. A round that was given up has none, nor has one that an of
 import contextlib
 import datetime
 import json
-import os
 import sqlite3
 import threading
 from collections.abc import Callable
@@ -19,7 +18,8 @@ from copies import copied_beside
 from figures_counted import ALL, TABLES, Counts, Tables, coarse
 from languages import _
 from lines import verb_of
-from placing import beside, to_disk
+from placing import beside, replace_file
+from register import going_in, homes_in
 from rows import rows_of
 from seen import Rows
 from settings import Fault
@@ -42,8 +42,8 @@ class Round(NamedTuple):
 
 def round_of(rows: Rows) -> Round:
     """The figures of a round that is published."""
-    homes = {row[0]: row[2] for row in rows["people"]}
-    moves = any(homes.get(person) != room for person, room in rows["results"]) or any(homes.get(one) for one, in rows["going"])
+    homes = homes_in(rows)
+    moves = any(homes.get(person) != room for person, room in rows["results"]) or any(map(homes.get, going_in(rows)))
     tables = coarse(Counts(rows).tables())
     if not tables:
         raise Fault(_("the results contradict each other"))
@@ -86,7 +86,7 @@ class Kept:
     """The file of the figures."""
 
     def __init__(self, path: Path) -> None:
-        self.path, self.part, self.lock = path, beside(path, ".part"), threading.Lock()
+        self.path, self.lock = path, threading.Lock()
 
     def read(self) -> dict[int, Round]:
         """All rounds that the file has."""
@@ -96,19 +96,9 @@ class Kept:
             return {}
 
     def write(self, rounds: dict[int, Round]) -> None:
-        """Writes the file anew: whole, or not at all."""
+        """Writes the file anew."""
         text = json.dumps({"rounds": {number: one._asdict() for number, one in sorted(rounds.items())}})
-        try:
-            self.part.unlink(missing_ok=True)
-            with open(os.open(self.part, os.O_WRONLY | os.O_CREAT | os.O_EXCL, 0o600), "w", encoding="utf-8") as held:
-                held.write(text + "\n")
-            to_disk(self.part)
-            self.part.rename(self.path)
-            to_disk(self.path.parent)
-        except OSError:
-            with contextlib.suppress(OSError):
-                self.part.unlink()
-            raise
+        replace_file(self.path, f"{text}\n".encode())
 
     def shown(self, rows: Rows) -> dict[str, Any]:
         """What is shown of the rounds that the office knows: number, day and tables of each. And the file, if it is damaged."""

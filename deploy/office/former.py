@@ -105,7 +105,7 @@ class Former:
         backups, found = self.office.backups, dict[str, str]()
         for name in reversed(backups.names()):
             if left := people - found.keys():
-                found.update(in_copy(backups.folder / name / self.office.settings.file.name, left))
+                found.update(in_copy(backups.file_of(name), left))
         return found
 
 

@@ -13,6 +13,7 @@ from copies import kept_copy
 from languages import _
 from office import Office
 from parting import Parting
+from register import going_in, withdrawn_in
 from rows import View, rows_of
 from seen import Rows
 from settings import Fault
@@ -28,7 +29,7 @@ def round_in(file: Path) -> tuple[int, str] | None:
     return None
 
 
-def rounds(backups: Backups, file: str, now: Rows) -> list[tuple[str, int, str]]:
+def rounds(backups: Backups, now: Rows) -> list[tuple[str, int, str]]:
     """The copy, the number and the phase of each round that was given up since the last one was settled, the newest first.
 
     After a way back to a copy, a round that was given up, or settled, may be under way again: then it is none. The office knows a
@@ -39,7 +40,7 @@ def rounds(backups: Backups, file: str, now: Rows) -> list[tuple[str, int, str]]
     settled = set(now["settled"])
     for name in reversed(backups.names()):
         kind = backups.entry(name)["kind"]
-        had = round_in(backups.folder / name / file) if kind in (GIVE_UP, SETTLE) else None
+        had = round_in(backups.file_of(name)) if kind in (GIVE_UP, SETTLE) else None
         if had and had[0] <= last and had[0] not in found:
             if kind == SETTLE:
                 settled.add(had[0])
@@ -51,14 +52,13 @@ def rounds(backups: Backups, file: str, now: Rows) -> list[tuple[str, int, str]]
 def had_in(rows: Rows) -> dict[str, Any]:
     """What a round had: who had withdrawn, who was to leave the college, and all lists, also of these people."""
     return {"number": rows["number"], "phase": rows["phase"], "choices": rows["choices"],
-            "withdrawn": [person for person, _, _, withdrawn in rows["people"] if withdrawn],
-            "going": [person for person, in rows["going"]]}
+            "withdrawn": withdrawn_in(rows), "going": going_in(rows)}
 
 
 def given_up(office: Office, view: View, name: str | None) -> dict[str, Any]:
     """The rounds that were given up; or, with the name of the copy of one, what that round had, and whose identifiers may be
     somebody else's by now."""
-    found = rounds(office.backups, office.settings.file.name, view.rows())
+    found = rounds(office.backups, view.rows())
     if name is None:
         return {"rounds": found}
     if name not in [copy for copy, _, _ in found]:

@@ -8,9 +8,10 @@ from typing import Any
 from beside_register import BesideRegister
 from branches import Branches
 from office import Office
-from parting import Parting, people_in
-from program import Answer, correct, is_of_earlier_version, keys_in
-from rows import rows_of
+from parting import Parting
+from program import Answer, correct, is_of_earlier_version
+from register import people_in
+from rows import keys_in, rows_of
 from seen import Rows
 
 

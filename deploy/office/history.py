@@ -7,14 +7,13 @@ import datetime
 from typing import NamedTuple
 
 import times
-from branches import WENT_BACK
-from lines import on_one_line
-from seeds import DRAWN, STRUCK, Entry, lines_of, merged, noted_in, round_of_now
+from branches import WENT_BACK, kept_at
+from lines import STEPS, on_one_line
+from seeds import DRAWN, LAST_STEPS, STRUCK, Entry, lines_of, merged, noted_in, round_of_now
 
 # When a round was given up, by the last of these steps.
 AFTER = {"open": " while it was open", "close": " after it was closed", "draw": " after the order was drawn",
          "run": " after the rooms were given", "publish": " after the results were published"}
-OVER = ("", "settle", "cancel")
 UNKNOWN = " (nobody knows whether this took effect)"
 
 
@@ -42,9 +41,8 @@ class Years:
         if noted:
             end = "was struck out" if noted.source == STRUCK else f"was noted: {on_one_line(noted.source)}"
             self.say(place, entry, f"the seed {noted.seed} {end}")
-        for name in (entry.get("copy"), entry.get("answer") if entry.get("line") == "backup" else None):
-            if name:
-                self.before[str(name)] = self.state
+        if copy := kept_at(entry):
+            self.before[copy] = self.state
         for line in lines_of(entry):
             self.carry_out(place, entry, line)
         self.times.append((datetime.datetime.fromisoformat(entry["at"]), self.state))
@@ -56,7 +54,7 @@ class Years:
 
     def carry_out(self, place: int, entry: Entry, line: str) -> None:
         """One line that the keeper carried out, or may have carried out."""
-        step, _, rest = line.partition(" ")
+        step = line.partition(" ")[0]
         number = self.state.number
         if step == "open":
             answer = str(entry.get("answer", "")).split()
@@ -76,8 +74,8 @@ class Years:
         elif found := WENT_BACK.match(line):
             self.go_back(place, entry, found[1])
             return
-        if step in AFTER or step in OVER[1:]:
-            self.ended |= {number} if step in OVER else set()
+        if step in STEPS:
+            self.ended |= {number} if step in LAST_STEPS else set()
             self.state = State(number, step)
 
     def go_back(self, place: int, entry: Entry, copy: str) -> None:

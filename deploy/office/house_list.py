@@ -25,6 +25,11 @@ class House(NamedTuple):
         """Whether it is the office without a house, which is behind the router too."""
         return self.name == PLAIN
 
+    @property
+    def place(self) -> Place:
+        """Where its office has its things."""
+        return Place("" if self.is_plain else self.name)
+
     def text(self) -> str:
         """The file that says so."""
         return f"host {self.host}\n" + ("" if self.is_plain else f"port {self.port}\n")

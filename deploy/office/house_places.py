@@ -16,9 +16,9 @@ OPTION = "--house"
 NAME = re.compile(r"[a-z0-9]+(-[a-z0-9]+)*")
 LONGEST = 16  # the system takes 31 signs for the name of an account, and `rooms-keeper-` comes before it
 PLAIN = "plain"  # what rooms-house calls the office without a house
-# The ports of the residents' servers of houses: below 512, and /etc/services gives them to nothing else. The plain office has 290,
-# and 291 and 292 are taken (haproxy.cfg).
-PORTS = range(293, 308)
+# The port of the residents' server of the plain office, and those of houses: below 512, and /etc/services gives them to nothing
+# else. 291 and 292 are taken (haproxy.cfg).
+PLAIN_PORT, PORTS = 290, range(293, 308)
 RULE = (f"A house has a name of at most {LONGEST} small letters, digits and hyphens between them, as north or house-2; "
         f"{PLAIN} is the office without a house")
 
@@ -78,6 +78,11 @@ class Place:
     def settings(self) -> Path:
         """The folder of what an administrator writes."""
         return Path(self.of("/etc/rooms", "/etc/rooms/houses/{}"))
+
+    @property
+    def mail(self) -> Path:
+        """The settings of mail."""
+        return self.settings / "mail.conf"
 
     @property
     def proxy(self) -> Path:

@@ -7,7 +7,7 @@ sockets change. The router's own rules are in router.cfg.
 from collections.abc import Iterable
 
 from house_list import House
-from house_places import PLAIN, Place
+from house_places import PLAIN, PLAIN_PORT, Place
 from settings import Fault
 
 SOCKETS = "/run/rooms-proxy"  # the router sees this folder alone
@@ -26,7 +26,7 @@ def binds(name: str, certificate: str) -> tuple[str, str]:
 
 def changes(house: House) -> list[tuple[str, str, int]]:
     """Texts of haproxy.cfg, what a house has in their place, and how often they stand there."""
-    place = Place(house.name)
+    place = house.place
     http, tls = binds(house.name, str(place.certificate))
     wrong_host = ("    # A connection to another house may bring a request for this one, and the other way round.\n"
                   '    http-request return status 421 content-type text/plain string "This host is not served here." unless '
@@ -42,7 +42,7 @@ def changes(house: House) -> list[tuple[str, str, int]]:
         ("    tcp-request connection ", "    tcp-request session ", 2),
         (ACCOUNTS, "    # Sign-in by the college's own accounts is there for the plain office alone.\n", 1),
         (REDIRECT, wrong_host + REDIRECT, 1),
-        ("    server one 127.0.0.1:290 ", f"    server one 127.0.0.1:{house.port} ", 1),
+        (f"    server one 127.0.0.1:{PLAIN_PORT} ", f"    server one 127.0.0.1:{house.port} ", 1),
         ("/var/lib/haproxy/rooms-", f"{place.jail}/rooms-", 2),
     ]
 
@@ -56,7 +56,7 @@ def proxy_of(house: House, plain: str) -> str:
         text = text.replace(old, new)
     text = text.replace("/srv/rooms/portal/", f"{SHARED}/")
     for name in OWN:
-        text = text.replace(f"{SHARED}/{name} ", f"{Place(house.name).settings}/portal/{name} ")
+        text = text.replace(f"{SHARED}/{name} ", f"{house.place.settings}/portal/{name} ")
     return text
 
 

@@ -4,6 +4,7 @@ import base64
 import binascii
 from typing import Any
 
+from lines import IDENTIFIER
 from seen import PARTS, Saw
 from settings import Fault
 
@@ -18,6 +19,14 @@ def text(job: Job, name: str) -> str:
     return value
 
 
+def identifier_in(job: Job) -> str:
+    """The identifier of a person, who may be in the register or not."""
+    person = text(job, "person")
+    if not IDENTIFIER.fullmatch(person):
+        raise Fault("not understood: an identifier has up to twelve capital letters and digits")
+    return person
+
+
 def seen_in(job: Job) -> str | None:
     """In which state the sender saw the office, if the request says so."""
     return text(job, "seen") if job.get("seen") is not None else None
@@ -28,7 +37,7 @@ def saw_in(job: Job) -> Saw | None:
     if job.get("saw") is None:
         return None
     part, people, mark = job["saw"]
-    if part not in PARTS or not isinstance(people, list) or not all(isinstance(one, str) for one in people):
+    if part not in PARTS or not are_texts(people):
         raise Fault("not understood: saw is no part of what is on record of people")
     return Saw(part, people, mark)
 
@@ -38,18 +47,23 @@ def is_other(was: Any, now: list[str]) -> bool:
     return was is not None and now != (was if isinstance(was, list) else [was])
 
 
+def are_texts(value: Any) -> bool:
+    """Whether this is a list of texts."""
+    return isinstance(value, list) and all(isinstance(one, str) for one in value)
+
+
 def lines_of(job: Job) -> list[str]:
     """The lines of a request."""
     lines = job["lines"]
-    if not isinstance(lines, list) or not lines or not all(isinstance(line, str) for line in lines):
+    if not lines or not are_texts(lines):
         raise Fault("not understood: lines are no list of texts")
-    return lines
+    return list(lines)
 
 
 def again_in(job: Job) -> set[str]:
     """The identifiers of which the sender says that they are those of the same people as before."""
     again = job.get("again") or []
-    if not isinstance(again, list) or not all(isinstance(one, str) for one in again):
+    if not are_texts(again):
         raise Fault("not understood: again is no list of identifiers")
     return set(again)
 

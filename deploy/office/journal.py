@@ -8,7 +8,6 @@ the same `n`, `answer`, `status` and `ms`. If some of several lines took effect,
 """
 
 import contextlib
-import datetime
 import itertools
 import json
 import os
@@ -20,9 +19,10 @@ from pathlib import Path
 from typing import Any
 
 from languages import N_, in_english
-from lines import LIKE_A_KEY, STEPS, on_one_line, verb_of
-from placing import beside, to_disk
+from lines import BY_SEED, LIKE_A_KEY, SEED, STEPS, on_one_line, verb_of
+from placing import part_of, replace_file
 from settings import Fault, unwritten
+from times import now
 
 # What the program answers to a line that changes the office. Other answers, as to `people` or `me`, may have names.
 WITHOUT_NAMES = re.compile(
@@ -40,8 +40,8 @@ KEY = N_("(key)")  # in the place of what may be a key
 WISHES = re.compile(r"(choose \S+|chosen)((?: (?!\()\S+)*)")
 COUNTED = re.compile(rb"\(\d+ rooms?\)")
 OWN = ("fault: ", "not known: ")  # the keeper's own answers begin so
-SEED = re.compile(r"seed [0-9A-Fa-f]{64}\b")
-SEEDS = re.compile(r"^(?:seed|draw \$\(rooms words --seed) ([0-9A-Fa-f]{64})\b")
+NOTED_SEED = re.compile(rf"seed {SEED.pattern}\b")
+SEEDS = re.compile(rf"^(?:seed|{re.escape(BY_SEED)}) ({SEED.pattern})\b")
 TAIL = 4 << 20   # bytes: so much of the end of the journal is read
 ANSWER = 300     # signs of an answer that are kept
 NOTE = 600       # signs of a note that are kept: a seed, and up to 400 of what the witnesses saw
@@ -90,7 +90,7 @@ def masked_note(text: str) -> str:
     """A note as the journal has it: on one line, so that no part of it looks like an entry of its own. It has a seed as
     it is: a seed is public. No note fills the journal."""
     text = on_one_line(text)
-    seed = SEED.match(text)
+    seed = NOTED_SEED.match(text)
     return (seed[0] + masked(text[seed.end():]) if seed else masked(text))[:NOTE]
 
 
@@ -125,7 +125,7 @@ class Journal:
     """The journal's file."""
 
     def __init__(self, path: Path) -> None:
-        self.path, self.part, self.lock = path, beside(path, ".part"), threading.Lock()
+        self.path, self.lock = path, threading.Lock()
         self.numbers = itertools.count(1)
         self.late: list[dict[str, Any]] = []  # ends of changes that could not be written down yet
 
@@ -227,26 +227,17 @@ class Journal:
             old = [line for line in self.path.read_bytes().split(b"\n") if line] if self.path.exists() else []
             new = [blanked(line) for line in old]
             try:
-                self.part.write_bytes(b"".join(line + b"\n" for line in new))
-                to_disk(self.part)
-                self.part.rename(self.path)
-                to_disk(self.path.parent)
+                replace_file(self.path, b"".join(line + b"\n" for line in new))
             except OSError as fault:
-                self.part.unlink(missing_ok=True)
                 raise unwritten(N_("the journal"), fault) from fault
             return sum(map(is_rid_of, old, new))
 
     def end_unfinished(self) -> None:
         """Notes of each change of which an earlier keeper has noted no answer that this is not known."""
-        self.part.unlink(missing_ok=True)
+        part_of(self.path).unlink(missing_ok=True)
         entries = list(self.entries())
         ended = {entry["n"] for entry in entries if "n" in entry and "answer" in entry}
         for entry in entries:
             if "n" in entry and "line" in entry and entry["n"] not in ended:
                 with contextlib.suppress(Fault, OSError):
                     self.note(n=entry["n"], status=3, answer=NOT_KNOWN)
-
-
-def now() -> str:
-    """The time, to the second, with the zone."""
-    return datetime.datetime.now().astimezone().isoformat(timespec="seconds")

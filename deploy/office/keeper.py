@@ -33,6 +33,7 @@ from journal import masked
 from languages import ENGLISH, _, speak
 from keeper_requests import Requests
 from office import Office
+from register import people_in
 from settings import Fault, Settings, from_environment
 from worker import Worker
 
@@ -189,7 +190,7 @@ def main() -> int:
     office.clear()
     worker = Worker(office)
     requests = Requests(office, worker)
-    requests.beside.finish(lambda: {row[0] for row in worker.view.rows()["people"]})
+    requests.beside.finish(lambda: people_in(worker.view.rows()))
     requests.post.start()
     servers = servers_of(office, requests)
     for server in servers:

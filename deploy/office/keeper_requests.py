@@ -49,16 +49,17 @@ from disk import short_of_room
 from figures_kept import Before
 from former import Former, WasAnothers
 from history import history
-from job import Job, again_in, body_of, lines_of, saw_in, seen_in, text
+from job import Job, again_in, body_of, identifier_in, lines_of, saw_in, seen_in, text
 from journal import masked, masked_line, masked_note, spoken_of
 from languages import ENGLISH, _, speaking
 from languages_kept import LanguageRequests
-from lines import IDENTIFIER, gone_by, name_shows_a_key, named, only_reads, reason_to_copy, verb_of
+from lines import BY_SEED, gone_by, name_shows_a_key, named, only_reads, reason_to_copy, verb_of
 from mail import Post
 from office import Office
 from program import NOT_UNDERSTOOD, Answer, correct, is_refused
+from register import homes_in, takes_part
 from rows import identifiers_in, rows_of
-from seen import Rows, takes_part
+from seen import Rows
 from settings import Fault
 from watching import watch
 from worker import CarryOut, Change, Worker
@@ -136,7 +137,7 @@ class Requests:
 
     def about(self, job: Job) -> Job:
         """All that is kept of a person."""
-        person = text(job, "person")
+        person = identifier_in(job)
         return {**about(self.office, person), "mail": self.post.about(person),
                 "language": self.office.languages.about(person), "account": self.accounts.about(person)}
 
@@ -217,7 +218,7 @@ class Requests:
         """The draw by a seed."""
         seed, count = text(job, "seed"), len(takes_part(self.worker.view.rows()))
         line = " ".join(["draw", *self.program.words(seed, count)])
-        spoken = f"draw $(rooms words --seed {seed} --count {count})"
+        spoken = f"{BY_SEED} {seed} --count {count})"
         change = self.change_of(job, ("draw", spoken), "draw", lambda file: [self.program.tell(line, file)])
         return told_of(self.worker.change(change))
 
@@ -242,11 +243,11 @@ class Requests:
         change.come = come
         return told_of(self.worker.change(change))
 
-    def change_of(self, job: Job, names: tuple[str, str], kind: str, carry_out: CarryOut) -> Change:
+    def change_of(self, job: Job, names: tuple[str, str], kind: str, carry_out: CarryOut, whole: bool = False) -> Change:
         """A change for the worker. The names are those of the copy before it and in the journal."""
         short, spoken = names
-        return Change(job["who"], spoken, carry_out, kind=kind, why=f"before {short}, by {job['who']}", seen=seen_in(job),
-                      saw=saw_in(job), register=self.beside.prepare)
+        return Change(job["who"], spoken, carry_out, whole=whole, kind=kind, before=short, seen=seen_in(job), saw=saw_in(job),
+                      register=self.beside.prepare)
 
     # --- what is kept of people
 
@@ -266,12 +267,10 @@ class Requests:
 
     def forget(self, job: Job) -> Job:
         """Removes a person, and blanks each kept list that names them: all of it, or nothing."""
-        person = text(job, "person")
-        if not IDENTIFIER.fullmatch(person):
-            raise Fault("not understood: an identifier has up to twelve capital letters and digits")
+        person = identifier_in(job)
 
         def carry_out(copy: Path) -> list[Answer]:
-            homes = {row[0]: row[2] for row in rows_of(copy)["people"]}
+            homes = homes_in(rows_of(copy))
             lines = [f"leave {person}"] if homes.get(person) else []
             lines += [f"remove {person}"] if person in homes else []
             answers = self.program.tell_all(lines, copy) if lines else []
@@ -279,10 +278,8 @@ class Requests:
                 return answers
             blank(sorted({record[0] for record in kept_in(copy, person)["lists"]}), copy)
             return [*answers, self.program.look(copy)]
-        change = self.worker.change(Change(job["who"], f"forget {person}", carry_out, whole=True, kind="forget",
-                                         why=f"before forget {person}, by {job['who']}", seen=seen_in(job),
-                                         saw=saw_in(job), register=self.beside.prepare))
-        reply = told_of(change)
+        line = f"forget {person}"
+        reply = told_of(self.worker.change(self.change_of(job, (line, line), "forget", carry_out, whole=True)))
         if reply["done"]:
             self.beside.let_go([person])  # who may be out of the register already
         return reply
@@ -313,8 +310,7 @@ class Requests:
         def carry_out(copy: Path) -> list[Answer]:
             correct(people, copy)
             return [self.program.look(copy)]
-        change = self.worker.change(Change(job["who"], spoken, carry_out, whole=True, kind="correct",
-                                         why=f"before {short}, by {job['who']}", seen=seen_in(job), saw=saw_in(job)))
+        change = self.worker.change(self.change_of(job, (short, spoken), "correct", carry_out, whole=True))
         if is_refused(change.answers):
             said = change.answers[-1].text.strip()
             raise Fault(_("the program does not take this name or key ({said}). Nothing was changed.", said=said))

@@ -19,7 +19,8 @@ from typing import Any, NamedTuple
 from job import Job, is_other
 from journal import Journal
 from languages import ENGLISH, _, languages
-from placing import beside, to_disk
+from placing import replace_file
+from register import people_in
 from rows import View
 from settings import Fault, unwritten
 
@@ -60,14 +61,9 @@ class Languages:
 
     def write(self, kept: Kept) -> None:
         """Puts another file in the place of this one."""
-        part = beside(self.file, ".part")
         try:
-            part.write_text(json.dumps(kept._asdict(), ensure_ascii=False) + "\n", encoding="utf-8")
-            to_disk(part)
-            part.rename(self.file)
-            to_disk(self.file.parent)
+            replace_file(self.file, f"{json.dumps(kept._asdict(), ensure_ascii=False)}\n".encode())
         except OSError as fault:
-            part.unlink(missing_ok=True)
             raise unwritten(_("the file of the languages"), fault) from fault
 
     # --- clerks
@@ -171,7 +167,7 @@ class LanguageRequests:
 
     def set_residents(self, job: Job, codes: dict[str, str]) -> int:
         """Sets languages of people, if they are as the sender saw them. Returns of how many."""
-        known, old = {row[0] for row in self.view.rows()["people"]}, self.kept.kept().residents
+        known, old = people_in(self.view.rows()), self.kept.kept().residents
         if strangers := [person for person, code in codes.items() if code and person not in known]:
             raise Fault(_("nobody has the identifier '{person}'. Nothing was changed.", person=strangers[0][:20]))
         if is_other(job.get("was"), [old.get(person, "") for person in codes]):

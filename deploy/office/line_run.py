@@ -12,11 +12,10 @@ import tempfile
 import threading
 from pathlib import Path
 
-from lines import READS, verb_of
+from lines import ACCEPTED, NOT_UNDERSTOOD, READS, REFUSED, UNAVAILABLE, verb_of
 
 TABLES = READS - {"round", "whatif"}  # the queries whose answers may have several lines, or none
 OF_ROUND = re.compile(r"round \d+ [a-z]+ people \d+ .*\n")
-ACCEPTED, REFUSED, NOT_UNDERSTOOD, UNAVAILABLE = range(4)
 
 
 class Ended(Exception):

@@ -1,4 +1,5 @@
-"""The office's lines: which only read, before which the office is copied, and which may show a key."""
+"""The office's lines and the program's answers: how their words are written, which lines only read, before which the office is
+copied, and which may show a key."""
 
 import re
 from typing import Any
@@ -6,7 +7,15 @@ from typing import Any
 # What may be a key: identifiers have at most 12 signs, and codes 8. In capitals it may be a key too that was typed so.
 LIKE_A_KEY = re.compile(r"[A-Za-z0-9]{16,}")
 IDENTIFIER = re.compile(r"[A-Z0-9]{1,12}")
+CODE = re.compile(r"[A-Z0-9][A-Z0-9-]{0,7}")  # of a room
 DRAWN = re.compile(r"[A-Fa-f0-9]{16}")  # a word of a draw
+SEED = re.compile(r"[0-9A-Fa-f]{64}")    # of a draw
+BY_SEED = "draw $(rooms words --seed"    # a draw by a seed, as the journal has it: the seed comes behind it
+
+LONGEST_LIST = 262_144  # bytes: the program takes no longer list
+# The program's statuses; after those of NOT_TAKEN nothing was changed, and would not be if it was asked again.
+ACCEPTED, REFUSED, NOT_UNDERSTOOD, UNAVAILABLE = range(4)
+NOT_TAKEN = (REFUSED, NOT_UNDERSTOOD)
 
 # What only reads is asked of a copy. Every other line may change the office.
 READS = frozenset({"rooms", "people", "round", "order", "results", "moves", "whatif", "me"})

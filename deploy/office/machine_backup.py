@@ -18,10 +18,11 @@ from dataclasses import asdict, dataclass, field
 from pathlib import Path
 from typing import Any, NamedTuple
 
-import told
+from backups import WHY
 from settings import Fault
+from told_files import is_own
 
-FILE, WHY, ABOUT, SUMS = "rooms.db", "why", "about.json", "SHA256SUMS"
+FILE, ABOUT, SUMS = "rooms.db", "about.json", "SHA256SUMS"
 STATE, TOLD, FILES = "state", "told", "files"
 FORMAT = 1
 # What `rooms-restore --with` brings beside the office's file.
@@ -106,7 +107,7 @@ def is_placed(name: str, kept: Kept) -> bool:
     if any(word in ("", ".", "..") for word in words) or kept.part not in PARTS:
         return False
     if words[0] == TOLD:
-        return len(words) == 2 and told.is_own(words[1])
+        return len(words) == 2 and is_own(words[1])
     return words[0] == STATE or any(name.startswith(f"{FILES}/{place}/") for place in PLACES)
 
 

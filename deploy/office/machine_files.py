@@ -10,16 +10,17 @@ import time
 from collections.abc import Callable, Iterator
 from pathlib import Path
 
-import told
 from house_places import Place
+from house_proxy import OWN
 from machine_backup import FILES, PLACES, STATE, TOLD, Kept
 from placing import beside
 from settings import Fault, Settings
+from told_files import is_own
 
 MACHINE = Path(os.environ.get("ROOMS_MACHINE", "/"))  # the trial has a machine of its own
 # The files of each part of the plain office, as patterns.
 WANTED = {
-    "portal": ["etc/rooms/**/*", "srv/rooms/portal/index.html", "srv/rooms/portal/texts.js", "srv/rooms/portal/rooms.csv"],
+    "portal": ["etc/rooms/**/*", *(f"srv/rooms/portal/{name}" for name in OWN)],
     "units": ["etc/systemd/system/rooms-*.d/*.conf", "etc/systemd/system/haproxy.service.d/*.conf",
               "etc/rsyslog.d/48-rooms.conf"],
 }
@@ -77,7 +78,7 @@ def told_files(settings: Settings) -> Iterator[tuple[str, str, int, os.stat_resu
     """The same of what residents read of rooms, if somebody has written something there."""
     for _folder, folders, names, held in os.fwalk(settings.told, follow_symlinks=False):
         folders.clear()
-        for name in filter(told.is_own, sorted(names)):
+        for name in filter(is_own, sorted(names)):
             with contextlib.suppress(FileNotFoundError):
                 found = os.stat(name, dir_fd=held, follow_symlinks=False)
                 if stat.S_ISREG(found.st_mode):

@@ -18,7 +18,6 @@ message after the other. If the mail server is away, or refuses several people i
 """
 
 import contextlib
-import datetime
 import sqlite3
 import threading
 from collections.abc import Callable
@@ -35,8 +34,10 @@ from mail_state import State
 from mail_why import GIVEN_UP, RESTARTED, STOPPED, kept
 from mail_words import KINDS, RECEIPT, Text, faults_of, filled, is_address
 from office import Office
+from register import people_in
 from seen import why_stale
 from settings import Fault
+from times import now
 from told import mark_of
 from worker import Worker
 
@@ -75,6 +76,11 @@ def link_in(job: Job) -> str:
     if not isinstance(link, str) or not link.startswith("https://") or not link.isprintable() or " " in link:
         raise Fault(_("the address of the residents' page is not known. Open the office's page by its name."))
     return link
+
+
+def once_more(kind: str, number: int, only: bool) -> str:
+    """What the journal says when people get a message of a round once more: everybody, or `only` the people who may not have it."""
+    return f"mail {kind} of round {number} once more {'to those who may not have it' if only else 'to everybody'}"
 
 
 class Post:  # pylint: disable=too-many-instance-attributes  # the parts of the mail
@@ -143,7 +149,7 @@ class Post:  # pylint: disable=too-many-instance-attributes  # the parts of the 
         new = job["addresses"]
         if not isinstance(new, dict) or not all(isinstance(one, str) and (one == "" or is_address(one)) for one in new.values()):
             raise Fault(_("one of these is no mail address. Nothing was changed."))
-        known = {row[0] for row in self.worker.view.rows()["people"]}
+        known = people_in(self.worker.view.rows())
         if strangers := [person for person in new if person not in known and new[person]]:
             raise Fault(_("nobody has the identifier {person}. Nothing was changed.", person=repr(strangers[0][:20])))
         with self.book.lock:
@@ -175,10 +181,10 @@ class Post:  # pylint: disable=too-many-instance-attributes  # the parts of the 
         if faults := faults_of(kind, text):
             return {"faults": faults}
         person, link = job["person"], link_in(job)
-        if person not in {row[0] for row in rows["people"]}:
+        if person not in people_in(rows):
             raise Fault(_("nobody has this identifier"))
         if kind == RECEIPT:
-            since = self.receipts.book.entry(person).at or datetime.datetime.now().astimezone().isoformat()
+            since = self.receipts.book.entry(person).at or now()
             shown = receipt_to(rows, person, since, link, (language, text))
         else:
             with speaking(language):
@@ -213,8 +219,7 @@ class Post:  # pylint: disable=too-many-instance-attributes  # the parts of the 
             self.fail_if_busy()
             if turn != self.book.turn(kind, number):
                 raise changed_meanwhile()
-            what = "to those who may not have it" if job.get("only") else "to everybody"
-            with self.journal.change(job["who"], f"mail {kind} of round {number} once more {what}"):
+            with self.journal.change(job["who"], once_more(kind, number, bool(job.get("only")))):
                 if job.get("only"):
                     self.book.forget_uncertain(kind, number, turn)
                 else:
@@ -225,8 +230,7 @@ class Post:  # pylint: disable=too-many-instance-attributes  # the parts of the 
         """Lets those get a receipt of whom nobody knows whether they have it."""
         if not job.get("only"):
             raise Fault("not understood: a receipt is for the one whose list has changed")
-        line = f"mail {RECEIPT} of round {number} once more to those who may not have it"
-        with self.journal.change(job["who"], line):
+        with self.journal.change(job["who"], once_more(RECEIPT, number, True)):
             self.receipts.book.forget_uncertain(number)
         return {}
 
@@ -251,8 +255,7 @@ class Post:  # pylint: disable=too-many-instance-attributes  # the parts of the 
                 raise Fault(_("somebody else has begun this meanwhile, or changed a text. Nothing was sent by you: look again."))
             if not state["to"]:
                 raise Fault(_("nobody is left who has an address and has not got this message. Nothing was sent."))
-            run = Run(kind, rows["number"], state["turn"], *texts.each[texts.default], link, job["who"], RUNNING, "",
-                      mail_book.now())
+            run = Run(kind, rows["number"], state["turn"], *texts.each[texts.default], link, job["who"], RUNNING, "", now())
             with self.journal.change(job["who"], f"mail {kind} of round {rows['number']} begins: {len(state['to'])}"):
                 self.book.start(run, texts.each, state["to"])
             self.sender.begin()

@@ -6,7 +6,6 @@ back to a copy; so this file does not.
 """
 
 import contextlib
-import datetime
 import hashlib
 import json
 import secrets
@@ -20,6 +19,7 @@ from languages import _
 from mail_why import ENDED_MEANWHILE
 from mail_words import ALL, RECEIPT, Text
 from settings import Fault
+from times import now
 
 WAITING, BEGUN, SENT, REFUSED, UNCERTAIN = "waiting", "begun", "sent", "refused", "uncertain"
 SECRET = "told-secret"  # a setting: the key of the marks
@@ -69,11 +69,6 @@ class Run(NamedTuple):
     def text(self) -> Text:
         """The text of its messages."""
         return Text(self.subject, self.body)
-
-
-def now() -> str:
-    """The time, to the second."""
-    return datetime.datetime.now().astimezone().isoformat(timespec="seconds")
 
 
 class Book:  # pylint: disable=too-many-public-methods  # one for each thing that is written or read
@@ -159,7 +154,7 @@ class Book:  # pylint: disable=too-many-public-methods  # one for each thing tha
     def set(self, **settings: str) -> None:
         """Sets some."""
         with self.opened() as database:
-            database.executemany("INSERT OR REPLACE INTO setting VALUES (?, ?)", settings.items())
+            set_in(database, settings)
 
     # --- messages
 
@@ -190,8 +185,7 @@ class Book:  # pylint: disable=too-many-public-methods  # one for each thing tha
         if not secret:
             secret = secrets.token_hex(16)
             self.set(**{SECRET: secret})
-        return {person: hashlib.blake2b(json.dumps(one).encode(), digest_size=12, key=secret.encode()).hexdigest()
-                for person, one in told.items()}
+        return {person: mark_by(secret, json.dumps(one)) for person, one in told.items()}
 
     def forget_uncertain(self, kind: str, number: int, turn: int) -> None:
         """Takes uncertain messages for such that were not sent."""
@@ -244,15 +238,13 @@ class Book:  # pylint: disable=too-many-public-methods  # one for each thing tha
     def mark(self, person: str, state: str, why: str = "") -> None:
         """What becomes of a message of the run."""
         with self.opened() as database:
-            database.execute(f"UPDATE message SET state = ?, at = ?, why = ? WHERE {OF_RUN} AND person = ?",
-                             (state, now(), why, person))
+            mark_in(database, person, state, why)
 
     def begin_message(self, person: str, told: Mapping[str, object]) -> None:
         """The message of the run to this person is on its way. `told` has what it tells them, if that may change."""
         marks = self.marks_of({one: what for one, what in told.items() if one == person})
         with self.opened() as database:
-            database.execute(f"UPDATE message SET state = ?, at = ?, why = '' WHERE {OF_RUN} AND person = ?",
-                             (BEGUN, now(), person))
+            mark_in(database, person, BEGUN, "")
             database.executemany("INSERT OR REPLACE INTO told SELECT kind, round, turn, ?, ? FROM run", marks.items())
 
     def skip(self, person: str) -> None:
@@ -287,6 +279,21 @@ def bring_earlier(database: sqlite3.Connection) -> None:
     database.execute(f"INSERT OR REPLACE INTO told SELECT kind, round, turn, person, mark {left} AND mark IS NOT NULL")
     database.execute(f"INSERT INTO message SELECT kind, round, turn, person, state, at, why {left}")
     database.execute("DELETE FROM earlier")
+
+
+def set_in(database: sqlite3.Connection, settings: Mapping[str, str]) -> None:
+    """Sets some settings."""
+    database.executemany("INSERT OR REPLACE INTO setting VALUES (?, ?)", settings.items())
+
+
+def mark_in(database: sqlite3.Connection, person: str, state: str, why: str) -> None:
+    """What becomes of a message of the run."""
+    database.execute(f"UPDATE message SET state = ?, at = ?, why = ? WHERE {OF_RUN} AND person = ?", (state, now(), why, person))
+
+
+def mark_by(secret: str, text: str) -> str:
+    """What changes with a text, and says nothing of it to who does not know the secret."""
+    return hashlib.blake2b(text.encode(), digest_size=12, key=secret.encode()).hexdigest()
 
 
 def forget_old(database: sqlite3.Connection, number: int) -> None:

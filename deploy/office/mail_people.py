@@ -7,12 +7,11 @@ import datetime
 import times
 from languages import ENGLISH, _, ngettext, spoken
 from mail_words import RECEIPT
+from plan_of_moves import LEAVES, NONE, SWAP, moves_in
 from program import Program
 from copies import Copies
-from seen import Rows, takes_part
-
-NONE = "none"  # as the program says it in a plan of moves, and an English message
-LEAVES, SWAP = "0", "swap"
+from register import homes_in, people_in, takes_part, withdrawn_in
+from seen import Rows
 
 
 def goes_to(kind: str, rows: Rows, moves: dict[str, list[str]]) -> list[str]:
@@ -23,7 +22,7 @@ def goes_to(kind: str, rows: Rows, moves: dict[str, list[str]]) -> list[str]:
         return []  # the keeper finds out whose list has changed
     if kind == "reminder":
         return [person for person in takes_part(rows) if not rows["choices"].get(person)]
-    known = {row[0] for row in rows["people"]}
+    known = people_in(rows)
     return [person for person in (moves if kind == "moves" else dict(rows["results"])) if person in known]
 
 
@@ -33,7 +32,7 @@ def told_by(kind: str, rows: Rows, moves: dict[str, list[str]]) -> dict[str, lis
         return {person: list(move) for person, move in moves.items()}
     if kind != "results":
         return {}
-    homes = {person: home for person, _name, home, _withdrawn in rows["people"]}
+    homes = homes_in(rows)
     return {person: [room, homes.get(person)] for person, room in rows["results"]}
 
 
@@ -43,8 +42,8 @@ def planned_moves(rows: Rows, program: Program, copies: Copies) -> dict[str, lis
         return {}
     with copies.copied() as copy:
         answer = program.tell_all(["settle", f"moves {rows['number']}"], copy)[-1]
-    lines = [line.split() for line in answer.text.splitlines()[1:]] if answer.status == 0 else []
-    return {person: [wave, old, new] for wave, person, old, new in lines}
+    moves = moves_in(answer.text) if answer.status == 0 else []
+    return {move.person: [move.wave, move.old, move.new] for move in moves}
 
 
 def none() -> str:
@@ -88,7 +87,7 @@ def move_of(wave: str, old: str, new: str) -> str:
 def receipt_of(rows: Rows, person: str, since: datetime.datetime) -> str:
     """What the office has of a person's list, as a sentence without its rooms."""
     number, time = rows["number"], times.to_the_minute(since)
-    if any(one == person and withdrawn for one, _name, _home, withdrawn in rows["people"]):
+    if person in withdrawn_in(rows):
         return _("You have withdrawn from round {round}, since about {time}.", round=number, time=time)
     count = len(rows["choices"].get(person, []))
     if not count:

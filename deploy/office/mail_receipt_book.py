@@ -5,14 +5,15 @@ A list is here as a mark: it says whether the list has changed, and nothing of i
 of the round all of it is erased.
 """
 
-import hashlib
 import secrets
 import sqlite3
 from typing import Any, NamedTuple
 
-from mail_book import BEGUN, REFUSED, SENT, UNCERTAIN, WAITING, Book, forget_old, now
+from mail_book import BEGUN, REFUSED, SENT, UNCERTAIN, WAITING, Book, forget_old, mark_by, set_in
 from mail_words import RECEIPT
+from register import going_in, withdrawn_in
 from seen import Rows
+from times import now
 
 # Settings of the file.
 ON, WHY, WHO, LINK, ROUND, MARK = (f"receipts-{name}" for name in ("on", "why", "who", "link", "round", "mark"))
@@ -63,7 +64,7 @@ class ReceiptBook:
     def end(self) -> None:
         """Ends with them. What was sent stays written down."""
         with self.book.opened() as database:
-            database.execute("INSERT OR REPLACE INTO setting VALUES (?, '')", (ON,))
+            set_in(database, {ON: ""})
             clear(database)
 
     def pause(self, why: str) -> None:
@@ -74,12 +75,9 @@ class ReceiptBook:
 
     def marks(self, rows: Rows) -> dict[str, str]:
         """The mark of what is on record of each person who has something there."""
-        secret = self.book.setting(MARK).encode()
-        found = {person: hashlib.blake2b(" ".join(rooms).encode(), digest_size=12, key=secret).hexdigest()
-                 for person, rooms in rows["choices"].items() if rooms}
-        found.update((person, "withdrawn") for person, _name, _home, withdrawn in rows["people"] if withdrawn)
-        found.update((person, AWAY) for person, in rows["going"])
-        return found
+        secret = self.book.setting(MARK)
+        found = {person: mark_by(secret, " ".join(rooms)) for person, rooms in rows["choices"].items() if rooms}
+        return {**found, **dict.fromkeys(withdrawn_in(rows), "withdrawn"), **dict.fromkeys(going_in(rows), AWAY)}
 
     def entries(self) -> dict[str, Entry]:
         """What is written down of each person."""
@@ -94,7 +92,7 @@ class ReceiptBook:
         """Takes what is on record for known: nobody gets a receipt of that. Old messages are forgotten."""
         with self.book.opened() as database:
             clear(database)
-            database.execute("INSERT OR REPLACE INTO setting VALUES (?, ?)", (ROUND, str(number)))
+            set_in(database, {ROUND: str(number)})
             at = now()
             database.executemany("INSERT INTO receipt VALUES (?, ?, ?, ?)", [(one, mark, at, mark) for one, mark in marks.items()])
             forget_old(database, number)
@@ -134,14 +132,12 @@ class ReceiptBook:
     def mark(self, number: int, turn: int, person: str, state: str, why: str = "") -> None:
         """What became of a receipt."""
         with self.book.opened() as database:
-            database.execute("UPDATE message SET state = ?, at = ?, why = ? WHERE (kind, round, turn, person) = (?, ?, ?, ?)",
-                             (state, now(), why, RECEIPT, number, turn, person))
+            mark_in(database, (number, turn, person), state, why)
 
     def take_back(self, number: int, turn: int, person: str, entry: Entry, why: str) -> None:
         """A receipt was not sent, and is due again."""
         with self.book.opened() as database:
-            database.execute("UPDATE message SET state = ?, at = ?, why = ? WHERE (kind, round, turn, person) = (?, ?, ?, ?)",
-                             (WAITING, now(), why, RECEIPT, number, turn, person))
+            mark_in(database, (number, turn, person), WAITING, why)
             database.execute("UPDATE receipt SET told = ? WHERE person = ? AND told = ?", (entry.told, person, entry.now))
 
     def states(self, number: int) -> dict[str, list[list[Any]]]:
@@ -159,10 +155,16 @@ class ReceiptBook:
             database.execute("DELETE FROM message WHERE kind = ? AND round = ? AND state = ?", key)
 
 
+def mark_in(database: sqlite3.Connection, key: tuple[int, int, str], state: str, why: str) -> None:
+    """What became of a receipt, by its round, turn and person."""
+    database.execute("UPDATE message SET state = ?, at = ?, why = ? WHERE (kind, round, turn, person) = (?, ?, ?, ?)",
+                     (state, now(), why, RECEIPT, *key))
+
+
 def clear(database: sqlite3.Connection) -> None:
     """Erases what is written down of lists."""
     database.execute("DELETE FROM receipt")
-    database.execute("INSERT OR REPLACE INTO setting VALUES (?, '')", (ROUND,))
+    set_in(database, {ROUND: ""})
 
 
 def tell(database: sqlite3.Connection, person: str, entry: Entry, told: str) -> bool:

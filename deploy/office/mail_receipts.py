@@ -12,17 +12,19 @@ import threading
 
 from languages import speaking
 from languages_kept import Languages
-from mail_book import REFUSED, SENT, UNCERTAIN, Book, now
+from mail_book import REFUSED, WAITING, Book
 from mail_people import receipt_of, values_of
 from mail_receipt_book import AWAY as LEAVES, NONE, NOTHING, Entry, ReceiptBook
-from mail_run import IN_A_ROW, LAST_WORDS, Pace
-from mail_send import Away, NotTaken, Unknown, message_of, send
+from mail_run import IN_A_ROW, LAST_WORDS, STOPS, Pace, outcome_of
+from mail_send import message_of
 from mail_settings import MailSettings, read
-from mail_why import FAILED, MANY_REFUSED, NOBODY_KNOWS, TAKES_NONE, kept
+from mail_why import FAILED, MANY_REFUSED, NOBODY_KNOWS, kept
 from mail_words import RECEIPT, Text, filled, texts_of
 from office import Office
+from register import people_in
 from seen import Rows
 from settings import Fault
+from times import now
 from worker import Worker
 
 MOST_PAUSE, LEAST_PAUSE, LOOKS = 15.0, 0.5, 10  # seconds between two looks, of which some come before a receipt is due
@@ -168,7 +170,7 @@ class Receipts:  # pylint: disable=too-many-instance-attributes  # the parts of 
             at = now()
             changed = {one: Entry(mark, at, entry.told) for one in dict.fromkeys([*entries, *marks])
                        if (mark := marks.get(one, NOTHING)) != (entry := entries.get(one, NONE)).now}
-            known = {row[0] for row in rows["people"]}
+            known = people_in(rows)
             gone = [one for one in entries if one not in known]
             if changed or gone:
                 self.book.saw({one: entry for one, entry in changed.items() if one in known}, gone)
@@ -197,20 +199,13 @@ class Receipts:  # pylint: disable=too-many-instance-attributes  # the parts of 
 
     def hand_over(self, settings: MailSettings, key: tuple[int, int, str], entry: Entry, letter: tuple[str, bytes]) -> bool:
         """Gives a receipt that is written down to the mail server, and writes down what became of it."""
-        try:
-            send(settings, *letter)
-        except NotTaken as why:
-            self.book.mark(*key, REFUSED, str(why))
-            self.in_a_row += 1
-        except Away as why:
-            self.book.take_back(*key, entry, str(why))
-            self.pause(TAKES_NONE)
-            return False
-        except Unknown as why:
-            self.book.mark(*key, UNCERTAIN, str(why))
-            self.pause(NOBODY_KNOWS)
-            return False
+        outcome, why = outcome_of(settings, *letter)
+        if outcome == WAITING:
+            self.book.take_back(*key, entry, why)
         else:
-            self.book.mark(*key, SENT)
-            self.in_a_row = 0
+            self.book.mark(*key, outcome, why)
+        if outcome in STOPS:
+            self.pause(STOPS[outcome])
+            return False
+        self.in_a_row = self.in_a_row + 1 if outcome == REFUSED else 0
         return True

@@ -13,13 +13,28 @@ from mail_settings import MailSettings, must_read
 from mail_why import FAILED, GONE_ON, MANY_REFUSED, NOBODY_KNOWS, TAKES_NONE, kept
 from mail_words import KINDS, Text, filled
 from office import Office
-from seen import Rows, stamp
+from seen import Rows, stamp, stamp_of
 from settings import Fault
 from worker import Worker
 
 IN_A_ROW = 3        # so many refusals one after the other are the mail server's, and no fault of addresses
 LAST_WORDS = 2.0    # seconds for the message that is on its way when the keeper ends
 OUTCOMES = (WAITING, SENT, REFUSED, UNCERTAIN)
+STOPS = {WAITING: TAKES_NONE, UNCERTAIN: NOBODY_KNOWS}  # outcomes after which no message goes until a clerk says so, and why
+
+
+def outcome_of(settings: MailSettings, address: str, message: bytes) -> tuple[str, str]:
+    """Hands a message over to the mail server. Gives what became of it, and why; one that it does not take now waits."""
+    try:
+        send(settings, address, message)
+    except NotTaken as why:
+        return REFUSED, str(why)
+    except Away as why:
+        return WAITING, str(why)
+    except Unknown as why:
+        return UNCERTAIN, str(why)
+    return SENT, ""
+
 
 class Pace:  # pylint: disable=too-few-public-methods  # all that it does is to wait
     """Lets so many messages go in a minute, whichever thread sends them."""
@@ -95,7 +110,7 @@ class Sender:
         person = self.book.waiting()
         if run is None or not person:
             self.end_run(run, "")
-        elif stamp(rows) != f"round {run.round} {KINDS[run.kind].phase}":
+        elif stamp(rows) != stamp_of(run.round, KINDS[run.kind].phase):
             self.end_run(run, GONE_ON)
         elif self.in_a_row >= IN_A_ROW:
             self.pause(kept(MANY_REFUSED, count=IN_A_ROW))
@@ -113,22 +128,12 @@ class Sender:
         with speaking(language):
             message = message_of(settings, address, filled(text, values_of(run.kind, rows, person, run.link, moves)))
         self.book.begin_message(person, told_by(run.kind, rows, moves))
-        try:
-            send(settings, address, message)
-        except NotTaken as why:
-            self.book.mark(person, REFUSED, str(why))
-            self.in_a_row += 1
-        except Away as why:
-            self.book.mark(person, WAITING, str(why))
-            self.pause(TAKES_NONE)
+        outcome, why = outcome_of(settings, address, message)
+        self.book.mark(person, outcome, why)
+        if outcome in STOPS:
+            self.pause(STOPS[outcome])
             return False
-        except Unknown as why:
-            self.book.mark(person, UNCERTAIN, str(why))
-            self.pause(NOBODY_KNOWS)
-            return False
-        else:
-            self.book.mark(person, SENT)
-            self.in_a_row = 0
+        self.in_a_row = self.in_a_row + 1 if outcome == REFUSED else 0
         return True
 
     def text_for(self, person: str, run: Run) -> tuple[str, Text]:

@@ -17,14 +17,14 @@ from languages_kept import Languages
 from mail_book import BEGUN, PAUSED, REFUSED, RUNNING, SENT, UNCERTAIN, WAITING, Book
 from mail_people import goes_to, told_by
 from mail_receipts import Receipts
-from mail_run import Sender
-from mail_why import AWAY, NOBODY_KNOWS, TAKES_NONE, UNKNOWN, UNWRITTEN, said
+from mail_run import STOPS, Sender
+from mail_why import AWAY, UNKNOWN, UNWRITTEN, said
 from mail_why import kept as written
 from mail_words import KINDS, RECEIPT, Texts, texts_of
 from seen import Rows
 
-# What is said with the message at which it stopped, and how that one stands now.
-OF_MESSAGE = {TAKES_NONE: (AWAY, WAITING), NOBODY_KNOWS: (UNKNOWN, UNCERTAIN)}
+# What is said with the message at which it stopped, by how that one stands now.
+OF_MESSAGE = {WAITING: AWAY, UNCERTAIN: UNKNOWN}
 CHANGED, OTHERS = "changed", "others"  # what was sent, and is not right any more
 HAVE = (SENT, UNCERTAIN, BEGUN, WAITING)  # a further press sends nothing to these
 
@@ -97,6 +97,6 @@ class State:
 
     def stopped(self, why: str, kind: str, number: int) -> str:
         """Why messages of a kind do not go on, with whose message it was and what the mail server answered, if that is kept."""
-        text, state = OF_MESSAGE.get(why, ("", ""))
-        found = self.book.stopped_at(kind, number, state) if text else None
-        return said(written(text, person=found[0], why=found[1]) if found else why)
+        state = next((state for state, stops in STOPS.items() if stops == why), "")
+        found = self.book.stopped_at(kind, number, state) if state else None
+        return said(written(OF_MESSAGE[state], person=found[0], why=found[1]) if found else why)

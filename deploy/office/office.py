@@ -5,7 +5,7 @@ from copies import Copies
 from figures_kept import Kept
 from journal import Journal
 from languages_kept import Languages
-from placing import beside
+from placing import beside, part_of
 from program import Program
 from settings import Settings
 from told import Told
@@ -26,7 +26,7 @@ class Office:  # pylint: disable=too-few-public-methods  # a place for the parts
         self.copies.clear()
         beside(self.settings.file, ".watch").unlink(missing_ok=True)
         self.copies.place.finish()
-        self.figures.part.unlink(missing_ok=True)
+        part_of(self.settings.figures).unlink(missing_ok=True)
         self.backups.clear()
         self.journal.end_unfinished()
         self.told.clear()

@@ -13,16 +13,12 @@ from typing import Any
 from branches import Branches
 from differences import differences
 from office import Office
+from register import people_in
 from rows import identifiers_in, rows_of
 from seen import Rows
 from settings import Fault
 
 KEYS, LISTS = "key_marks", "choices"  # what a clerk or a person changes, as the rows have it
-
-
-def people_in(rows: Rows) -> set[str]:
-    """Who is in the register."""
-    return {row[0] for row in rows["people"]}
 
 
 class Parting:

@@ -18,6 +18,7 @@ import os
 import shutil
 import signal
 import struct
+import tempfile
 import threading
 import time
 from collections.abc import Callable, Iterator
@@ -47,6 +48,51 @@ def to_disk(*paths: Path) -> None:
             os.fsync(held)
         finally:
             os.close(held)
+
+
+def part_of(file: Path) -> Path:
+    """What a file is called until it is whole."""
+    return beside(file, ".part")
+
+
+def replace_file(file: Path, data: bytes | None, mode: int = 0o600, part: Path | None = None) -> None:
+    """Puts a file with these bytes in the place of another one, or takes that one away: on the disk before it returns, and whole or
+    not at all. `part` is what it is called until it is whole, if that is another name than the usual one."""
+    part = part or part_of(file)
+    try:
+        if data is None:
+            file.unlink(missing_ok=True)
+        else:
+            with open(os.open(part, os.O_WRONLY | os.O_CREAT | os.O_TRUNC | os.O_CLOEXEC, mode), "wb") as held:
+                os.fchmod(held.fileno(), mode)  # the umask would keep a public file from the others
+                held.write(data)
+            to_disk(part)
+            part.rename(file)
+        to_disk(file.parent)
+    except OSError:
+        with contextlib.suppress(OSError):
+            part.unlink()
+        raise
+
+
+HALF = ".part-"  # how the name of a folder begins that is not whole yet
+
+
+@contextlib.contextmanager
+def half_made(folder: Path) -> Iterator[Path]:
+    """A new folder below this one, to be filled and renamed in the block. If that fails, nothing of it remains."""
+    part = Path(tempfile.mkdtemp(dir=folder, prefix=HALF))
+    try:
+        yield part
+    except BaseException:
+        shutil.rmtree(part, ignore_errors=True)
+        raise
+
+
+def drop_half_made(folder: Path) -> None:
+    """Deletes what was left half made by somebody who was killed."""
+    for part in folder.glob(f"{HALF}*"):
+        shutil.rmtree(part)
 
 
 def is_done(held: int, command: int, value: int | bytes) -> bool:

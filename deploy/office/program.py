@@ -6,7 +6,6 @@ Every account of the machine can read the command lines of all processes. So lin
 
 import contextlib
 import os
-import re
 import sqlite3
 import subprocess
 import tempfile
@@ -16,11 +15,10 @@ from pathlib import Path
 from typing import NamedTuple
 
 from languages import _
-from line_run import UNAVAILABLE, Ended, LineRun, is_skipped, status_of
-from lines import name_shows_a_key, shows_a_key, verb_of
+from line_run import Ended, LineRun, is_skipped, status_of
+from lines import SEED, UNAVAILABLE, name_shows_a_key, shows_a_key, verb_of
 from settings import Fault, Settings
 
-SEED = re.compile(r"[0-9A-Fa-f]{64}")
 FURTHER, MOST = 0.02, 2_000  # seconds for each further line of a bundle, and for how many of them at most
 PATIENCE = 5.0               # seconds until a program by hand has to have closed the office's file
 AGAIN = 0.05                 # seconds after which the program tries again whether it has
@@ -34,6 +32,7 @@ class Answer(NamedTuple):
 
 
 NOT_UNDERSTOOD = Answer("not understood\n", 2)
+EARLIER = ("refused 22 OtherVersion 1", "refused 22 OtherVersion 2")  # of files that it can migrate
 
 
 class Unanswered(Fault):
@@ -51,7 +50,12 @@ def is_refused(answers: list[Answer]) -> bool:
 
 def is_of_earlier_version(answer: Answer) -> bool:
     """Whether the program says that a file is an office's of an earlier version, which it can migrate."""
-    return answer.text.startswith(("refused 22 OtherVersion 1\n", "refused 22 OtherVersion 2\n"))
+    return answer.text.partition("\n")[0] in EARLIER
+
+
+def late(seconds: float) -> str:
+    """What a clerk reads about a program that took longer than it may."""
+    return _("the program did not end within {seconds:g} seconds, and was ended.", seconds=seconds)
 
 
 def bound(*words: str) -> list[str]:
@@ -89,12 +93,6 @@ def correct(people: dict[str, dict[str, str]], copy: Path) -> None:
                 raise Fault(_("nobody has the identifier {person}. Nothing was changed.", person=repr(person)))
 
 
-def keys_in(copy: Path) -> dict[str, str]:
-    """The key of each person in a copy."""
-    with contextlib.closing(sqlite3.connect(copy)) as database:
-        return dict(database.execute("SELECT id, passkey FROM person"))
-
-
 class Program:
     """The program, as the keeper runs it."""
 
@@ -113,8 +111,7 @@ class Program:
         try:
             done = subprocess.run(line, stdin=subprocess.DEVNULL, capture_output=True, timeout=limit, check=False)
         except subprocess.TimeoutExpired as fault:
-            why = _("the program did not end within {seconds:g} seconds, and was ended.", seconds=limit)
-            raise Fault(_("{why} Look whether the line took effect.", why=why)) from fault
+            raise Fault(_("{why} Look whether the line took effect.", why=late(limit))) from fault
         return Answer((done.stdout + done.stderr).decode("utf-8", "replace"), done.returncode)
 
     def tell(self, line: str, file: Path) -> Answer:
@@ -174,7 +171,7 @@ class Program:
     def unanswered(self, run: LineRun, file: Path, answers: list[Answer], count: int) -> Unanswered:
         """The fault of a run that has ended before it answered so many lines. A copy is thrown away then."""
         if run.is_late:
-            why = _("the program did not end within {seconds:g} seconds, and was ended.", seconds=run.seconds)
+            why = late(run.seconds)
         else:
             why = _("the program ended before it had answered ({said}).", said=run.said.strip() or run.process.returncode)
         if file != self.settings.file or run.handed == 1:

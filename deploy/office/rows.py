@@ -29,6 +29,7 @@ LATER = {
     "grades": (2, "SELECT person, value FROM grade ORDER BY person"),
     "going": (3, "SELECT person FROM going ORDER BY person"),
 }
+KEYS = "SELECT id, passkey FROM person"
 # By it a mark of a key says whether the key has changed, and nothing else. It never leaves this process.
 SECRET = secrets.token_bytes(32)
 
@@ -43,6 +44,12 @@ def names_in(file: Path) -> dict[str, str]:
     """The names of the people in the register of a copy."""
     with contextlib.closing(sqlite3.connect(file)) as database:
         return dict(database.execute("SELECT id, name FROM person"))
+
+
+def keys_in(file: Path) -> dict[str, str]:
+    """The key of each person in the register of a copy."""
+    with contextlib.closing(sqlite3.connect(file)) as database:
+        return dict(database.execute(KEYS))
 
 
 def records_of(body: bytes) -> Iterator[list[str]]:
@@ -62,7 +69,7 @@ def rows_of(file: Path) -> Rows:
         for person, room in database.execute("SELECT person, room FROM choice ORDER BY person, place"):
             choices.setdefault(person, []).append(room)
         key_marks = {person: hashlib.blake2b(key.encode(), digest_size=6, key=SECRET).hexdigest()
-                     for person, key in database.execute("SELECT id, passkey FROM person")}
+                     for person, key in database.execute(KEYS)}
         settled = [number for number, in database.execute("SELECT DISTINCT round FROM move ORDER BY round")]
     return {**rows, "version": version, "number": number, "phase": phase, "choices": choices, "settled": settled,
             "key_marks": key_marks}

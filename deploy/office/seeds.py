@@ -11,15 +11,15 @@ import shlex
 from typing import Any, NamedTuple
 
 import times
+from lines import BY_SEED, NOT_TAKEN, SEED
 
-NOTED = re.compile(r"seed ([0-9A-Fa-f]{64})\b ?(.*)", re.DOTALL)
-DRAWN = re.compile(r"draw \$\(rooms words --seed ([0-9A-Fa-f]{64})")
+NOTED = re.compile(rf"seed ({SEED.pattern})\b ?(.*)", re.DOTALL)
+DRAWN = re.compile(rf"{re.escape(BY_SEED)} ({SEED.pattern})")
 OF_TEXT = "SHA-256 of "
 STRUCK = "struck out"  # what is noted of a seed that was noted by mistake
 UNEXPLAINED = "without a word on how it came about"
 # Steps after which the round is over.
 LAST_STEPS = frozenset({"settle", "cancel"})
-REFUSED = (1, 2)
 BEGINNING = datetime.datetime.min.replace(tzinfo=datetime.timezone.utc)
 
 Entry = dict[str, Any]
@@ -75,7 +75,7 @@ def merged(journal: list[Entry]) -> list[Entry]:
 
 def lines_of(entry: Entry) -> list[str]:
     """The lines that the keeper carried out, or may have carried out; none of what somebody has noted."""
-    if "n" not in entry or entry.get("status") in REFUSED:
+    if "n" not in entry or entry.get("status") in NOT_TAKEN:
         return []
     return str(entry.get("line", "")).split("; ")
 

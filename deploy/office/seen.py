@@ -9,6 +9,7 @@ import json
 from typing import Any, NamedTuple
 
 from languages import N_, _
+from register import going_in
 
 Rows = dict[str, Any]
 
@@ -39,15 +40,14 @@ class Saw(NamedTuple):
     mark: str
 
 
-def takes_part(rows: Rows) -> list[str]:
-    """Who takes part in the round."""
-    going = {person for person, in rows["going"]}
-    return [person for person, _name, _home, withdrawn in rows["people"] if not withdrawn and person not in going]
+def stamp_of(number: int, phase: str) -> str:
+    """The state of a round."""
+    return f"round {number} {phase}"
 
 
 def stamp(rows: Rows) -> str:
-    """The state of the round."""
-    return f"round {rows['number']} {rows['phase']}"
+    """The state of the round of now."""
+    return stamp_of(rows["number"], rows["phase"])
 
 
 def state_of(rows: Rows) -> str:
@@ -58,7 +58,7 @@ def state_of(rows: Rows) -> str:
 def saw(rows: Rows, part: str, people: list[str]) -> Saw:
     """What rows say of people."""
     known, grades = {person: row for person, *row in rows["people"]}, dict(rows["grades"])
-    going = {row[0] for row in rows["going"]}
+    going = set(going_in(rows))
     found: list[Any] = []
     for person in people:
         name, home, withdrawn = known.get(person, (None, None, None))

@@ -7,7 +7,7 @@ import shutil
 from dataclasses import dataclass
 from pathlib import Path
 
-from house_places import NoHouse, Place, here
+from house_places import PLAIN_PORT, NoHouse, Place, here
 from languages import _
 
 
@@ -40,8 +40,8 @@ class Settings:  # pylint: disable=too-many-instance-attributes  # each is a set
     kept_backups: int = 30    # the copies that were asked for, as those of each night
     kept_before: int = 20     # the copies that were taken before lines, for each kind of line
     kept_days: int = 400      # for so many days at most, unless the office has set another number
-    told: Path = Path("/var/lib/rooms-told")  # the folder of what residents read of rooms, which is public
-    mail: Path = Path("/etc/rooms/mail.conf")  # the settings of mail; without this file there is none
+    told: Path = Place().told  # the folder of what residents read of rooms, which is public
+    mail: Path = Place().mail  # the settings of mail; without this file there is none
     account_socket: Path | None = None  # for the keys of accounts (accounts.py), if systemd does not open it
     place: Place = Place()  # of which house the office is, if it is of one
 
@@ -92,14 +92,14 @@ def from_environment() -> Settings:
     return Settings(
         file=Path(variables.get("ROOMS_FILE", place.file)),
         program=variables.get("ROOMS_PROGRAM", found),
-        port=int(variables.get("ROOMS_PORT", "290")),
+        port=int(variables.get("ROOMS_PORT", PLAIN_PORT)),
         socket=Path(variables.get("ROOMS_SOCKET", place.socket)),
         scratch=Path(variables.get("ROOMS_SCRATCH", place.scratch)),
         speakers=frozenset(variables.get("ROOMS_SPEAKERS", place.page_account).split()),
         line_seconds=float(variables.get("ROOMS_LINE_SECONDS", "15")),
         turn_seconds=float(variables.get("ROOMS_TURN_SECONDS", "30")),
         told=Path(variables.get("ROOMS_TOLD", place.told)),
-        mail=Path(variables.get("ROOMS_MAIL", place.settings / "mail.conf")),
+        mail=Path(variables.get("ROOMS_MAIL", place.mail)),
         account_socket=Path(path) if (path := variables.get("ROOMS_ACCOUNT_SOCKET")) else None,
         place=place,
     )

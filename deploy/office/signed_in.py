@@ -17,12 +17,11 @@ import json
 import os
 import socket
 from collections.abc import Callable, Iterable
-from pathlib import Path
 from typing import Any
 
-import waitress
-
+import asking
 from languages import _, accepted, first_of, speaking
+from serving import serve
 
 PLACE = os.environ.get("ROOMS_SIGNED_IN_SOCKET", "/run/rooms-account.sock")
 KEEPER = os.environ.get("ROOMS_ACCOUNT_SOCKET", "/run/rooms-keys.sock")
@@ -69,13 +68,7 @@ def account_in(field: str) -> str:
 
 def key_of(account: str) -> str:
     """The key of an account's person; nothing if nobody has the account."""
-    with socket.socket(socket.AF_UNIX) as connection:
-        connection.settimeout(KEEPER_SECONDS)
-        connection.connect(KEEPER)
-        connection.sendall(json.dumps({"ask": "key", "account": account}).encode() + b"\n")
-        with connection.makefile(encoding="utf-8") as reader:
-            answer = json.loads(reader.readline())
-    return str(answer["key"])
+    return str(asking.answer_to({"ask": "key", "account": account}, KEEPER, KEEPER_SECONDS)["key"])
 
 
 def sent(method: str, path: str, body: bytes | None, key: str) -> Answer:
@@ -128,12 +121,7 @@ def main() -> None:
     """Serves until it is ended."""
     os.umask(0o077)
     # A thread waits for each request that waits for its turn. The keeper takes twelve requests of an account at a time.
-    options = {"threads": 10, "max_request_body_size": LONGEST_BODY + 1, "clear_untrusted_proxy_headers": True, "ident": None}
-    if "LISTEN_FDS" in os.environ:
-        waitress.serve(app, sockets=[socket.socket(fileno=3)], **options)
-    else:
-        Path(PLACE).unlink(missing_ok=True)
-        waitress.serve(app, unix_socket=PLACE, **options)
+    serve(app, PLACE, threads=10, max_request_body_size=LONGEST_BODY + 1)
 
 
 if __name__ == "__main__":

@@ -6,6 +6,7 @@ The journal has times with their zone, and the names of copies are times in UTC.
 
 import datetime
 import re
+from collections.abc import Iterator
 
 from languages import N_, _
 
@@ -15,6 +16,37 @@ FORMS = {"year": "%Y", "month": "%m", "day": "%d", "hour": "%H", "minute": "%M",
 # Zones that have another name in some languages.
 ZONES = (N_("UTC"), N_("GMT"), N_("BST"), N_("WET"), N_("WEST"), N_("CET"), N_("CEST"), N_("EET"), N_("EEST"))
 
+
+# --- as files have them
+
+def noted(moment: datetime.datetime) -> str:
+    """A moment as the journal has it: to the second, with the zone."""
+    return moment.astimezone().isoformat(timespec="seconds")
+
+
+def now() -> str:
+    """The time now as the journal has it."""
+    return noted(datetime.datetime.now())
+
+
+def as_name() -> str:
+    """The time now as the name of a copy."""
+    return datetime.datetime.now(datetime.timezone.utc).strftime(COPY)
+
+
+def names() -> Iterator[str]:
+    """The same, and then with numbers behind it, for where several are made in one second."""
+    first = as_name()
+    yield first
+    yield from (f"{first}-{number:02}" for number in range(2, 100))
+
+
+def made_at(copy: str) -> datetime.datetime:
+    """When a copy was made, by its name."""
+    return datetime.datetime.strptime(copy[:16], COPY).replace(tzinfo=datetime.timezone.utc)
+
+
+# --- as people read them
 
 def shown(moment: datetime.datetime) -> str:
     """A moment, to the second."""
@@ -67,7 +99,7 @@ def of_day(written: str) -> str:
 def moment_of(copy: str) -> datetime.datetime | None:
     """When a copy was made, by its name; nothing if that is no copy's."""
     try:
-        return datetime.datetime.strptime(copy[:16], COPY).replace(tzinfo=datetime.timezone.utc)
+        return made_at(copy)
     except ValueError:
         return None
 

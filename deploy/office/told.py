@@ -11,7 +11,6 @@ import contextlib
 import gzip
 import hashlib
 import json
-import os
 import re
 import threading
 import zlib
@@ -22,16 +21,14 @@ from typing import Any
 from job import Job
 from journal import Journal
 from languages import N_, _, in_english
-from lines import name_shows_a_key
-from placing import to_disk
+from lines import CODE, name_shows_a_key
+from placing import replace_file
 from settings import Fault, unwritten
+from told_files import FILE, PICTURE
 
 Value = dict[str, Any]
 
-FILE = "told.json.gz"
 PART = ".part"
-PICTURE = re.compile(r"[0-9a-f]{32}\.jpg")
-CODE = re.compile(r"[A-Z0-9][A-Z0-9-]{0,7}")
 LANGUAGE = re.compile(r"[a-z]{2,3}(-[A-Za-z0-9]{1,8})?")
 JPEG = b"\xff\xd8\xff"
 # An answer up to this size fits into a buffer of HAProxy (`tune.bufsize` in haproxy.cfg), so no slow reader holds the server.
@@ -44,11 +41,6 @@ LONGEST_NOTICE, LONGEST_CONTACT, LONGEST_CAPTION = 600, 200, 80
 MOST_ROOMS, MOST_PICTURES, MOST_OF_ROOM = 2_000, 2_000, 4
 CHANGED = N_("What residents read has changed since you opened the page. Nothing was changed: look again.")
 KEY = N_("This text has a word that may be a key, and anybody can read it. Nothing was changed: take the word out.")
-
-
-def is_own(name: str) -> bool:
-    """Whether a file of this name is one of what residents read."""
-    return name == FILE or bool(PICTURE.fullmatch(name))
 
 
 def nothing() -> Value:
@@ -176,21 +168,12 @@ class Told:
 
     def put(self, name: str, data: bytes) -> None:
         """Puts a file into the folder, where everybody may read it."""
-        part = self.folder / PART
         try:
-            held = os.open(part, os.O_WRONLY | os.O_CREAT | os.O_TRUNC | os.O_CLOEXEC, 0o644)
-            with open(held, "wb") as opened:
-                os.fchmod(held, 0o644)  # the umask would keep it from the others
-                opened.write(data)
-            to_disk(part)
-            part.rename(self.folder / name)
-            to_disk(self.folder)
+            replace_file(self.folder / name, data, mode=0o644, part=self.folder / PART)
         except FileNotFoundError as fault:
             raise Fault(_("there is no folder {folder}. Nothing was changed: the administrator has to make it (deploy/README.md, "
                           "\"By hand\").", folder=self.folder)) from fault
         except OSError as fault:
-            with contextlib.suppress(OSError):
-                part.unlink()
             raise unwritten(_("what residents read"), fault) from fault
 
     @contextlib.contextmanager

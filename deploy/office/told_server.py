@@ -8,19 +8,18 @@ these paths through, and says itself of what kind each answer is.
 
 import os
 import re
-import socket
 from collections.abc import Callable, Iterable
 from pathlib import Path
 from typing import Any
 
-import waitress
-
 from house_places import here
+from serving import serve
+from told_files import FILE, PICTURE
 
 FOLDER = Path(os.environ.get("ROOMS_TOLD", here().told))
 PLACE = os.environ.get("ROOMS_TOLD_SOCKET", str(here().jail / "rooms-told.sock"))
 TEXTS = "/told/told.json"
-PICTURE = re.compile(r"/told/([0-9a-f]{32}\.jpg)")
+PICTURES = re.compile(rf"/told/({PICTURE.pattern})")
 LONGEST = 130_000  # bytes of an answer; the keeper writes shorter files
 NONE = b"{}"       # as long as no clerk has written anything
 
@@ -39,15 +38,15 @@ def content(name: str) -> bytes | None:
 def answer(path: str) -> tuple[str, list[tuple[str, str]], bytes]:
     """The status, the fields and the body of an answer."""
     if path == TEXTS:
-        packed = content("told.json.gz")
+        packed = content(FILE)
         fields = [("Content-Type", "application/json"), *([("Content-Encoding", "gzip")] if packed else [])]
         return "200 OK", fields, packed or NONE
-    if (found := PICTURE.fullmatch(path)) and (data := content(found[1])) is not None:
+    if (found := PICTURES.fullmatch(path)) and (data := content(found[1])) is not None:
         return "200 OK", [("Content-Type", "image/jpeg")], data
     return "404 Not Found", [("Content-Type", "text/plain")], b"no such page"
 
 
-def serve(environ: dict[str, Any], start_response: Callable[..., Any]) -> Iterable[bytes]:
+def app(environ: dict[str, Any], start_response: Callable[..., Any]) -> Iterable[bytes]:
     """The WSGI application."""
     status, fields, body = answer(environ.get("PATH_INFO", ""))
     start_response(status, [*fields, ("Content-Length", str(len(body)))])
@@ -56,13 +55,7 @@ def serve(environ: dict[str, Any], start_response: Callable[..., Any]) -> Iterab
 
 def main() -> None:
     """Serves the folder until it is ended."""
-    options: dict[str, Any] = {"threads": 2, "max_request_body_size": 1024, "clear_untrusted_proxy_headers": True,
-                               "ident": None}
-    if "LISTEN_FDS" in os.environ:
-        waitress.serve(serve, sockets=[socket.socket(fileno=3)], **options)
-    else:
-        Path(PLACE).unlink(missing_ok=True)
-        waitress.serve(serve, unix_socket=PLACE, **options)
+    serve(app, PLACE, threads=2, max_request_body_size=1024)
 
 
 if __name__ == "__main__":

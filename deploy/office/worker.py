@@ -16,19 +16,21 @@ from dataclasses import dataclass, field
 from pathlib import Path
 from typing import Any
 
+import times
 from backups import BACK
 from copies import make_whole
 from journal import spoken_of
 from languages import _, in_english, speaking, spoken
+from lines import NOT_TAKEN
 from office import Office
 from program import Answer, Unanswered, is_refused
+from register import people_in
 from rows import View, identifiers_in
 from seen import Rows, Saw, why_stale
 from settings import Fault
 
 FIRST_PAUSE, LONGEST_PAUSE = 0.2, 5.0  # seconds before a server is started again that has ended by itself
 LIVED = 2.0                            # a server that ran for so long has worked: the pause begins anew
-REFUSED = (1, 2)                       # statuses of a server that another start does not help
 
 
 CarryOut = Callable[[Path], list[Answer]]
@@ -44,7 +46,7 @@ class Change:  # pylint: disable=too-many-instance-attributes  # what is asked f
     carry_out: CarryOut                         # on a copy, or on the office's file
     whole: bool = False                         # on a copy, which then replaces the file: all takes effect or nothing
     kind: str = ""                              # the kind of the copy that is kept before, or none
-    why: str = ""
+    before: str = ""                            # what the reason of this copy says that it was kept before
     damaged: bool = False                       # even if the office is damaged
     register: Register | None = None            # learns who comes into the register and who leaves, before they do
     before_put: Callable[[], None] | None = None  # done just before the copy takes the office's place, when nothing is in the way
@@ -61,6 +63,11 @@ class Change:  # pylint: disable=too-many-instance-attributes  # what is asked f
     fault: str = ""
     wanted: threading.Lock = field(default_factory=threading.Lock)  # taken to make the change, or to give it up
     done: threading.Event = field(default_factory=threading.Event)
+
+    @property
+    def why(self) -> str:
+        """Why the copy is kept. The office's page reads it (reasons.py)."""
+        return f"before {self.before}, by {self.who}"
 
     def end(self, fault: str) -> None:
         """Ends a change that is not made."""
@@ -136,7 +143,7 @@ class Worker:  # pylint: disable=too-many-instance-attributes  # the parts of th
         """How many servers have ended by themselves, when the last one did, how many seconds ago, and with what status."""
         if not self.ends:
             return None
-        at = datetime.datetime.fromtimestamp(self.ended_at).astimezone().isoformat(timespec="seconds")
+        at = times.noted(datetime.datetime.fromtimestamp(self.ended_at))
         return {"times": self.ends, "at": at, "ago": round(abs(time.time() - self.ended_at)), "status": self.status}
 
     def end(self) -> None:
@@ -152,7 +159,7 @@ class Worker:  # pylint: disable=too-many-instance-attributes  # the parts of th
         while not self.over:
             item = self.next_work()
             if isinstance(item, Ended):
-                self.take_note(item)
+                self.handle_end(item)
             elif isinstance(item, Change):
                 self.stop()
                 self.work_off(item)
@@ -185,7 +192,7 @@ class Worker:  # pylint: disable=too-many-instance-attributes  # the parts of th
             if isinstance(item, Change):
                 self.carry_out(item)
             elif isinstance(item, Ended):
-                self.take_note(item)
+                self.handle_end(item)
 
     def carry_out(self, change: Change) -> None:
         """One change, if its sender still waits for it."""
@@ -238,7 +245,7 @@ class Worker:  # pylint: disable=too-many-instance-attributes  # the parts of th
     def prepare(self, change: Change) -> None:
         """Has what is beside the register follow a change of it that is carried out in place."""
         if change.register and (change.come or change.gone):
-            now = {row[0] for row in self.view.rows(still=True)["people"]}
+            now = people_in(self.view.rows(still=True))
             change.register(change.come - now, change.gone & now)
 
     def note_end(self, change: Change, number: str, began: float, last: Answer, known: bool = True) -> None:
@@ -308,7 +315,7 @@ class Worker:  # pylint: disable=too-many-instance-attributes  # the parts of th
             self.server.stop()
             self.server = None
 
-    def take_note(self, ended: Ended) -> None:
+    def handle_end(self, ended: Ended) -> None:
         """Handles a server that has ended by itself. One that refuses the file would do so again, until a change."""
         if ended.server is not self.server:
             return
@@ -319,5 +326,5 @@ class Worker:  # pylint: disable=too-many-instance-attributes  # the parts of th
         self.ends, self.ended_at = self.ends + 1, time.time()
         if served:
             self.pause = FIRST_PAUSE
-        if ended.status not in REFUSED:
+        if ended.status not in NOT_TAKEN:
             self.start_later()

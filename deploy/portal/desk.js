@@ -1,8 +1,7 @@
 // What the page knows, and what follows from it.
 
-import { recallDraft, rememberDraft } from "./memory.js";
+import { LONGEST_LIST, recallDraft, rememberDraft } from "./memory.js";
 
-export const LONGEST_LIST = 40;
 export const ROOMS_AT_ONCE = 20;
 
 // The key; the answers to GET /me and GET /rooms; what the administrator's file says of each room, and what the clerks say

@@ -10,6 +10,10 @@ const GONE = 2 * 60 * 1000;
 const KEY = "room-key", LINKED = "room-key-link", UNTIL = "room-key-until", DRAFT = "rooms-draft", LANGUAGE = "rooms-language",
   NEWS = "rooms-news";
 
+// How a key is written, and how many rooms a list has at most.
+export const isKey = text => /^[a-z0-9]{16,64}$/.test(text);
+export const LONGEST_LIST = 40;
+
 const kept = new Map();
 
 function write(name, value) {
@@ -96,7 +100,7 @@ export function leaveLink(isLoading) {
 export function takeLinkedKey() {
   const given = read(LINKED);
   drop(LINKED);
-  return /^[a-z0-9]{16,64}$/.test(given) ? given : "";
+  return isKey(given) ? given : "";
 }
 
 export const rememberLanguage = language => write(LANGUAGE, language);
@@ -109,7 +113,7 @@ export const recallLanguage = () => read(LANGUAGE);
 export const rememberDraft = draft => write(DRAFT, JSON.stringify(draft));
 export const forgetDraft = () => drop(DRAFT);
 
-const isList = value => Array.isArray(value) && value.length <= 40 && value.every(code => typeof code === "string");
+const isList = value => Array.isArray(value) && value.length <= LONGEST_LIST && value.every(code => typeof code === "string");
 
 // The draft of this person in this round, or nothing: another person's is never shown, and a damaged one is passed
 // over.

@@ -8,8 +8,8 @@ import {
 import { clearFilters } from "./filters.js";
 import { firstLanguage, setLanguage, text } from "./language.js";
 import {
-  forgetDraft, forgetKey, hasKey, keepKey, leaveLink, recallKey, rememberKey, rememberLanguage, rememberNews, takeLinkedKey,
-  takeNews,
+  forgetDraft, forgetKey, hasKey, isKey, keepKey, leaveLink, recallKey, rememberKey, rememberLanguage, rememberNews,
+  takeLinkedKey, takeNews,
 } from "./memory.js";
 import { inOrder, readDescriptions } from "./rooms.js";
 import { ACCOUNT, call, endSignIn, Fault, roomsFile, SIGN_IN, SIGN_OUT, toldFile } from "./server.js";
@@ -74,9 +74,8 @@ function signIn(event) {
   event.preventDefault();
   // Spaces and hyphens of any kind stand between groups of a printed key, and phones begin with a capital.
   const given = byId("key").value.replace(/[\s\p{Pd}\p{Cf}]/gu, "").toLowerCase();
-  const isKey = /^[a-z0-9]{16,64}$/.test(given);
-  byId("key").setAttribute("aria-invalid", !isKey);
-  if (!isKey) {
+  byId("key").setAttribute("aria-invalid", !isKey(given));
+  if (!isKey(given)) {
     sayFault("badKey");
     byId("key").focus();
     return;

@@ -1,10 +1,9 @@
 // Shows what the page knows. What the server tells is set as text, never as HTML.
 
-import {
-  desk, isChanged, isChangedElsewhere, LONGEST_LIST, mayEdit, ROOMS_AT_ONCE, stateOf, takesPart,
-} from "./desk.js";
+import { desk, isChanged, isChangedElsewhere, mayEdit, ROOMS_AT_ONCE, stateOf, takesPart } from "./desk.js";
 import { drawFilters, drawRentHint, filterRooms } from "./filters.js";
 import { hasText, language, text, texts } from "./language.js";
+import { LONGEST_LIST } from "./memory.js";
 import { findRooms, stateText } from "./rooms.js";
 import { lineOf, noticeParts, picturesOf, untilText, wordsOf } from "./told.js";
 

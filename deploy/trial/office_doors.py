@@ -103,7 +103,7 @@ import app, bottle
 body = sys.stdin.buffer.read()
 bottle.request.bind({"REQUEST_METHOD": "POST", "CONTENT_TYPE": sys.argv[2], "CONTENT_LENGTH": str(len(body)),
                      "wsgi.input": io.BytesIO(body)})
-print(len(app.upload_of("list", 300_000)), len(app.field("text")))
+print(len(app.list_sent()), len(app.field("text")))
 """
 
 

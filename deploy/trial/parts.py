@@ -228,7 +228,7 @@ def noting_beside(settings):
         said = fault_of(lambda: requests.put(job))
     unchanged = "Nothing was changed" in said and accounts.kept().people == {}
     check("if the journal is full, no accounts come in, and the clerk reads so", unchanged, (said, accounts.kept()))
-    with mock.patch("accounts.to_disk", side_effect=OSError(errno.ENOSPC, "No space left on device")):
+    with mock.patch("placing.to_disk", side_effect=OSError(errno.ENOSPC, "No space left on device")):
         said = fault_of(lambda: requests.put(job))
     last = list(journal.entries())[-1]
     noted = "No space" in said and last["status"] == 3 and "could not be written" in last["answer"]

@@ -9,7 +9,7 @@ from lines import IDENTIFIER
 import explaining
 import plain
 import reasons
-from app import app, ask, drawn_order, field, go_to, office_now, saw, show, tell, text_of
+from app import app, ask, drawn_order, field, go_to, office_now, saw, show, tell, tell_fault, text_of
 from columns import kind_name
 from keeper_client import KeeperFault, answers_of
 from kept_beside import erased
@@ -133,7 +133,7 @@ def forget(ident: str) -> None:
     try:
         reply = ask("forget", person=ident, seen=field("seen"), saw=saw("all", ident))
     except KeeperFault as fault:
-        tell("bad", _("This could not be done. {why}", why=plain.begun(str(fault))))
+        tell_fault(fault)
         go_to(place)
     if reply["done"]:
         tell("good", _("{person} is forgotten, as far as this can be done at once. This page says what is left.", person=ident))

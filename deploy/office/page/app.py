@@ -24,6 +24,7 @@ from bottle import HTTPResponse, request
 
 import times
 from languages import ENGLISH, N_, _, accepted, first_of, languages, speak, spoken
+from lines import UNAVAILABLE
 
 import keeper_client
 import plain
@@ -33,12 +34,12 @@ from codes import unbroken
 from keeper_client import Answer, KeeperFault, WasAnothers
 from memory import Memory
 from office_view import Office
+from sheet_limits import LONGEST_FILE
 
 HERE = Path(__file__).resolve().parent
 # As in haproxy.cfg. A list that is too long comes as far as this page, which says so: where the proxy answers before all
 # of a body is there, some clients of HTTP/2, such as curl, report a failure in place of the answer.
 LONGEST_FORM = 5_000_000
-UNAVAILABLE = 3  # the program's status if the file, the disk or the memory failed
 HEADERS = {
     "Content-Security-Policy": "default-src 'none'; style-src 'self'; img-src 'self' data:; form-action 'self'; "
                                "base-uri 'none'; frame-ancestors 'none'",
@@ -138,10 +139,17 @@ def text_of(name: str) -> str:
     return " ".join(field(name).split())
 
 
-def upload_of(name: str, longest: int) -> bytes:
-    """The bytes of a file in a form. One that is too long is cut behind the limit."""
-    upload = request.files.get(name)  # pylint: disable=no-member  # bottle makes it when it is asked for
-    return bytes(upload.file.read(longest + 1)) if upload else b""
+def list_sent() -> bytes:
+    """The bytes of a list in a form. One that is too long is cut behind the limit."""
+    upload = request.files.get("list")  # pylint: disable=no-member  # bottle makes it when it is asked for
+    return bytes(upload.file.read(LONGEST_FILE + 1)) if upload else b""
+
+
+def why_not_read(body: bytes) -> str:
+    """Why the bytes of a list are not even looked at, or nothing."""
+    if not body:
+        return _("Choose a list first.")
+    return _(plain.TOO_LONG) if len(body) > LONGEST_FILE else ""
 
 
 def uploads_of(name: str) -> list[tuple[str, bytes]]:
@@ -183,6 +191,21 @@ def ask(question: str, **fields: Any) -> dict[str, Any]:
     return keeper_client.ask(question, clerk(), **fields)
 
 
+def tell_fault(fault: KeeperFault) -> None:
+    """Tells the clerk why the keeper has not done something."""
+    tell("bad", _("This could not be done. {why}", why=plain.begun(str(fault))))
+
+
+def is_done(question: str, **fields: Any) -> bool:
+    """Whether the keeper has done what it was asked to do; else the clerk reads why not."""
+    try:
+        ask(question, **fields)
+    except KeeperFault as fault:
+        tell_fault(fault)
+        return False
+    return True
+
+
 def office_now() -> Office:
     """The office at this moment."""
     return Office(ask("view"))
@@ -212,7 +235,7 @@ def change(question: str, **fields: Any) -> bool:
     except WasAnothers:
         raise
     except KeeperFault as fault:
-        tell("bad", _("This could not be done. {why}", why=plain.begun(str(fault))))
+        tell_fault(fault)
         return False
     answers = keeper_client.answers_of(reply)
     last = answers[-1]

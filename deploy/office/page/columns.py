@@ -5,9 +5,11 @@ from typing import NamedTuple
 
 from journal import KEY, masked
 from languages import N_, _
+from told import FIELDS
 
 import plain
 from plain import Meaning
+from sheet_text import LOOKED_AT
 
 FIRST, LAST = "first name", "last name"
 # What a column may be called, in small letters and without spaces and signs.
@@ -35,8 +37,7 @@ NUMBERED = re.compile(r"(choice|wish|wunsch)\d{1,2}")  # one column for each cho
 # Mail addresses are no kind of list of the program's.
 ADDRESSES = "addresses"
 # The columns that a list may be without.
-OPTIONAL = ("key", "home", "house", "floor", "size", "rent", "text", "language")
-LOOKED_AT = 10  # rows in which the names of the columns may be
+OPTIONAL = ("key", "home", *FIELDS, "language")
 # What a list has, in a sentence. The program has these words too, so they are the names of kinds.
 KINDS = {"rooms": N_("rooms"), "people": N_("people"), "grades": N_("grades"), "choices": N_("choices"),
          plain.DESCRIPTIONS: N_("descriptions"), ADDRESSES: N_("addresses")}

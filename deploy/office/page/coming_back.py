@@ -5,6 +5,7 @@ and lists of choices. The keeper has them in the copy that it made before the ro
 from typing import NamedTuple
 
 from languages import N_, _
+from lines import LONGEST_LIST
 
 import plain
 from app import ask
@@ -202,7 +203,7 @@ def bodies(lists: dict[str, list[str]]) -> list[tuple[list[str], bytes]]:
     body = head = line_of(plain.KINDS["choices"].header.split(",")).encode()
     for ident, wishes in lists.items():
         line = line_of([ident, " ".join(wishes)]).encode()
-        if people and len(body) + len(line) > plain.LONGEST_LIST:
+        if people and len(body) + len(line) > LONGEST_LIST:
             parts.append((people, body))
             people, body = [], head
         people, body = [*people, ident], body + line

@@ -2,6 +2,7 @@
 
 from languages import _
 
+import plain
 from app import app, ask, field, go_to, tell, text_of
 from keeper_client import KeeperFault
 
@@ -11,7 +12,7 @@ def set_date(at: str, closes: bool, good: str) -> None:
     try:
         reply = ask("set-until", at=at, closes=closes, seen=field("seen"), saw=field("saw"))
     except KeeperFault as fault:
-        tell("bad", f"{str(fault)[:1].upper()}{str(fault)[1:]}")
+        tell("bad", plain.begun(str(fault)))
         return
     tell("good", good)
     if why := reply.get("untold"):

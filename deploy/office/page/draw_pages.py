@@ -3,11 +3,11 @@
 import hashlib
 import re
 import secrets
-from typing import NamedTuple
+from typing import NamedTuple, NoReturn
 
 from journal import masked
 from languages import N_, _, ngettext
-from lines import on_one_line
+from lines import SEED, on_one_line
 from seeds import OF_TEXT, STRUCK, UNEXPLAINED, Noted, Seeds, noted_seeds
 
 import plain
@@ -15,7 +15,6 @@ from app import app, ask, change, clerk, drawn_order, field, go_to, memory, offi
 from office_view import Office
 from questions import Question, put_question
 
-SEED = re.compile(r"[0-9a-f]{64}")
 # Throws of a die, with anything between them that is no letter and no other digit.
 THROWS = re.compile(r"(?:[1-6]|[^\w])+")
 ENOUGH = 50  # throws of a die are 129 bits
@@ -54,7 +53,7 @@ def source_of(noted: Noted) -> str:
     """How a seed came about, with the number of throws."""
     text = noted.source.removeprefix(OF_TEXT)
     if text == noted.source:  # it may be in a clerk's own words
-        return _(SOURCES[text]) if text in SOURCES else text[:1].upper() + text[1:]
+        return _(SOURCES[text]) if text in SOURCES else plain.begun(text)
     throws = throws_in(text)
     if not throws:
         return _("SHA-256 of {source}", source=text)
@@ -69,25 +68,29 @@ def draw_page(name: str = "") -> str:
     order = drawn_order() if office.phase in plain.DRAWN else []
     seeds = seeds_of(office)
     return show("draw", office=office, order=order, seeds=seeds.found, drawn=seeds.drawn, since=seeds.since,
-                source_of=source_of, entered=entered)
+                source_of=source_of, entered=entered, shortest=SHORTEST_TEXT, longest=LONGEST_TEXT)
 
 
-def seed_of(way: str, text: str) -> tuple[str, str] | str:
-    """The seed of what was entered, and how it came about; or what is wrong with it."""
+class NoSeed(Exception):
+    """What was entered gives no seed. The text says why."""
+
+
+def seed_of(way: str, text: str) -> tuple[str, str]:
+    """The seed of what was entered, and how it came about."""
     if way == "machine":
         return secrets.token_hex(32), BY_MACHINE
     if way == "seed":
         seed = "".join(text.split()).lower()
         if SEED.fullmatch(seed):
             return seed, AS_IT_IS
-        return _("A seed has 64 signs out of 0 to 9 and a to f. You entered {count} signs.", count=len(seed))
+        raise NoSeed(_("A seed has 64 signs out of 0 to 9 and a to f. You entered {count} signs.", count=len(seed)))
     text = " ".join(on_one_line(text).split())  # as the journal has it, or the noted text would have another hash
     if not SHORTEST_TEXT <= len(text) <= LONGEST_TEXT:
-        return _("Enter {least} to {most} signs: the throws of the dice, or the public number.",
-                 least=SHORTEST_TEXT, most=LONGEST_TEXT)
+        raise NoSeed(_("Enter {least} to {most} signs: the throws of the dice, or the public number.",
+                       least=SHORTEST_TEXT, most=LONGEST_TEXT))
     if masked(text) != text:
-        return _("Write a space between two throws or numbers. Sixteen letters and digits in a row look like a key, and "
-                 "the journal takes no keys.")
+        raise NoSeed(_("Write a space between two throws or numbers. Sixteen letters and digits in a row look like a key, and "
+                       "the journal takes no keys."))
     return hashlib.sha256(text.encode()).hexdigest(), OF_TEXT + text
 
 
@@ -109,25 +112,26 @@ def doubt_of(text: str) -> list[str]:
 def note_seed() -> None:
     """Writes a seed into the journal before anything is drawn with it, so that nobody can try seeds in secret."""
     office = office_now()
-    made = seed_of(field("way"), text_of("text"))
     if office.phase != "closed":
         tell("bad", _("There is nothing to draw now. {phase}.", phase=_(plain.PHASES[office.phase].title)))
-    elif isinstance(made, str):
-        tell("bad", made)
-    else:
-        seed, source = made
-        doubt = doubt_of(source.removeprefix(OF_TEXT)) if source.startswith(OF_TEXT) else []
-        if doubt:
-            asked = Question(_("Note this seed?"), doubt, _("Yes: note the seed of this text"), BACK)
-            put_off(Pending(f"seed {seed} {source}", asked, source.removeprefix(OF_TEXT)))
-        ask("note", line=f"seed {seed} {source}")
+        go_to(BACK)
+    try:
+        seed, source = seed_of(field("way"), text_of("text"))
+    except NoSeed as why:
+        tell("bad", str(why))
+        go_to(BACK)
+    doubt = doubt_of(source.removeprefix(OF_TEXT)) if source.startswith(OF_TEXT) else []
+    if doubt:
+        asked = Question(_("Note this seed?"), doubt, _("Yes: note the seed of this text"), BACK)
+        put_off(Pending(f"seed {seed} {source}", asked, source.removeprefix(OF_TEXT)))
+    ask("note", line=f"seed {seed} {source}")
     go_to(BACK)
 
 
 # --- notes that wait for a yes
 
-def put_off(waits: Pending) -> None:
-    """Asks before something is noted."""
+def put_off(waits: Pending) -> NoReturn:
+    """Leads to the question before something is noted."""
     go_to(f"/office/seed/{memory.hold(clerk(), waits)}")
 
 

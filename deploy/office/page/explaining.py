@@ -5,42 +5,41 @@ The office reads who got a room that somebody asked for. A letter to a resident 
 
 import importlib
 import threading
-from typing import Any, NamedTuple
+from typing import TYPE_CHECKING, Any, NamedTuple
 
 from languages import _
 
 import audit_words
 from office_view import Office
 
+if TYPE_CHECKING:
+    import audit
+
 
 class Gone(NamedTuple):
-    """A room of somebody's list that another person got: which choice it was, who got it, and when.
+    """A better room that another person got, as the audit found it, with that person's place in the order.
 
     `tenant` is the person who lived there and gave it up in an exchange; if it is the own room of the person who got
     it, that person.
     """
 
-    room: str
-    choice: int
-    step: int
-    other: str
+    found: "audit.Gone"
     place: int
     tenant: str
 
 
 class Facts(NamedTuple):
-    """What the audit knows of one participant. `out` has the rooms of the list that were not in the round."""
+    """How the result of one participant came about, as the audit found it, and what its sentences need beside that. `out` has the
+    rooms that were not in the round, of those that the person would rather have had."""
 
     ident: str
-    place: int
+    found: "audit.Facts"
     places: int
     home: str | None
-    wishes: list[str]
+    has_list: bool
     out: list[str]
     gone: list[Gone]
     got: str | None
-    choice: int | None
-    step: int
 
 
 class LastAudit:  # pylint: disable=too-few-public-methods  # it keeps what it has worked out
@@ -78,44 +77,36 @@ def audit_of(office: Office) -> Any | None:
 
 def faults_of(office: Office) -> list[str] | None:
     """What the audit finds wrong with the office's results; None if it is not installed, or if there are no results."""
-    audit = audit_of(office) if office.results else None
-    return None if audit is None else [audit_words.told(fault) for fault in audit.faults()]
+    found = audit_of(office) if office.results else None
+    return None if found is None else [audit_words.told(fault) for fault in found.faults()]
 
 
-class Explainer:  # pylint: disable=too-few-public-methods  # what is worked out once for all people
+class Explainer:
     """Gives the facts of the participants of a round."""
 
-    def __init__(self, audit: Any, office: Office) -> None:
-        self.audit, self.office = audit, office
-        self.place = {person: place for place, person in enumerate(audit.order, 1)}
-        # Whose room went in an exchange, or stayed: a tenant leaves in the step in which the room goes.
-        taken = {room: step for room, (_, step) in audit.taken.items()}
-        self.tenants = {room: person for person, room in audit.home.items()
-                        if room in taken and audit.step[person] == taken[room]}
+    def __init__(self, found: "audit.Audit") -> None:
+        self.audit = found
+        self.place = {person: place for place, person in enumerate(found.order, 1)}
 
     def facts_of(self, ident: str) -> Facts | None:
         """The facts of one person; nothing if the person takes no part."""
-        audit, office = self.audit, self.office
-        if ident not in audit.got:
+        found = self.audit.facts(ident)
+        if found is None:
             return None
-        home, got, wishes = audit.home[ident], audit.got[ident], office.choices.get(ident, [])
-        out, gone = [], []
-        for choice, room in enumerate(wishes, 1):
-            if room in (got, home):
-                break
-            if room in audit.taken:
-                other, step = audit.taken[room]
-                gone.append(Gone(room, choice, step, other, self.place[other], self.tenants.get(room, "")))
-            else:
-                out.append(room)
-        number = wishes.index(got) + 1 if got in wishes and got != home else None
-        return Facts(ident, self.place[ident], len(self.place), home, wishes, out, gone, got, number, audit.step[ident])
+        home, got, wishes = self.audit.home[ident], self.audit.got[ident], self.audit.handed_in[ident]
+        end = min((wishes.index(room) for room in (got, home) if room in wishes), default=len(wishes))
+        out = [room for room, _cause in found.struck if room in wishes[:end]]
+        return Facts(ident, found, len(self.place), home, bool(wishes), out, list(map(self.gone, found.gone)), got)
+
+    def gone(self, found: "audit.Gone") -> Gone:
+        """A better room, with what its sentence needs."""
+        return Gone(found, self.place[found.to], found.giver if self.audit.home[found.giver] == found.room else "")
 
 
 def explainer_of(office: Office) -> Explainer | None:
     """What explains the office's results, if the program of the audit is installed."""
-    audit = audit_of(office)
-    return Explainer(audit, office) if audit else None
+    found = audit_of(office)
+    return Explainer(found) if found else None
 
 
 def about(office: Office, ident: str) -> list[str]:
@@ -139,30 +130,31 @@ def in_order(facts: Facts) -> str:
     """Somebody's place in the order and room, for the office."""
     if not facts.home:
         return _("{person} had place {place} of {places} in the order, and had no room.",
-                 person=facts.ident, place=facts.place, places=facts.places)
+                 person=facts.ident, place=facts.found.place, places=facts.places)
     return _("{person} had place {place} of {places} in the order, and lived in {home}, which nobody could take away.",
-             person=facts.ident, place=facts.place, places=facts.places, home=facts.home)
+             person=facts.ident, place=facts.found.place, places=facts.places, home=facts.home)
 
 
 def outcome_of(facts: Facts) -> str:
     """What somebody gets, for the office."""
-    if facts.choice:
+    if facts.found.choice:
         return _("In step {step}, {person} got {room}, choice {choice}.",
-                 step=facts.step, person=facts.ident, room=facts.got, choice=facts.choice)
+                 step=facts.found.step, person=facts.ident, room=facts.got, choice=facts.found.choice)
     if facts.got:
         text = (_("Nothing better on the list was left, so {person} keeps {room}.", person=facts.ident, room=facts.got)
-                if facts.wishes else
+                if facts.has_list else
                 _("No list of {person} was on record, so {person} keeps {room}.", person=facts.ident, room=facts.got))
     else:
-        text = (_("Nothing on the list was left, so {person} gets no room.", person=facts.ident) if facts.wishes else
+        text = (_("Nothing on the list was left, so {person} gets no room.", person=facts.ident) if facts.has_list else
                 _("No list of {person} was on record, so {person} gets no room.", person=facts.ident))
     return text
 
 
 def to_whom(gone: Gone) -> str:
     """Who got a room, for the office."""
-    values = {"room": gone.room, "choice": gone.choice, "step": gone.step, "other": gone.other}
-    if gone.tenant == gone.other:
+    found = gone.found
+    values = {"room": found.room, "choice": found.choice, "step": found.step, "other": found.to}
+    if gone.tenant == found.to:
         return _("{room}, choice {choice}, stayed in step {step} with {other}, who lives there.", **values)
     if gone.tenant:
         return _("{room}, choice {choice}, went in step {step} to {other}, at place {place}, in an exchange with {tenant}, who "
@@ -172,20 +164,20 @@ def to_whom(gone: Gone) -> str:
 
 def to_a_resident(gone: Gone) -> str:
     """Who got a room, for a letter."""
-    if gone.tenant == gone.other:
-        return _("{room}, your choice {choice}, stayed with the resident who lives there.", room=gone.room, choice=gone.choice)
+    values = {"room": gone.found.room, "choice": gone.found.choice}
+    if gone.tenant == gone.found.to:
+        return _("{room}, your choice {choice}, stayed with the resident who lives there.", **values)
     if gone.tenant:
         return _("{room}, your choice {choice}, went to the resident at place {place}, in an exchange with the resident who lived "
-                 "there.", room=gone.room, choice=gone.choice, place=gone.place)
-    return _("{room}, your choice {choice}, went to the resident at place {place}.",
-             room=gone.room, choice=gone.choice, place=gone.place)
+                 "there.", **values, place=gone.place)
+    return _("{room}, your choice {choice}, went to the resident at place {place}.", **values, place=gone.place)
 
 
 def to_resident(facts: Facts) -> list[str]:
     """The sentences of a letter. Other people appear by their place in the order alone."""
     said = [_("Your place in the order was {place} of {places}. You lived in {home}, and nobody could take it from you.",
-              place=facts.place, places=facts.places, home=facts.home) if facts.home else
-            _("Your place in the order was {place} of {places}.", place=facts.place, places=facts.places)]
+              place=facts.found.place, places=facts.places, home=facts.home) if facts.home else
+            _("Your place in the order was {place} of {places}.", place=facts.found.place, places=facts.places)]
     said += [_("{room}, on your list, was not in the exchange.", room=room) for room in facts.out]
     said += [to_a_resident(gone) for gone in facts.gone]
     return said + [your_outcome(facts)]
@@ -193,11 +185,11 @@ def to_resident(facts: Facts) -> list[str]:
 
 def your_outcome(facts: Facts) -> str:
     """What somebody gets, for a letter."""
-    if facts.choice:
+    if facts.found.choice:
         return _("{room}, your choice {choice}, was the best room on your list that you could get.",
-                 room=facts.got, choice=facts.choice)
+                 room=facts.got, choice=facts.found.choice)
     if facts.got:
-        return (_("You keep {room}, since nothing better on your list was left.", room=facts.got) if facts.wishes else
+        return (_("You keep {room}, since nothing better on your list was left.", room=facts.got) if facts.has_list else
                 _("You keep {room}, since no list of yours was on record.", room=facts.got))
-    return (_("You get no room, since nothing on your list was left.") if facts.wishes else
+    return (_("You get no room, since nothing on your list was left.") if facts.has_list else
             _("You get no room, since no list of yours was on record."))

@@ -194,7 +194,7 @@ def days_gone(days: int, only_try: bool) -> int:
     try:
         return int(ask("days", days=days, only_try=only_try)["gone"])
     except KeeperFault as fault:
-        tell("bad", f"{str(fault)[:1].upper()}{str(fault)[1:]}")
+        tell("bad", plain.begun(str(fault)))
         go_to("/office/copies")
 
 

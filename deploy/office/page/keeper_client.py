@@ -1,10 +1,9 @@
-"""Asks the keeper over its Unix socket: one line of JSON a connection, and one line back."""
+"""Asks the keeper for the page, and says in words of the clerk's language what went wrong."""
 
-import json
 import os
-import socket
 from typing import Any, NamedTuple
 
+from asking import answer_to
 from house_places import here
 from languages import _, spoken
 
@@ -36,13 +35,8 @@ class Answer(NamedTuple):
 def ask(question: str, who: str, patience: float = PATIENCE, **fields: Any) -> dict[str, Any]:
     """Asks in the name of a clerk, who waits for so many seconds and reads faults in the language that is spoken, and gives
     the keeper's reply."""
-    line = json.dumps({"ask": question, "who": who, "speaks": spoken(), **fields}).encode() + b"\n"
     try:
-        with socket.socket(socket.AF_UNIX) as connection:
-            connection.settimeout(patience)
-            connection.connect(SOCKET)
-            connection.sendall(line)
-            reply = json.loads(connection.makefile("rb").readline() or b"null")
+        reply = answer_to({"ask": question, "who": who, "speaks": spoken(), **fields}, SOCKET, patience)
     except (OSError, ValueError) as fault:
         raise KeeperFault(_("The keeper of the office's file does not answer. Nobody knows whether the last step was "
                             "carried out. Wait a minute, and look before you try again.")) from fault

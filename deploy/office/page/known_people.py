@@ -4,10 +4,11 @@ from typing import NamedTuple
 
 from languages import _
 
+import plain
 from csv_list import CsvList
 from office_view import Office
 
-HEADER = ["person", "name", "key", "home"]
+HEADER = plain.header_of("people").split(",")
 
 
 class Difference(NamedTuple):

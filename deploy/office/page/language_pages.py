@@ -5,13 +5,13 @@ from collections import Counter
 
 from languages import _, ngettext
 
-import plain
-from app import app, ask, clerk, field, go_to, memory, office_now, show, tell, text_of, ticked
+from app import app, ask, clerk, field, go_to, is_done, memory, office_now, show, tell, tell_fault, text_of, ticked
 from keeper_client import KeeperFault
 from people_pages import person_of
 from resident_languages import residents
 
 HOME = "/office/languages"
+SET = "set-languages"
 # A page of this office, as an address may name it.
 OWN = re.compile(r"/office/(?:[A-Za-z0-9_.~%-]+/)*[A-Za-z0-9_.~%-]*")
 
@@ -25,7 +25,7 @@ def choose_language() -> None:
     try:
         memory.language(clerk(), str(ask("language", language=code)["language"]))
     except KeeperFault as fault:
-        tell("bad", _("This could not be done. {why}", why=plain.begun(str(fault))))
+        tell_fault(fault)
     go_to(back if OWN.fullmatch(back) else "/office/")
 
 
@@ -43,7 +43,7 @@ def languages_page() -> str:
 @app.post(f"{HOME}/office")
 def set_office() -> None:
     """Sets the language of residents without one."""
-    if done(office=field("language")):
+    if is_done(SET, office=field("language")):
         tell("good", _("The language of everybody without one is set."))
     go_to(HOME)
 
@@ -54,7 +54,7 @@ def set_many() -> None:
     idents = list(dict.fromkeys(filter(None, re.split(r"[\s,;]+", field("text").upper()))))
     if not idents:
         tell("bad", _("You have named nobody. Nothing was changed."))
-    elif done(languages={ident: field("language") for ident in idents}):
+    elif is_done(SET, languages={ident: field("language") for ident in idents}):
         tell("good", ngettext("The language of one person is set.", "The language of {count} people is set.", len(idents)))
     go_to(HOME)
 
@@ -63,7 +63,7 @@ def set_many() -> None:
 def erase_strangers() -> None:
     """Erases the languages of people who are not in the register, of those whom the clerk saw alone."""
     known = office_now().people
-    if done(languages={ident: "" for ident in ticked("person") if ident not in known}):
+    if is_done(SET, languages={ident: "" for ident in ticked("person") if ident not in known}):
         tell("good", _("They are erased."))
     go_to(HOME)
 
@@ -72,16 +72,6 @@ def erase_strangers() -> None:
 def set_language(ident: str) -> None:
     """Sets the language of one person."""
     place = person_of(office_now(), ident)
-    if done(languages={ident: text_of("language")}, was=field("was")):
+    if is_done(SET, languages={ident: text_of("language")}, was=field("was")):
         tell("good", _("The language is set."))
     go_to(place)
-
-
-def done(**fields: object) -> bool:
-    """Whether the keeper has set languages; else the clerk reads why not."""
-    try:
-        ask("set-languages", **fields)
-    except KeeperFault as fault:
-        tell("bad", _("This could not be done. {why}", why=plain.begun(str(fault))))
-        return False
-    return True

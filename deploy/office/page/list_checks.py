@@ -8,14 +8,13 @@ import re
 from collections.abc import Callable, Iterator
 
 from languages import N_, _
-from lines import IDENTIFIER
+from lines import CODE, IDENTIFIER
 
 import plain
 from csv_list import CsvList
 from office_view import Office
 from plain import Meaning
 
-CODE = re.compile(r"[A-Z0-9][A-Z0-9-]{0,7}")
 KEY = re.compile(r"[a-z0-9]{16,64}")
 GRADE = re.compile(r"[0-9]")
 UNSEEN = re.compile(r"[\x00-\x1f\x7f]|^ | $|  ")

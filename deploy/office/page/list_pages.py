@@ -6,6 +6,7 @@ from typing import Any, NamedTuple, NoReturn
 
 from journal import masked
 from languages import N_, _
+from lines import LONGEST_LIST
 from seen import Saw
 
 import known_people
@@ -15,7 +16,7 @@ import list_slips
 import mail_lists
 import plain
 import understanding
-from app import app, ask, change, clerk, field, go_to, memory, office_now, show, tell, text_of, upload_of
+from app import app, ask, change, clerk, field, go_to, list_sent, memory, office_now, show, tell, text_of, why_not_read
 from columns import kind_name
 from csv_list import CsvList
 from keeper_client import Answer, WasAnothers, answers_of
@@ -26,7 +27,6 @@ from list_slips import Made
 from mail_lists import NO_ADDRESSES, Addresses
 from office_view import Office
 from questions import Question, put_question
-from sheet_limits import LONGEST_FILE
 from slips import Key
 from understanding import NotUnderstood, Understood
 
@@ -103,11 +103,8 @@ def former_on(job: Job) -> tuple[tuple[str, str], ...]:
 
 def what_is_wrong(office: Office, kind: str, label: str, body: bytes) -> str:
     """Why a list is not even tried, or nothing."""
-    if kind not in plain.kinds(office.version) or not body:
-        return _("Choose a list first.")
-    if len(body) > LONGEST_FILE:
-        return _(plain.TOO_LONG)
-    return _(plain.LABEL_LIKE_A_KEY) if masked(label) != label else ""
+    why = why_not_read(body if kind in plain.kinds(office.version) else b"")
+    return why or (_(plain.LABEL_LIKE_A_KEY) if masked(label) != label else "")
 
 
 @app.get("/office/lists")
@@ -119,7 +116,7 @@ def lists() -> str:
 @app.post("/office/lists")
 def look_at_list() -> str:
     """Reads a file and tries its list. If it fits, the page holds it until the clerk says to import it."""
-    office, kind, label, body = office_now(), text_of("kind"), text_of("label"), upload_of("list", LONGEST_FILE)
+    office, kind, label, body = office_now(), text_of("kind"), text_of("label"), list_sent()
     if wrong := what_is_wrong(office, kind, label, body):
         tell("bad", wrong)
         go_to("/office/lists")
@@ -128,7 +125,7 @@ def look_at_list() -> str:
     except NotUnderstood as fault:
         found = Findings([], fault.meaning, False)
         return show("faults", office=office, job=Job(kind, label, b""), found=found, answer="", beside=NOBODY, read=None)
-    if len(read.body) > plain.LONGEST_LIST:
+    if len(read.body) > LONGEST_LIST:
         tell("bad", _(plain.TOO_LONG))
         go_to("/office/lists")
     if kind == "people" and not office.rooms and known_people.names_rooms(read.table):

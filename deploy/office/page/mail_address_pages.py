@@ -6,15 +6,14 @@ from languages import _, ngettext
 from told import mark_of
 
 import columns
-import plain
-from app import app, ask, clerk, download, field, go_to, memory, office_now, show, tell, text_of, ticked, upload_of
+from app import (app, ask, clerk, download, field, go_to, list_sent, memory, office_now, show, tell, text_of, ticked,
+                 why_not_read)
 from csv_list import line_of
 from keeper_client import KeeperFault
 from list_faults import Findings
 from mail_lists import Addresses, bring, in_file, now_of
 from people_pages import person_of
 from questions import must_be_sure
-from sheet_limits import LONGEST_FILE
 from understanding import NotUnderstood
 
 HOME = "/office/mail"
@@ -32,9 +31,9 @@ def export() -> HTTPResponse:
 @app.post(f"{HOME}/addresses")
 def look_at_addresses() -> str:
     """Reads a file of addresses. Nothing is changed before the clerk says yes."""
-    office, body = office_now(), upload_of("list", LONGEST_FILE)
-    if not body or len(body) > LONGEST_FILE:
-        tell("bad", _(plain.TOO_LONG) if body else _("Choose a list first."))
+    office, body = office_now(), list_sent()
+    if why := why_not_read(body):
+        tell("bad", why)
         go_to(HOME)
     try:
         found = in_file(office, body)

@@ -10,6 +10,7 @@ from mail_words import is_address
 
 import columns
 import list_faults
+import plain
 import understanding
 from app import ask, tell
 from keeper_client import KeeperFault
@@ -56,7 +57,7 @@ def of_rows(read: Understood, known: set[str]) -> Addresses:
     faults = []
     for record in read.table.records[1:]:
         if len(record.fields) != len(columns.targets_of(columns.ADDRESSES)):
-            faults.append(AddressFault(record.row, "", "", _("This line has more or fewer fields than the first line.")))
+            faults.append(AddressFault(record.row, "", "", _(plain.CAUSES["fields"].says)))
             continue
         ident, text, language = record.fields
         says = fault_of(ident, text, known, found)

@@ -7,7 +7,8 @@ from typing import Any
 
 import times
 from languages import N_, _, languages, ngettext, spoken
-from mail_words import KINDS, RECEIPT, Text
+from mail_words import KINDS, LONGEST_BODY, LONGEST_SUBJECT, RECEIPT, Text
+from seen import stamp_of
 from told import mark_of
 
 import explaining
@@ -47,7 +48,7 @@ def in_words(at: str) -> str:
 @app.get(HOME)
 def mail() -> str:
     """Who has an address, what is being sent, and the kinds of messages."""
-    return show("mail", office=office_now(), mail=ask("mail"), kinds=KINDS, in_words=in_words)
+    return show("mail", office=office_now(), mail=ask("mail"), kinds=KINDS, in_words=in_words, stamp_of=stamp_of)
 
 
 # --- a kind of message
@@ -81,8 +82,8 @@ def kind_page(kind: str, language: str = "", ident: str = "", written: Text | No
         shown = ask("mail-show", kind=kind, language=language, person=ident, link=residents_page(), subject=text.subject,
                     body=text.body)
     return show("mail_kind", office=office, mail=mail_now, kind=kind, of=KINDS[kind], state=state, text=text, chosen=ident,
-                shown=shown, language=language, name_of=name_of, back=f"{HOME}/{kind}/in/{language}",
-                saw=field("saw") if written else mark_of(state["texts"].get(language)))
+                shown=shown, language=language, name_of=name_of, back=f"{HOME}/{kind}/in/{language}", most_subject=LONGEST_SUBJECT,
+                most_body=LONGEST_BODY, saw=field("saw") if written else mark_of(state["texts"].get(language)))
 
 
 @app.get(f"{HOME}/<kind>")

@@ -3,6 +3,7 @@
 from typing import Any, NamedTuple
 
 from languages import _
+from register import going_in
 from seen import Saw, saw, stamp, state_of
 
 import plain
@@ -22,6 +23,11 @@ class Person(NamedTuple):
     def takes_part(self) -> bool:
         """Whether the person takes part in the round."""
         return not self.withdrawn and not self.going
+
+    @property
+    def part(self) -> str:
+        """The same in words."""
+        return _("no, has withdrawn") if self.withdrawn else _("no, leaves the college") if self.going else _("yes")
 
 
 class Room(NamedTuple):
@@ -49,7 +55,7 @@ class Office:  # pylint: disable=too-many-instance-attributes  # each is a part 
         self.version: int = view["version"]
         self.number: int = view["number"]
         self.phase: str = view["phase"]
-        grades, going = dict(view["grades"]), {row[0] for row in view["going"]}
+        grades, going = dict(view["grades"]), set(going_in(view))
         self.people = {row[0]: Person(row[0], row[1], row[2], bool(row[3]), row[0] in going, grades.get(row[0], 0))
                        for row in view["people"]}
         self.rooms = {row[0]: Room(row[0], bool(row[1]), row[2]) for row in view["rooms"]}

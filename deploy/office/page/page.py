@@ -5,7 +5,6 @@ It listens on the socket that systemd hands over (rooms-page.socket), or on that
 """
 
 import os
-import socket
 import sys
 from pathlib import Path
 
@@ -13,9 +12,8 @@ from pathlib import Path
 sys.path.insert(1, str(Path(__file__).resolve().parent.parent))
 
 # pylint: disable=wrong-import-position  # each module adds its pages to the app
-import waitress
-
 from house_places import here
+from serving import serve
 
 import about_pages  # noqa: F401  # pylint: disable=unused-import
 import committee_pages  # noqa: F401  # pylint: disable=unused-import
@@ -48,13 +46,7 @@ IN_MEMORY = 16_000_000
 def main() -> None:
     """Serves the page until it is ended."""
     os.umask(0o077)
-    options = {"threads": 4, "max_request_body_size": LONGEST_FORM, "inbuf_overflow": IN_MEMORY,
-               "outbuf_overflow": IN_MEMORY, "clear_untrusted_proxy_headers": True, "ident": None}
-    if "LISTEN_FDS" in os.environ:
-        waitress.serve(Guarded(app), sockets=[socket.socket(fileno=3)], **options)
-    else:
-        Path(PLACE).unlink(missing_ok=True)
-        waitress.serve(Guarded(app), unix_socket=PLACE, **options)
+    serve(Guarded(app), PLACE, threads=4, max_request_body_size=LONGEST_FORM, inbuf_overflow=IN_MEMORY, outbuf_overflow=IN_MEMORY)
 
 
 if __name__ == "__main__":

@@ -7,11 +7,13 @@ import unicodedata
 from journal import masked
 from languages import _
 from lines import IDENTIFIER
+from mail_words import LONGEST_ADDRESS
+from plan_of_moves import NONE
 
 import explaining
 import plain
-from app import app, ask, attempt, change, clerk, field, go_to, memory, office_now, saw, show, tell, text_of, ticked
-from keeper_client import KeeperFault, WasAnothers
+from app import app, attempt, change, clerk, field, go_to, is_done, memory, office_now, saw, show, tell, text_of, ticked
+from keeper_client import WasAnothers
 from kept_beside import erased_with
 from mail_lists import address_of
 from office_view import Office, Person
@@ -22,7 +24,6 @@ from slips import show_once
 MOST_SHOWN = 200
 # Letters that are no letter with a mark.
 LIKE = {"þ": "th", "ð": "d", "đ": "d", "ø": "o", "æ": "ae", "œ": "oe", "ł": "l", "ı": "i"}
-NO_ROOM = "none"  # as the program calls it
 
 
 def plain_letters(text: str) -> str:
@@ -68,7 +69,7 @@ def person_page(ident: str) -> str:
     person_of(office, ident)
     told = explaining.about(office, ident) if office.results else []
     return show("person", office=office, person=office.people[ident], told=told, address=address_of(office, ident),
-                language=own_of(ident))
+                language=own_of(ident), longest_address=LONGEST_ADDRESS)
 
 
 @app.post("/office/person/<ident>/whatif")
@@ -81,7 +82,7 @@ def what_if(ident: str) -> None:
         tell("bad", str(plain.meaning(answer.text)))
         go_to(place)
     listed, room = wishes or _("(empty)"), answer.text.split()[-1]  # it answers `would get ROOM`, or `would get none`
-    tell("good", _("By the list {wishes} this person would get none.", wishes=listed) if room == NO_ROOM else
+    tell("good", _("By the list {wishes} this person would get none.", wishes=listed) if room == NONE else
          _("By the list {wishes} this person would get {room}.", wishes=listed, room=room))
     go_to(place)
 
@@ -123,12 +124,7 @@ def correct_name(ident: str) -> None:
 
 def correct(part: str, ident: str, value: str) -> bool:
     """Gives a person another name or key. Whether that was done; else the clerk reads why not."""
-    try:
-        ask("correct", person=ident, seen=field("seen"), saw=saw(part, ident), **{part: value})
-    except KeeperFault as fault:
-        tell("bad", _("This could not be done. {fault}", fault=plain.begun(str(fault))))
-        return False
-    return True
+    return is_done("correct", person=ident, seen=field("seen"), saw=saw(part, ident), **{part: value})
 
 
 def question_of(office: Office, ident: str, act: str) -> Question | None:

@@ -9,6 +9,7 @@ from house_places import here
 from languages import N_, _, ngettext
 
 HOUSE = here().house  # or nothing
+MOST_UNFOLDED = 40
 KEEPER = here().keeper_units[1].removesuffix(".service")
 
 
@@ -20,6 +21,11 @@ def title() -> str:
 def begun(text: str) -> str:
     """A text as the beginning of a sentence."""
     return text[:1].upper() + text[1:]
+
+
+def unfolded(count: int) -> str:
+    """What opens a fold-out with so many people or rooms in it from the start: not if there are many."""
+    return " open" if count <= MOST_UNFOLDED else ""
 
 
 class Phase(NamedTuple):
@@ -149,7 +155,6 @@ KINDS = {
     "choices": Kind("person,choices", N_("Identifier, and the room codes, the best first, with one space between two."),
                     ("open",), 1),
 }
-LONGEST_LIST = 262_144
 # What residents read of rooms comes as a list too, which the program knows nothing of.
 DESCRIPTIONS = "descriptions"
 OWN_KINDS = {
@@ -157,8 +162,9 @@ OWN_KINDS = {
                        N_("Room code, and what residents read of the room. All columns but the first may be absent or empty."),
                        tuple(PHASES), 1),
 }
-# The phases in which there is a drawn order.
-DRAWN = ("drawn", "ran", "published")
+# The phases in which there are results, and those in which there is a drawn order.
+RAN = ("ran", "published")
+DRAWN = ("drawn", *RAN)
 
 # What the program exports for a spreadsheet. Its list of people is apart: it has each name as it is, also a formula.
 EXPORTS = {"rooms": N_("Rooms"), "grades": N_("Grades, as they can come in again"), "moves": N_("Moves of all settled rounds")}

@@ -3,6 +3,7 @@
 from typing import NamedTuple
 
 from languages import N_, _, ngettext, speaking, spoken
+from plan_of_moves import LEAVES, NONE, SWAP, moves_in
 
 import explaining
 import figures
@@ -11,7 +12,6 @@ import views
 from app import app, attempt, field, go_to, office_now, show, tell
 from codes import unbroken
 from office_view import Office
-from people_pages import NO_ROOM
 from resident_languages import residents
 
 LONGEST_CLOSING = 1000
@@ -77,7 +77,8 @@ def letters() -> str:
             letter = letter_of(office, ident, explaining.to_resident(facts) if facts else [])
             written.append(views.render("letter", letter=letter, number=office.number, closing=closings[spoken()],
                                         unbroken=unbroken))
-    return show("letters", office=office, letters=written, codes=list(codes), lines_of=lines_of, fault=spoken_by.fault)
+    return show("letters", office=office, letters=written, codes=list(codes), lines_of=lines_of, fault=spoken_by.fault,
+                longest=LONGEST_CLOSING)
 
 
 def lines_of(name: str) -> list[str]:
@@ -125,12 +126,11 @@ def circles_of(swaps: list[Move]) -> list[list[Move]]:
 def groups_of(office: Office, table: str) -> list[Group]:
     """The move-day list of the program, by waves and circles."""
     waves: dict[str, list[Move]] = {}
-    for line in table.splitlines()[1:]:
-        wave, ident, old, new = line.split()
+    for wave, ident, old, new in moves_in(table):
         name = office.people[ident].name if ident in office.people else ""
-        waves.setdefault(wave, []).append(Move(ident, name, *(_("no room") if room == NO_ROOM else room for room in (old, new))))
-    circles = circles_of(waves.pop("swap", []))
-    groups = [Group(LEAVE, _("Leave the college"), _(LEAVING), waves.pop("0"))] if "0" in waves else []
+        waves.setdefault(wave, []).append(Move(ident, name, *(_("no room") if room == NONE else room for room in (old, new))))
+    circles = circles_of(waves.pop(SWAP, []))
+    groups = [Group(LEAVE, _("Leave the college"), _(LEAVING), waves.pop(LEAVES))] if LEAVES in waves else []
     first = (_("They move into rooms that nobody leaves, or whose tenants leave the college.") if groups else
              _("They move into rooms that nobody leaves."))
     groups += [Group(WAVE, _("Wave {number}", number=wave),

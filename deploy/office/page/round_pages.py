@@ -1,6 +1,7 @@
 """How far the round is, and its steps."""
 
 from languages import N_, _, ngettext
+from lines import NOT_TAKEN
 from mail_words import KINDS
 
 import coming_back
@@ -11,8 +12,6 @@ from keeper_client import KeeperFault
 from office_view import Office
 from questions import Question, away_facts, put_question
 
-# Statuses after which the keeper does not start the server again: it would refuse the file again.
-REFUSED = (1, 2)
 # What a clerk may want to export before a step that deletes it.
 BEFORE = {
     "settle": (("/office/record", N_("The public record, letters and plans")),),
@@ -52,7 +51,7 @@ def why_stopped(status: int | None) -> plain.Meaning:
     against the file."""
     if status is None:
         return plain.STARTING.translated()
-    if status not in REFUSED:
+    if status not in NOT_TAKEN:  # after these the keeper does not start it again
         return plain.FAILED.translated()
     answer = attempt("round")[0]
     if answer.status == 0:

@@ -12,7 +12,7 @@ from sheet_limits import Unreadable
 
 SEPARATORS = {",": N_("commas"), ";": N_("semicolons"), "\t": N_("tabs")}
 UTF_16 = (codecs.BOM_UTF16_LE, codecs.BOM_UTF16_BE)
-LOOKED_AT = 10  # the lines in which the names of the columns may be
+LOOKED_AT = 10  # rows in which the names of the columns may be
 
 
 class Text(NamedTuple):

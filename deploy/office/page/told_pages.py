@@ -8,18 +8,21 @@ import re
 from typing import Any, NamedTuple
 
 from languages import N_, _, languages, ngettext
-from told import FIELDS, LONGEST_CAPTION, LONGEST_CONTACT, LONGEST_NOTICE, MOST_OF_ROOM, PICTURE
+from lines import LONGEST_LIST
+from told import FIELDS, LONGEST_CAPTION, LONGEST_CONTACT, LONGEST_NOTICE, MOST_OF_ROOM
+from told_files import PICTURE
 
 import pictures
 import plain
 import told_rooms
 import understanding
-from app import app, ask, clerk, field, go_to, memory, office_now, residents_page, show, tell, text_of, upload_of, uploads_of
+from app import (app, ask, clerk, field, go_to, list_sent, memory, office_now, residents_page, show, tell, text_of, uploads_of,
+                 why_not_read)
 from keeper_client import KeeperFault
 from list_faults import Fault
 from office_view import Office
 from questions import Question, put_question
-from sheet_limits import LONGEST_FILE, Unreadable
+from sheet_limits import Unreadable
 from told_rooms import Rooms
 from understanding import NotUnderstood
 
@@ -53,7 +56,7 @@ def tell_keeper(question: str, good: str, **fields: Any) -> bool:
     try:
         ask(question, **fields)
     except KeeperFault as fault:
-        tell("bad", f"{str(fault)[:1].upper()}{str(fault)[1:]}")
+        tell("bad", plain.begun(str(fault)))
         return False
     tell("good", good)
     return True
@@ -94,15 +97,15 @@ def tell_words() -> str:
 @app.post(f"{PLACE}/rooms")
 def look_at_rooms() -> str:
     """Reads a list of descriptions. Nothing is on the residents' page before the clerk says so."""
-    office, body = office_now(), upload_of("list", LONGEST_FILE)
-    if not body or len(body) > LONGEST_FILE:
-        tell("bad", _(plain.TOO_LONG) if body else _("Choose a list first."))
+    office, body = office_now(), list_sent()
+    if why := why_not_read(body):
+        tell("bad", why)
         go_to(PLACE)
     try:
         read = understanding.read(plain.DESCRIPTIONS, body)
     except NotUnderstood as fault:
         return show("told_faults", office=office, whole=fault.meaning, faults=list[Fault]())
-    if len(read.body) > plain.LONGEST_LIST:
+    if len(read.body) > LONGEST_LIST:
         tell("bad", _(plain.TOO_LONG))
         go_to(PLACE)
     said = told_rooms.described(read.table)

@@ -4,12 +4,12 @@ import re
 from typing import Any, NamedTuple
 
 from languages import N_, _
-from lines import name_shows_a_key
+from lines import CODE, name_shows_a_key
 from told import AMOUNT, FIELDS
 
 import plain
 from csv_list import CsvList
-from list_checks import CODE, UNSEEN
+from list_checks import ROOM_AGAIN, UNSEEN, in_row
 from list_faults import Fault, shown
 from office_view import Office
 from plain import Meaning
@@ -62,8 +62,7 @@ def fault_of(fields: list[str], rows: dict[str, int]) -> Meaning | None:
     if not CODE.fullmatch(fields[0]):
         return Meaning(_("The field room is not well written."), _(plain.CODE))
     if fields[0] in rows:
-        return Meaning(_("This room is in row {row} of this list already.", row=rows[fields[0]]),
-                       _("Correct one of the two lines, or take it out."))
+        return in_row(ROOM_AGAIN, rows[fields[0]])
     return next(filter(None, map(fault_of_field, FIELDS.items(), fields[1:])), None)
 
 

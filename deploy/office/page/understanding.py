@@ -10,6 +10,7 @@ from collections.abc import Callable
 from typing import NamedTuple
 
 from languages import N_, _, ngettext
+from told import FIELDS
 
 import columns
 import list_faults
@@ -79,7 +80,7 @@ STEPS: dict[str, list[Step]] = {
     "person": CODE, "room": CODE, "home": CODE, "name": [(SPACES, squeezed)], "key": [(SPACES, stripped)],
     "grade": [(SPACES, stripped)], "email": [(SPACES, stripped)], "language": [(SPACES, stripped)],
     "choices": [(SPACES, stripped), (SEPARATED, separated), (CAPITALS, capitals)],
-    **{target: [(SPACES, squeezed)] for target in ("house", "floor", "size", "rent", "text")},
+    **{target: [(SPACES, squeezed)] for target in FIELDS},
 }
 # The columns in which letters show whether the character set was guessed rightly.
 MOST_ROWS_NAMED = 20
@@ -145,7 +146,7 @@ def read(kind: str, data: bytes) -> Understood:
 
 def understood(kind: str, data: bytes, text: sheet_text.Text) -> Understood:
     """What the page understands of these rows."""
-    if len(text.rows) > sheet_books.MOST_ROWS + columns.LOOKED_AT:
+    if len(text.rows) > sheet_books.MOST_ROWS + sheet_text.LOOKED_AT:
         raise NotUnderstood(CAUSES["many"].translated())
     if not text.rows:
         raise NotUnderstood(Meaning(_("This file is empty."), _("Choose another one.")))
