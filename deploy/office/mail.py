@@ -22,7 +22,6 @@ import sqlite3
 import threading
 from collections.abc import Callable
 
-import mail_book
 from job import Job, is_other
 from languages import _, languages, ngettext, speaking
 from mail_book import ENDED, PAUSED, RUNNING, Book, Run
