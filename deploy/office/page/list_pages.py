@@ -16,7 +16,7 @@ import list_slips
 import mail_lists
 import plain
 import understanding
-from app import app, ask, change, clerk, field, go_to, list_sent, memory, office_now, show, tell, text_of, why_not_read
+from app import app, ask, change, clerk, field, go_to, list_sent, memory, office_now, show, tell, text_of, ticked, why_not_read
 from columns import kind_name
 from csv_list import CsvList
 from keeper_client import Answer, WasAnothers, answers_of
@@ -62,6 +62,12 @@ class Job(NamedTuple):
     def people(self) -> list[str]:
         """Who is on the list."""
         return [record.fields[0] for record in CsvList(self.body).records[1:]]
+
+    def without(self, idents: list[str]) -> "Job":
+        """The list without these people, or as it is if none of them is on it."""
+        table, people = CsvList(self.body), set(idents)
+        out = {number for number, record in enumerate(table.records) if number and record.fields[0] in people}
+        return self._replace(body=table.body(without=out)) if out else self
 
     def names(self) -> dict[str, str]:
         """The names of the people on the list."""
@@ -180,26 +186,21 @@ def fitting_list(office: Office, job: Job, made: list[Key], beside: Beside, read
         slips = job.made or list_slips.made_for(ident for ident, *_rest in made)
         job = job._replace(made=slips, tried=Tried(made, beside, read))
         go_to(f"/office/lists/tried/{hold(office, job, job.people())}")
-    table = CsvList(job.body)
-    replaced: dict[str, int] = {}
-    if job.kind == "choices":
-        for number, record in enumerate(table.records):
-            if number and office.choices.get(record.fields[0], record.fields[1].split()) != record.fields[1].split():
-                replaced[record.fields[0]] = number
-    rest = job._replace(body=table.body(without={number for number, record in enumerate(table.records)
-                                                 if number and record.fields[0] in replaced}))
+    lists = dict(record.fields for record in CsvList(job.body).records[1:]) if job.kind == "choices" else {}
+    replaced = [ident for ident, wishes in lists.items() if office.choices.get(ident, wishes.split()) != wishes.split()]
     people = job.people()
     others = [person for person in people if person not in replaced]
-    return show("fits", office=office, job=job, count=len(people), made=[], replaced=list(replaced), beside=beside,
-                kind_name=kind_name, read=read, tries=[],
-                held=hold(office, job, people), held_rest=hold(office, rest, others) if replaced else "")
+    return show("fits", office=office, job=job, count=len(people), made=[], replaced=replaced, beside=beside,
+                bare={ident: wishes for ident, wishes in lists.items() if wishes and not office.choices.get(ident)},
+                kind_name=kind_name, read=read, tries=[], held=hold(office, job, people),
+                held_rest=hold(office, job.without(replaced), others) if replaced else "")
 
 
 @app.get("/office/lists/tried/<name>")
 def tried_list(name: str) -> str:
     """The page of a try with new keys, as long as the page holds the list, without slips that cannot work any more."""
     office = office_now()
-    job = held_list(office, name)
+    job = held_list(office, name, [])
     if job.tried is None:
         go_to("/office/lists")
     if office.has_label(job.label):
@@ -211,8 +212,9 @@ def tried_list(name: str) -> str:
     if is_stale(office, job):
         return look_again(office, job, tuple(key for key in job.tried.keys if key[0] not in office.people))
     people = job.people()
-    return show("fits", office=office, job=job, count=len(people), made=job.tried.keys, replaced=[], beside=job.tried.beside,
-                kind_name=kind_name, read=job.tried.read, tries=list_slips.others(people, job.made), held=name, held_rest="")
+    return show("fits", office=office, job=job, count=len(people), made=job.tried.keys, replaced=[], bare={},
+                beside=job.tried.beside, kind_name=kind_name, read=job.tried.read, tries=list_slips.others(people, job.made),
+                held=name, held_rest="")
 
 
 def hold(office: Office, job: Job, people: list[str]) -> str:
@@ -221,13 +223,15 @@ def hold(office: Office, job: Job, people: list[str]) -> str:
     return memory.hold(clerk(), job._replace(saw=office.saw(part, *people) if part else None))
 
 
-def held_list(office: Office, name: str) -> Job:
-    """A list that waits for the clerk's yes. One that is in, or that the page does not hold, leads to the lists."""
+def held_list(office: Office, name: str, out: list[str]) -> Job:
+    """A list that waits for the clerk's yes, without whom the clerk leaves out. One that is in, or that the page does not hold,
+    leads to the lists."""
     job: Any = memory.held(clerk(), name)
     if isinstance(job, Job):
-        if not is_in(office, job):
-            return job
-        come_in(name, job)
+        part = job.without(out)
+        if not is_in(office, part):
+            return part
+        come_in(name, part)
     if isinstance(job, Brought):
         for text in list_slips.once_in(job.label, job.slips):
             tell("good", text)
@@ -238,10 +242,16 @@ def held_list(office: Office, name: str) -> Job:
 
 @app.post("/office/lists/bring")
 def bring_list() -> str:
-    """Imports a list that was tried. If what it replaces has changed since, or nobody has said of people under former identifiers
-    that they are the same ones, the clerk looks again."""
+    """Imports a list that was tried, without whom the clerk leaves out. If what it replaces has changed since, or nobody has said
+    of people under former identifiers that they are the same ones, the clerk looks again."""
     office, name = office_now(), text_of("held")
-    job = held_list(office, name)
+    out = [ident for ident in ticked("out") if ident in office.people]
+    job = held_list(office, name, out)
+    if out:
+        tell("good", _("You have left out {people}: this list changes nothing for them.", people=", ".join(out)))
+    if out and not job.people():
+        tell("bad", _("You have left out everybody. Nothing came in."))
+        go_to("/office/lists")
     if is_stale(office, job):
         return look_again(office, job)
     if office.has_label(job.label):
