@@ -63,6 +63,14 @@ class Job(NamedTuple):
         """Who is on the list."""
         return [record.fields[0] for record in CsvList(self.body).records[1:]]
 
+    def mail_of_new(self) -> Addresses:
+        """The mail addresses and languages of the people who come in with the list."""
+        return self.mailed.of(set(self.people()))
+
+    def mail_of_known(self) -> Addresses:
+        """Those of people who are in the register already, and whose address or language would be another one."""
+        return mail_lists.what_changes(self.mailed.of(self.mailed.people() - set(self.people())))
+
     def without(self, idents: list[str]) -> "Job":
         """The list without these people, or as it is if none of them is on it."""
         table, people = CsvList(self.body), set(idents)
@@ -87,9 +95,11 @@ class Brought(NamedTuple):
 
 
 class Departed(NamedTuple):
-    """People of the register who are not on a list that has come in."""
+    """People of the register who are not on a list that has come in, and the name under which the page holds mail addresses of it
+    that are not in yet."""
 
     idents: tuple[str, ...]
+    mailed: str
 
 
 def try_list(job: Job) -> Answer:
@@ -155,15 +165,14 @@ def looked_at(office: Office, job: Job, table: CsvList, beside: Beside, read: Un
     if office.has_label(job.label) and try_list(job).status == 0:
         return known_list(office, job)
     if beside.known and len(beside.known) == len(table.records) - 1:
-        held = memory.hold(clerk(), job.mailed) if job.mailed.pairs else ""
+        held = memory.hold(clerk(), job.mailed) if job.mailed.people() else ""
         return show("already", office=office, kind=job.kind, beside=beside, read=read, mailed=held,
                     count=job.known + len(beside.known), **departed_form(office, tuple(beside.departed)))
     made = list(keys)
     if read and job.kind == "people" and field("keys"):
         made = table.fill_keys(beside.known)
     if made or beside.known:
-        new = {record.fields[0] for number, record in enumerate(table.records) if number not in beside.known}
-        job = job._replace(body=table.body(without=beside.known), departed=tuple(beside.departed), mailed=job.mailed.of(new),
+        job = job._replace(body=table.body(without=beside.known), departed=tuple(beside.departed),
                            known=job.known + len(beside.known))
     answer = try_list(job)
     if answer.status == 0 and not any(list_checks.overwritten(job.kind, table)):
@@ -275,12 +284,17 @@ def come_in(name: str, job: Job, is_told: bool = False) -> NoReturn:
     memory.replace(clerk(), name, Brought(job.label, job.made))
     if not is_told:
         tell("good", list_slips.once_in(job.label, None)[0])
-    mail_lists.bring(job.mailed)
+    mail_lists.bring(job.mail_of_new())
     for kind, text in list_slips.which_work(job.people(), job.made) if job.kind == "people" else ():
         tell(kind, text)
+    known = job.mail_of_known()
+    held = memory.hold(clerk(), known) if known.people() else ""
+    if held:
+        tell("bad", _("The list has new mail addresses or languages of people who were in the register already: {people}. These "
+                      "are not in yet.", people=plain.people(len(known.people()))))
     if job.departed:
-        go_to(f"/office/departed/{memory.hold(clerk(), Departed(job.departed))}")
-    go_to("/office/lists")
+        go_to(f"/office/departed/{memory.hold(clerk(), Departed(job.departed, held))}")
+    go_to(f"/office/mail/addresses/{held}" if held else "/office/lists")
 
 
 def is_in(office: Office, job: Job) -> bool:
@@ -330,7 +344,7 @@ def departed(name: str) -> str:
         tell("bad", _("The page no longer knows who was not on the list. Send the list again: it changes nothing."))
         go_to("/office/lists")
     office = office_now()
-    return show("departed", office=office, **departed_form(office, kept.idents))
+    return show("departed", office=office, mailed=kept.mailed, **departed_form(office, kept.idents))
 
 
 @app.get("/office/blank/<label>")
