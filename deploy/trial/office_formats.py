@@ -94,6 +94,15 @@ def try_numbers(stand, page):
     check("a list as the program has it needs no word", "What the page understood" not in send(page, "people", "exact", exact))
 
 
+def try_formulas(stand, page):
+    """A formula whose result is not in the file, as scripts write it, is a fault, and no empty field."""
+    before = people(stand)
+    for form, make in (("Excel", workbooks.xlsx), ("LibreOffice", workbooks.ods)):
+        shown = send(page, "people", "formulas", make([["id", "name", "room"], ["F1", "Form Ula", "=A1"], ["F2", "Li Wei", None]]))
+        check(f"a formula without a result in a workbook of {form} is refused by its place", people(stand) == before
+              and "The formula in the cell C2 has no result in this file." in shown and 'name="held"' not in shown, shown)
+
+
 def try_choices(stand, page):
     """Choices in one column for each, or with commas between them."""
     page.form("/office/step/open", page="/office/step/open")
@@ -170,6 +179,7 @@ def try_office_formats(program):
         try_samples(stand, page)
         try_forms(stand, page)
         try_numbers(stand, page)
+        try_formulas(stand, page)
         try_refusals(page)
         try_hostile(stand, page)
         try_choices(stand, page)
