@@ -103,6 +103,17 @@ def try_formulas(stand, page):
               and "The formula in the cell C2 has no result in this file." in shown and 'name="held"' not in shown, shown)
 
 
+def try_person(stand, page):
+    """A list on a person's page that the program does not understand: the page says why, and has what was entered."""
+    before = stand.recorded()
+    for codes, why in (([*ROOMS, "B-101"], "This list has 41 rooms. A list has up to 40."),
+                       (["A-101", "A-102", "A-101"], "A-101 stands twice on this list.")):
+        page.form("/office/person/B1/choose", {"text": " ".join(codes)}, page="/office/person/B1")
+        shown = flat(page.get("/office/person/B1")[2])
+        check(f"the page says: {why}", why in shown and f"You had entered: {' '.join(codes)}." in shown, shown)
+    check("and the list on record stays", stand.recorded() == before, stand.recorded())
+
+
 def try_choices(stand, page):
     """Choices in one column for each, or with commas between them."""
     page.form("/office/step/open", page="/office/step/open")
@@ -183,6 +194,7 @@ def try_office_formats(program):
         try_refusals(page)
         try_hostile(stand, page)
         try_choices(stand, page)
+        try_person(stand, page)
         check("the page's log is empty", not stand.log("page").strip(), stand.log("page"))
 
 
