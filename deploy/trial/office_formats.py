@@ -103,6 +103,13 @@ def try_formulas(stand, page):
               and "The formula in the cell C2 has no result in this file." in shown and 'name="held"' not in shown, shown)
 
 
+def try_label(page):
+    """A label that is not well written is not the one under which the page asks for the list again."""
+    shown = send(page, "rooms", "Rooms 2027", b"room\nA-999\n")
+    check("a label that is not well written is refused, and another one named", "The label is not well written." in shown
+          and "Send the list again under the label rooms-1." in shown, shown)
+
+
 def try_person(stand, page):
     """A list on a person's page that the program does not understand: the page says why, and has what was entered."""
     before = stand.recorded()
@@ -191,6 +198,7 @@ def try_office_formats(program):
         try_forms(stand, page)
         try_numbers(stand, page)
         try_formulas(stand, page)
+        try_label(page)
         try_refusals(page)
         try_hostile(stand, page)
         try_choices(stand, page)
