@@ -16,7 +16,8 @@ import list_slips
 import mail_lists
 import plain
 import understanding
-from app import app, ask, change, clerk, field, go_to, list_sent, memory, office_now, show, tell, text_of, ticked, why_not_read
+from app import (app, ask, attempt, change, clerk, field, go_to, list_sent, memory, office_now, show, tell, text_of, ticked,
+                 why_not_read)
 from columns import kind_name
 from csv_list import CsvList
 from keeper_client import Answer, WasAnothers, answers_of
@@ -31,6 +32,7 @@ from slips import Key
 from understanding import NotUnderstood, Understood
 
 NOBODY = Beside(set(), [], [])
+KEYS_ASKED = 20
 
 
 NO_LONGER = N_("The page no longer holds this list. Nothing was imported now. If the list is not in yet, send it again, and "
@@ -71,12 +73,6 @@ class Job(NamedTuple):
         """Those of people who are in the register already, and whose address or language would be another one."""
         return mail_lists.what_changes(self.mailed.of(self.mailed.people() - set(self.people())))
 
-    def without(self, idents: list[str]) -> "Job":
-        """The list without these people, or as it is if none of them is on it."""
-        table, people = CsvList(self.body), set(idents)
-        out = {number for number, record in enumerate(table.records) if number and record.fields[0] in people}
-        return self._replace(body=table.body(without=out)) if out else self
-
     def names(self) -> dict[str, str]:
         """The names of the people on the list."""
         return {record.fields[0]: record.fields[1] for record in CsvList(self.body).records[1:]}
@@ -100,6 +96,13 @@ class Departed(NamedTuple):
 
     idents: tuple[str, ...]
     mailed: str
+
+
+def without(job: Job, idents: list[str]) -> Job:
+    """A list without these people, or as it is if none of them is on it."""
+    table, people = CsvList(job.body), set(idents)
+    out = {number for number, record in enumerate(table.records) if number and record.fields[0] in people}
+    return job._replace(body=table.body(without=out)) if out else job
 
 
 def try_list(job: Job) -> Answer:
@@ -195,14 +198,14 @@ def fitting_list(office: Office, job: Job, made: list[Key], beside: Beside, read
         slips = job.made or list_slips.made_for(ident for ident, *_rest in made)
         job = job._replace(made=slips, tried=Tried(made, beside, read))
         go_to(f"/office/lists/tried/{hold(office, job, job.people())}")
-    lists = dict(record.fields for record in CsvList(job.body).records[1:]) if job.kind == "choices" else {}
-    replaced = [ident for ident, wishes in lists.items() if office.choices.get(ident, wishes.split()) != wishes.split()]
+    wishes_of = dict(record.fields for record in CsvList(job.body).records[1:]) if job.kind == "choices" else {}
+    replaced = [ident for ident, wishes in wishes_of.items() if office.choices.get(ident, wishes.split()) != wishes.split()]
     people = job.people()
     others = [person for person in people if person not in replaced]
     return show("fits", office=office, job=job, count=len(people), made=[], replaced=replaced, beside=beside,
-                bare={ident: wishes for ident, wishes in lists.items() if wishes and not office.choices.get(ident)},
+                bare={ident: wishes for ident, wishes in wishes_of.items() if wishes and not office.choices.get(ident)},
                 kind_name=kind_name, read=read, tries=[], held=hold(office, job, people),
-                held_rest=hold(office, job.without(replaced), others) if replaced else "")
+                held_rest=hold(office, without(job, replaced), others) if replaced else "")
 
 
 @app.get("/office/lists/tried/<name>")
@@ -237,7 +240,7 @@ def held_list(office: Office, name: str, out: list[str]) -> Job:
     leads to the lists."""
     job: Any = memory.held(clerk(), name)
     if isinstance(job, Job):
-        part = job.without(out)
+        part = without(job, out)
         if not is_in(office, part):
             return part
         come_in(name, part)
@@ -298,8 +301,13 @@ def come_in(name: str, job: Job, is_told: bool = False) -> NoReturn:
 
 
 def is_in(office: Office, job: Job) -> bool:
-    """Whether just this list came in under its label: the program answers as it did then."""
-    return office.has_label(job.label) and try_list(job).status == 0
+    """Whether just this list came in under its label: the program answers as it did then. It cannot if somebody has blanked the
+    list since: then keys of it tell, which nobody else has."""
+    kept = next((kept for kept in office.lists if kept.label == job.label), None)
+    if kept and kept.is_blank and kept.kind == job.kind == "people":
+        keys = [record.fields[2] for record in CsvList(job.body).records[1:KEYS_ASKED + 1]]
+        return any(answer.status == 0 for answer in attempt(*(f"me {key}" for key in keys)))
+    return kept is not None and try_list(job).status == 0
 
 
 def label_taken(job: Job) -> str:
