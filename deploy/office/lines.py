@@ -9,10 +9,12 @@ LIKE_A_KEY = re.compile(r"[A-Za-z0-9]{16,}")
 IDENTIFIER = re.compile(r"[A-Z0-9]{1,12}")
 CODE = re.compile(r"[A-Z0-9][A-Z0-9-]{0,7}")  # of a room
 DRAWN = re.compile(r"[A-Fa-f0-9]{16}")  # a word of a draw
+LABEL = re.compile(r"[a-z0-9][a-z0-9-]{0,31}")  # of a list that comes in
 SEED = re.compile(r"[0-9A-Fa-f]{64}")    # of a draw
 BY_SEED = "draw $(rooms words --seed"    # a draw by a seed, as the journal has it: the seed comes behind it
 
 LONGEST_LIST = 262_144  # bytes: the program takes no longer list
+MOST_CHOICES = 40  # rooms on the list of one person
 # The program's statuses; after those of NOT_TAKEN nothing was changed, and would not be if it was asked again.
 ACCEPTED, REFUSED, NOT_UNDERSTOOD, UNAVAILABLE = range(4)
 NOT_TAKEN = (REFUSED, NOT_UNDERSTOOD)

@@ -35,13 +35,32 @@ def addresses(stand):
 
 
 def try_known_people(stand, page):
-    """A list of people again, with older addresses, and one new person."""
+    """A list of people again, with older addresses, and one new person. What it says of those who are known comes in after it, if
+    the clerk says so."""
     stand.ask(ask="mail-addresses", addresses={"T01": NEWER})
-    rows = [["T01", "Person T01", "", mail_of("T01")], ["T04", "Person T04", key_of("T04"), mail_of("T04")]]
-    shown = flat(bring_in(page, "people", "people-again", ["person", "name", "key", "email"], rows))
-    check("of a list of people again only new people's addresses come in", "1 mail address comes in with the list" in shown, shown)
+    rows = [("T01", "", mail_of("T01")), ("T04", key_of("T04"), mail_of("T04"))]
+    body = "person,name,key,email,language\n" + "".join(f"{one},Person {one},{key},{mail},de\n" for one, key, mail in rows)
+    shown = page.form("/office/lists", {"kind": "people", "label": "people-again"}, files={"list": body.encode()})[2]
+    says = ("1 mail address comes in with the list", "For 1 person who is in the register already, the list has a new mail address",
+            "Once it is in, the page shows what they change, and asks.")
+    check("of a list of people again only new people's addresses come in, and the page says so",
+          all(one in flat(shown) for one in says), flat(shown))
+    held = re.findall(r'name="held" value="(\w+)"', shown)[0]
+    next_page = page.form("/office/lists/bring", {"held": held})[1]["location"].partition("/office/")[2]
     kept = addresses(stand)
     check("and who is known keeps theirs", kept.get("T01") == NEWER and kept.get("T04") == mail_of("T04"), kept)
+    shown = page.get(f"/office/{next_page}")[2]
+    place = "".join(re.findall(r'href="(/office/mail/addresses/\w+)"', shown))
+    said = "were in the register already: one person. These are not in yet."
+    check("then the page offers the others", place and said in flat(shown), flat(shown))
+    shown = flat(page.get(place)[2])
+    check("and shows what would change", f"T01 {NEWER} {mail_of('T01')}" in shown
+          and "1 person gets another language." in shown, shown)
+    page.form("/office/mail/addresses/bring", page=place)
+    check("then these are in, too", addresses(stand).get("T01") == mail_of("T01")
+          and stand.ask(ask="languages")["residents"] == {"T01": "de", "T04": "de"}, addresses(stand))
+    stand.ask(ask="mail-addresses", addresses={"T01": NEWER})
+    stand.ask(ask="set-languages", languages={"T01": "", "T04": ""})
 
 
 def try_many(stand, page):

@@ -94,6 +94,33 @@ def try_numbers(stand, page):
     check("a list as the program has it needs no word", "What the page understood" not in send(page, "people", "exact", exact))
 
 
+def try_formulas(stand, page):
+    """A formula whose result is not in the file, as scripts write it, is a fault, and no empty field."""
+    before = people(stand)
+    for form, make in (("Excel", workbooks.xlsx), ("LibreOffice", workbooks.ods)):
+        shown = send(page, "people", "formulas", make([["id", "name", "room"], ["F1", "Form Ula", "=A1"], ["F2", "Li Wei", None]]))
+        check(f"a formula without a result in a workbook of {form} is refused by its place", people(stand) == before
+              and "The formula in the cell C2 has no result in this file." in shown and 'name="held"' not in shown, shown)
+
+
+def try_label(page):
+    """A label that is not well written is not the one under which the page asks for the list again."""
+    shown = send(page, "rooms", "Rooms 2027", b"room\nA-999\n")
+    check("a label that is not well written is refused, and another one named", "The label is not well written." in shown
+          and "Send the list again under the label rooms-1." in shown, shown)
+
+
+def try_person(stand, page):
+    """A list on a person's page that the program does not understand: the page says why, and has what was entered."""
+    before = stand.recorded()
+    for codes, why in (([*ROOMS, "B-101"], "This list has 41 rooms. A list has up to 40."),
+                       (["A-101", "A-102", "A-101"], "A-101 stands twice on this list.")):
+        page.form("/office/person/B1/choose", {"text": " ".join(codes)}, page="/office/person/B1")
+        shown = flat(page.get("/office/person/B1")[2])
+        check(f"the page says: {why}", why in shown and f"You had entered: {' '.join(codes)}." in shown, shown)
+    check("and the list on record stays", stand.recorded() == before, stand.recorded())
+
+
 def try_choices(stand, page):
     """Choices in one column for each, or with commas between them."""
     page.form("/office/step/open", page="/office/step/open")
@@ -170,9 +197,12 @@ def try_office_formats(program):
         try_samples(stand, page)
         try_forms(stand, page)
         try_numbers(stand, page)
+        try_formulas(stand, page)
+        try_label(page)
         try_refusals(page)
         try_hostile(stand, page)
         try_choices(stand, page)
+        try_person(stand, page)
         check("the page's log is empty", not stand.log("page").strip(), stand.log("page"))
 
 

@@ -21,10 +21,12 @@ def boxes(text):
 
 
 def filled_in(page, path, sure=True, but=""):
-    """A form with the boxes that are ticked by themselves, but for one person, and the one that says that the clerk has
-    looked."""
-    ticked = [(name, value) for (name, value), on in boxes(page.get(path)[2]).items() if on and value != but]
-    return [*page.hidden(path, path.partition("?")[0]).items(), *ticked, *([("sure", "yes")] if sure else [])]
+    """A form with the boxes that are ticked by themselves, but for one person, the one that says that the clerk has looked, and
+    yes to the lists, if the form asks for it."""
+    shown = page.get(path)[2]
+    ticked = [(name, value) for (name, value), on in boxes(shown).items() if on and value != but]
+    said = [("lists", "yes")] if '<input type="radio" name="lists" value="yes" required>' in shown else []
+    return [*page.hidden(path, path.partition("?")[0]).items(), *ticked, *said, *([("sure", "yes")] if sure else [])]
 
 
 def send_as_it_is(page, path, sure=True, but=""):

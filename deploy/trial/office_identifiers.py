@@ -237,7 +237,7 @@ def try_given_up(stand, page):
     check("the page names who may be another person", all(f"{one}: the identifier may be another person's by now" in shown
                                                           for one in ("P07", "P08", "P09")), shown)
     offered = boxes(page.get(link)[2])
-    check("and offers only what is of the same people", offered == {("lists", "yes"): True, ("sure", "yes"): False}, offered)
+    check("and offers only what is of the same people", offered == {("list", "P10"): True, ("sure", "yes"): False}, offered)
     shown = seen_at(page, "/office/")
     check("nor does the overview ask for it", "Lists that are not back (P10)" in shown, shown)
     check("and there is nothing to undo", page.get("/office/undo/P08")[0] == 303)

@@ -211,7 +211,7 @@ def given_up(reader):
     reader.crawl()
     for place in [path for path in set(LINK.findall(reader.get("/office/"))) if "/given-up/" in path]:
         reader.form(place, {"lists": "yes"})
-        reader.form(place, {"lists": "yes", "sure": "yes", "going": PEOPLE[4], "withdrawn": PEOPLE[3]})
+        reader.form(place, {"lists": "yes", "list": next(iter(LISTS)), "sure": "yes", "going": PEOPLE[4], "withdrawn": PEOPLE[3]})
     reader.crawl()
     reader.form("/office/step/cancel")
     copies = [path for path in LINK.findall(reader.get("/office/copies")) if path.endswith("/back")]

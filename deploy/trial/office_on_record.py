@@ -2,6 +2,7 @@
 /usr/bin/python3 deploy/trial/office_on_record.py PROGRAM.
 """
 
+import re
 import sys
 from pathlib import Path
 
@@ -10,11 +11,11 @@ sys.dont_write_bytecode = True
 
 # pylint: disable=wrong-import-position  # nothing may be written before
 from mail_server import MailServer
-from office_forms import seen_at
+from office_forms import boxes, seen_at
 from office_mail import mail_of, settle_mail
 from office_again import flat as lines
-from office_requests import Page
-from stand import Stand, check
+from office_requests import Page, hand_in
+from stand import Stand, check, key_of
 
 PEOPLE = ["T01", "T02", "T03"]
 
@@ -39,7 +40,27 @@ def try_open(stand, page):
     shown = lines(page.form("/office/lists", {"kind": "choices", "label": "paper"},
                             files={"list": b"person,choices\nT01,A-3\nT02,A-3\n"})[2])
     check("a list of choices replaces what is on record", "1 of these people has another list on record already." in shown
-          and "replaces what is on record of: T01" in shown and "handed in" not in shown, shown)
+          and "replaces what is on record of: T01" in shown and "T01 handed in" not in shown, shown)
+    try_empty(stand, page)
+
+
+def try_empty(stand, page):
+    """A resident has handed in an empty list, which the office's file does not tell from none: the page says so of a list of
+    choices, and the clerk can leave this person out."""
+    check("a resident hands in an empty list", hand_in(stand, key_of("T02"), []) == 200)
+    for first, button in (("A-3", "only the people who have no other list on record"), ("A-2", "the list as paper-2")):
+        body = f"person,choices\nT01,{first}\nT02,A-3\n".encode()
+        shown = page.form("/office/lists", {"kind": "choices", "label": "paper-2"}, files={"list": body})[2]
+        check("no page calls this person one without a list", "1 of these people has no list on record, or an empty one."
+              in lines(shown) and "Nobody can tell an empty list that somebody handed in from none." in lines(shown)
+              and f"Bring in {button}</button>" in shown and ("out", "T02") in boxes(shown), shown)
+    held = re.findall(r'name="held" value="(\w+)"', shown)[-1]
+    page.form("/office/lists/bring", {"held": held, "out": "T02"})
+    shown = seen_at(page, "/office/lists")
+    check("whom the clerk leaves out keeps the empty list, and the page names them", stand.recorded() == {"T01": ["A-2"]}
+          and "You have left out T02" in shown and "with 1 line." in shown, (stand.recorded(), shown))
+    page.form("/office/lists/bring", {"held": held, "out": "T02"})
+    check("it is in, and reads so", "The list paper-2 is in." in seen_at(page, "/office/lists"))
 
 
 def try_results(stand, page):

@@ -89,6 +89,20 @@ def try_answer_lost(stand, page):
     check("and loaded again the page says so, too", "The list people-lost is in." in loaded_again(page, held)[0])
 
 
+def try_blanked(stand, page):
+    """A list came in, and somebody blanked it before the page had read the answer: if it was this one, its slips work."""
+    for ident, is_own in (("B02", True), ("B03", False)):
+        label = f"people-{ident.lower()}"
+        shown = send(page, label, people(ident))
+        slips, held = slips_in(shown), held_in(shown)
+        text = f"person,name,key,home\n{ident},Person {ident},{slips[ident][1] if is_own else 'another0key0of0them'},\n"
+        came = stand.ask(ask="import", kind="people", label=label, body=base64.b64encode(text.encode()).decode())["done"]
+        check("the list comes in, and is blanked", came and "fault" not in stand.ask(ask="blank", label=label))
+        shown = flat(page.form("/office/lists/bring", {"held": held})[2] + page.get("/office/lists")[2])
+        says = (f"The list {label} is in." in shown, f"those that were made on {slips[ident][0]}." in shown, "do not work" in shown)
+        check("the clerk reads whether the slips work", says == ((True, True, False) if is_own else (False, False, True)), shown)
+
+
 def try_overtaken(stand, anna, bert):
     """Another clerk brings in one of two people, and then the other one, too."""
     shown = send(anna, "people-two", people("C01", "C02"))
@@ -169,6 +183,7 @@ def try_office_tried(program):
         anna, bert = Page(stand), Page(stand, "bert")
         try_in(stand, anna)
         try_answer_lost(stand, anna)
+        try_blanked(stand, anna)
         try_overtaken(stand, anna, bert)
         try_part_comes(stand, anna, bert)
         try_label(anna, bert)

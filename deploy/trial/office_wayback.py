@@ -176,7 +176,7 @@ def bring_back(stand, page, path):
     check("a form from before brings nothing back", ("withdrawn", "P10") in old and away(stand) == (set(), set()), old)
     check("and the page says why", "was changed after you looked" in seen_at(page, "/office/"))
     expected = {("going", "P01"): False, ("going", "P02"): True, ("withdrawn", "P03"): True, ("withdrawn", "P10"): False,
-                ("lists", "yes"): True, ("sure", "yes"): False}
+                **{("list", person): True for person in ("P01", "P04", "P09")}, ("sure", "yes"): False}
     shown = page.get(link)[2]
     check("all are ticked but P01 and who has handed in a list since", boxes(shown) == expected, boxes(shown))
     send_as_it_is(page, link, sure=False)
@@ -216,7 +216,8 @@ def try_changed(stand, page):
     for text in ("P02: the note; the person has no room any more", "P11: the list; the person is not in the register",
                  "P01: of the list A-110, out of use", "What round 1 had, which was given up, too"):
         check(f"the page says: {text}", text in shown, shown)
-    offered = {("withdrawn", "P03"): True, ("withdrawn", "P12"): True, ("lists", "yes"): True, ("sure", "yes"): False}
+    offered = {("withdrawn", "P03"): True, ("withdrawn", "P12"): True,
+               **{("list", person): True for person in ("P04", "P09", "P10")}, ("sure", "yes"): False}
     check("and offers the rest", boxes(page.get(link)[2]) == offered, boxes(page.get(link)[2]))
     with_labels(stand, "INSERT INTO list VALUES (?, 'rooms', CAST('room' AS BLOB), 0)")
     onward = send_as_it_is(page, link, but="P12")
@@ -287,6 +288,31 @@ def try_list_beside(stand, page):
     stand.office("cancel")
 
 
+def try_empty(stand, page):
+    """Somebody hands in an empty list in the new round, which the office's file does not tell from none. The page says so, and the
+    clerk leaves out whom they know of."""
+    for line in ("open", "choose P04 A-103", "choose P09 A-109", "choose P10 A-111", "cancel", "open"):
+        stand.office(line)
+    check("a resident hands in an empty list", hand_in(stand, key_of("P04"), []) == 200)
+    link = re.findall(r'href="(/office/given-up/[^"]+)"', page.get("/office/")[2])[0]
+    shown = seen_at(page, link)
+    check("the page says that nobody can tell it from none", "Nobody can tell an empty list from none" in shown
+          and "who have none on record in this round, or an empty one" in shown, shown)
+    undecided = [(name, value) for name, value in filled_in(page, link) if name != "lists"]
+    page.post(link, undecided)
+    check("no list comes back by itself", not stand.recorded() and ("list", "P04") in undecided, stand.recorded())
+    with_labels(stand, "INSERT INTO list VALUES (?, 'rooms', CAST('room' AS BLOB), 0)")
+    onward = send_as_it_is(page, link, but="P04")
+    with_labels(stand, "DELETE FROM list WHERE label = ?")
+    check("whose list is taken out stays out if something stops it", not stand.recorded()
+          and boxes(page.get(onward)[2])[("list", "P04")] is False, page.get(onward)[2])
+    shown = seen_at(page, send_as_it_is(page, onward))
+    check("the empty list stays, and the others come back", stand.recorded() == {"P09": ["A-109"], "P10": ["A-111"]}
+          and "lists: 2 of 2" in shown and "P04 Person P04: A-103" in shown, (stand.recorded(), shown))
+    check("the overview still names it", "lists that are not back (P04)" in seen_at(page, "/office/").replace("Lists", "lists"))
+    stand.office("cancel")
+
+
 def try_given_up_twice(stand, page):
     """A round is given up, and the next one too, before anything came back."""
     for line in ("open", "choose P04 A-103", "withdraw P12", "cancel", "open", "cancel", "open"):
@@ -316,6 +342,7 @@ def try_office_wayback(program):
         try_left(stand, page)
         try_second_round(stand, page)
         try_list_beside(stand, page)
+        try_empty(stand, page)
         try_given_up_twice(stand, page)
         check("the page has noted no fault of its own", "rooms-page:" not in stand.log("page"), stand.log("page"))
 

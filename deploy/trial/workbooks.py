@@ -41,9 +41,11 @@ def xlsx(rows, formats=None):
 
 
 def cell_of(value):
-    """A cell of LibreOffice: a number, nothing, or a text."""
+    """A cell of LibreOffice: a number, nothing, a formula without a result as scripts write it, or a text."""
     if value is None:
         return "<table:table-cell/>"
+    if str(value).startswith("="):
+        return f'<table:table-cell table:formula="of:{value}"/>'
     if isinstance(value, int):
         return f'<table:table-cell office:value-type="float" office:value="{value}"><text:p>{value:,}</text:p></table:table-cell>'
     return f'<table:table-cell office:value-type="string"><text:p>{value}</text:p></table:table-cell>'

@@ -39,9 +39,10 @@ class Had(NamedTuple):
 class Back(NamedTuple):
     """What can come back, what is here already, and what cannot come back, with the reason of each.
 
-    `lists` has also the lists of those who may withdraw or leave again: they come back before that, as it was. `old` has all
-    lists of that round, without rooms that nobody may list now. `longer` has those of which only a part is on record, since a
-    room was out of use when they came back, and is in use again.
+    `lists` has also the lists of those who may withdraw or leave again: they come back before that, as it was. Their people
+    have no list on record now, or an empty one: the office's file has the same rows of both. `old` has all lists of that
+    round, without rooms that nobody may list now. `longer` has those of which only a part is on record, since a room was
+    out of use when they came back, and is in use again.
     """
 
     going: list[str]
@@ -158,7 +159,7 @@ def compare_list(ident: str, wishes: list[str], now: list[str], reopened: set[st
 
 
 def has_come_again(office: Office, ident: str) -> bool:
-    """Whether somebody who took no part has a list now: they seem to want to take part."""
+    """Whether somebody who took no part has a list now, and no empty one: they seem to want to take part."""
     return bool(office.choices.get(ident))
 
 

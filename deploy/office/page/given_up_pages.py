@@ -28,9 +28,10 @@ class Row(NamedTuple):
 
 
 class TakenOut(NamedTuple):
-    """Whom the clerk has taken out of the form. They stay out when the form is shown again."""
+    """Whom the clerk has taken out of the form, and whose lists. They stay out when the form is shown again."""
 
     idents: list[str]
+    lists: list[str]
 
 
 def round_of(office: Office, copy: str) -> GivenUp:
@@ -42,16 +43,16 @@ def round_of(office: Office, copy: str) -> GivenUp:
     return found
 
 
-def out_of(idents: list[str]) -> list[str]:
+def out_of(back: Back) -> TakenOut:
     """Who is not ticked: the one person who is being undone, or everybody whom the clerk has taken out before."""
     query = dict(request.query)
     if "out" not in query:
-        return [query["but"]] if "but" in query else []
+        return TakenOut([query["but"]] if "but" in query else [], [])
     held = memory.held(clerk(), query["out"])
     if isinstance(held, TakenOut):
-        return held.idents
+        return held
     tell("bad", _("The page no longer knows whom you had taken out. Tick again who is to come back."))
-    return idents
+    return TakenOut(back.away, list(back.lists))
 
 
 def rows_of(office: Office, back: Back, idents: list[str], out: list[str]) -> list[Row]:
@@ -72,10 +73,10 @@ def given_up(copy: str) -> str:
     """What of a round can come back, for the clerk to choose from."""
     office = office_now()
     found, back = round_of(office, copy), what_is_left(office, had_in(copy))
-    out = out_of(back.away)
-    parts = {"going": rows_of(office, back, back.going, out), "withdrawn": rows_of(office, back, back.withdrawn, out)}
+    out = out_of(back)
+    parts = {"going": rows_of(office, back, back.going, out.idents), "withdrawn": rows_of(office, back, back.withdrawn, out.idents)}
     away = [row.ident for rows in parts.values() for row in rows if row.is_ticked]
-    return show("given_up", office=office, given_up=found, back=back, parts=parts, lists=back.lists,
+    return show("given_up", office=office, given_up=found, back=back, parts=parts, lists=back.lists, out=out.lists,
                 rest=away or back.lists_but(away) or back.longer, saw=office.saw("all", *back.away, *back.longer).mark,
                 others=[one for one in rounds(office) if one.copy != copy])
 
@@ -86,7 +87,9 @@ def bring_back(copy: str) -> None:
     office = office_now()
     round_of(office, copy)
     back, going, withdrawn = what_is_left(office, had_in(copy)), ticked("going"), ticked("withdrawn")
-    out = TakenOut([ident for ident in back.away if ident not in going + withdrawn])
+    lists = ticked("list") if field("lists") == "yes" else []
+    out = TakenOut([ident for ident in back.away if ident not in going + withdrawn],
+                   [ident for ident in back.lists if field("lists") == "yes" and ident not in lists])
     place = f"/office/given-up/{copy}?out={memory.hold(clerk(), out)}"
     must_be_sure(place)
     if office.phase != "open" or field("seen") != office.state:
@@ -96,9 +99,10 @@ def bring_back(copy: str) -> None:
         tell("bad", _("Nothing was changed. What is on record of one of these people was changed after you looked. Look again."))
         go_to(place)
     came, before = Came(), office
-    if field("lists"):  # before the withdrawals, as it was: nobody's list is lost by a way back later on
+    if lists:  # before the withdrawals, as it was: nobody's list is lost by a way back later on
         office = office_now()
-        came.take_lists(office, "lists", {ident: wishes for ident, wishes in back.lists.items() if not office.choices.get(ident)})
+        came.take_lists(office, "lists", {ident: wishes for ident, wishes in back.lists.items()
+                                          if ident in lists and not office.choices.get(ident)})
     if field("longer"):
         came.take_lists(before, "longer", back.longer)
     office = office_now()

@@ -8,7 +8,7 @@ import re
 from collections.abc import Callable, Iterator
 
 from languages import N_, _
-from lines import CODE, IDENTIFIER
+from lines import CODE, IDENTIFIER, MOST_CHOICES
 
 import plain
 from csv_list import CsvList
@@ -28,7 +28,7 @@ def is_name(text: str) -> bool:
 def is_list(text: str) -> bool:
     """Whether these are room codes, each once, with one space between two."""
     codes = text.split(" ") if text else []
-    return len(codes) <= 40 and len(set(codes)) == len(codes) and all(map(CODE.fullmatch, codes))
+    return len(codes) <= MOST_CHOICES and len(set(codes)) == len(codes) and all(map(CODE.fullmatch, codes))
 
 
 # How each field of a record has to be written, by kind.

@@ -16,7 +16,8 @@ import list_slips
 import mail_lists
 import plain
 import understanding
-from app import app, ask, change, clerk, field, go_to, list_sent, memory, office_now, show, tell, text_of, why_not_read
+from app import (app, ask, attempt, change, clerk, field, go_to, list_sent, memory, office_now, show, tell, text_of, ticked,
+                 why_not_read)
 from columns import kind_name
 from csv_list import CsvList
 from keeper_client import Answer, WasAnothers, answers_of
@@ -31,6 +32,7 @@ from slips import Key
 from understanding import NotUnderstood, Understood
 
 NOBODY = Beside(set(), [], [])
+KEYS_ASKED = 20
 
 
 NO_LONGER = N_("The page no longer holds this list. Nothing was imported now. If the list is not in yet, send it again, and "
@@ -63,6 +65,14 @@ class Job(NamedTuple):
         """Who is on the list."""
         return [record.fields[0] for record in CsvList(self.body).records[1:]]
 
+    def mail_of_new(self) -> Addresses:
+        """The mail addresses and languages of the people who come in with the list."""
+        return self.mailed.of(set(self.people()))
+
+    def mail_of_known(self) -> Addresses:
+        """Those of people who are in the register already, and whose address or language would be another one."""
+        return mail_lists.what_changes(self.mailed.of(self.mailed.people() - set(self.people())))
+
     def names(self) -> dict[str, str]:
         """The names of the people on the list."""
         return {record.fields[0]: record.fields[1] for record in CsvList(self.body).records[1:]}
@@ -81,9 +91,18 @@ class Brought(NamedTuple):
 
 
 class Departed(NamedTuple):
-    """People of the register who are not on a list that has come in."""
+    """People of the register who are not on a list that has come in, and the name under which the page holds mail addresses of it
+    that are not in yet."""
 
     idents: tuple[str, ...]
+    mailed: str
+
+
+def without(job: Job, idents: list[str]) -> Job:
+    """A list without these people, or as it is if none of them is on it."""
+    table, people = CsvList(job.body), set(idents)
+    out = {number for number, record in enumerate(table.records) if number and record.fields[0] in people}
+    return job._replace(body=table.body(without=out)) if out else job
 
 
 def try_list(job: Job) -> Answer:
@@ -149,15 +168,14 @@ def looked_at(office: Office, job: Job, table: CsvList, beside: Beside, read: Un
     if office.has_label(job.label) and try_list(job).status == 0:
         return known_list(office, job)
     if beside.known and len(beside.known) == len(table.records) - 1:
-        held = memory.hold(clerk(), job.mailed) if job.mailed.pairs else ""
+        held = memory.hold(clerk(), job.mailed) if job.mailed.people() else ""
         return show("already", office=office, kind=job.kind, beside=beside, read=read, mailed=held,
                     count=job.known + len(beside.known), **departed_form(office, tuple(beside.departed)))
     made = list(keys)
     if read and job.kind == "people" and field("keys"):
         made = table.fill_keys(beside.known)
     if made or beside.known:
-        new = {record.fields[0] for number, record in enumerate(table.records) if number not in beside.known}
-        job = job._replace(body=table.body(without=beside.known), departed=tuple(beside.departed), mailed=job.mailed.of(new),
+        job = job._replace(body=table.body(without=beside.known), departed=tuple(beside.departed),
                            known=job.known + len(beside.known))
     answer = try_list(job)
     if answer.status == 0 and not any(list_checks.overwritten(job.kind, table)):
@@ -180,26 +198,21 @@ def fitting_list(office: Office, job: Job, made: list[Key], beside: Beside, read
         slips = job.made or list_slips.made_for(ident for ident, *_rest in made)
         job = job._replace(made=slips, tried=Tried(made, beside, read))
         go_to(f"/office/lists/tried/{hold(office, job, job.people())}")
-    table = CsvList(job.body)
-    replaced: dict[str, int] = {}
-    if job.kind == "choices":
-        for number, record in enumerate(table.records):
-            if number and office.choices.get(record.fields[0], record.fields[1].split()) != record.fields[1].split():
-                replaced[record.fields[0]] = number
-    rest = job._replace(body=table.body(without={number for number, record in enumerate(table.records)
-                                                 if number and record.fields[0] in replaced}))
+    wishes_of = dict(record.fields for record in CsvList(job.body).records[1:]) if job.kind == "choices" else {}
+    replaced = [ident for ident, wishes in wishes_of.items() if office.choices.get(ident, wishes.split()) != wishes.split()]
     people = job.people()
     others = [person for person in people if person not in replaced]
-    return show("fits", office=office, job=job, count=len(people), made=[], replaced=list(replaced), beside=beside,
-                kind_name=kind_name, read=read, tries=[],
-                held=hold(office, job, people), held_rest=hold(office, rest, others) if replaced else "")
+    return show("fits", office=office, job=job, count=len(people), made=[], replaced=replaced, beside=beside,
+                bare={ident: wishes for ident, wishes in wishes_of.items() if wishes and not office.choices.get(ident)},
+                kind_name=kind_name, read=read, tries=[], held=hold(office, job, people),
+                held_rest=hold(office, without(job, replaced), others) if replaced else "")
 
 
 @app.get("/office/lists/tried/<name>")
 def tried_list(name: str) -> str:
     """The page of a try with new keys, as long as the page holds the list, without slips that cannot work any more."""
     office = office_now()
-    job = held_list(office, name)
+    job = held_list(office, name, [])
     if job.tried is None:
         go_to("/office/lists")
     if office.has_label(job.label):
@@ -211,8 +224,9 @@ def tried_list(name: str) -> str:
     if is_stale(office, job):
         return look_again(office, job, tuple(key for key in job.tried.keys if key[0] not in office.people))
     people = job.people()
-    return show("fits", office=office, job=job, count=len(people), made=job.tried.keys, replaced=[], beside=job.tried.beside,
-                kind_name=kind_name, read=job.tried.read, tries=list_slips.others(people, job.made), held=name, held_rest="")
+    return show("fits", office=office, job=job, count=len(people), made=job.tried.keys, replaced=[], bare={},
+                beside=job.tried.beside, kind_name=kind_name, read=job.tried.read, tries=list_slips.others(people, job.made),
+                held=name, held_rest="")
 
 
 def hold(office: Office, job: Job, people: list[str]) -> str:
@@ -221,13 +235,15 @@ def hold(office: Office, job: Job, people: list[str]) -> str:
     return memory.hold(clerk(), job._replace(saw=office.saw(part, *people) if part else None))
 
 
-def held_list(office: Office, name: str) -> Job:
-    """A list that waits for the clerk's yes. One that is in, or that the page does not hold, leads to the lists."""
+def held_list(office: Office, name: str, out: list[str]) -> Job:
+    """A list that waits for the clerk's yes, without whom the clerk leaves out. One that is in, or that the page does not hold,
+    leads to the lists."""
     job: Any = memory.held(clerk(), name)
     if isinstance(job, Job):
-        if not is_in(office, job):
-            return job
-        come_in(name, job)
+        part = without(job, out)
+        if not is_in(office, part):
+            return part
+        come_in(name, part)
     if isinstance(job, Brought):
         for text in list_slips.once_in(job.label, job.slips):
             tell("good", text)
@@ -238,10 +254,16 @@ def held_list(office: Office, name: str) -> Job:
 
 @app.post("/office/lists/bring")
 def bring_list() -> str:
-    """Imports a list that was tried. If what it replaces has changed since, or nobody has said of people under former identifiers
-    that they are the same ones, the clerk looks again."""
+    """Imports a list that was tried, without whom the clerk leaves out. If what it replaces has changed since, or nobody has said
+    of people under former identifiers that they are the same ones, the clerk looks again."""
     office, name = office_now(), text_of("held")
-    job = held_list(office, name)
+    out = [ident for ident in ticked("out") if ident in office.people]
+    job = held_list(office, name, out)
+    if out:
+        tell("good", _("You have left out {people}: this list changes nothing for them.", people=", ".join(out)))
+    if out and not job.people():
+        tell("bad", _("You have left out everybody. Nothing came in."))
+        go_to("/office/lists")
     if is_stale(office, job):
         return look_again(office, job)
     if office.has_label(job.label):
@@ -265,17 +287,27 @@ def come_in(name: str, job: Job, is_told: bool = False) -> NoReturn:
     memory.replace(clerk(), name, Brought(job.label, job.made))
     if not is_told:
         tell("good", list_slips.once_in(job.label, None)[0])
-    mail_lists.bring(job.mailed)
+    mail_lists.bring(job.mail_of_new())
     for kind, text in list_slips.which_work(job.people(), job.made) if job.kind == "people" else ():
         tell(kind, text)
+    known = job.mail_of_known()
+    held = memory.hold(clerk(), known) if known.people() else ""
+    if held:
+        tell("bad", _("The list has new mail addresses or languages of people who were in the register already: {people}. These "
+                      "are not in yet.", people=plain.people(len(known.people()))))
     if job.departed:
-        go_to(f"/office/departed/{memory.hold(clerk(), Departed(job.departed))}")
-    go_to("/office/lists")
+        go_to(f"/office/departed/{memory.hold(clerk(), Departed(job.departed, held))}")
+    go_to(f"/office/mail/addresses/{held}" if held else "/office/lists")
 
 
 def is_in(office: Office, job: Job) -> bool:
-    """Whether just this list came in under its label: the program answers as it did then."""
-    return office.has_label(job.label) and try_list(job).status == 0
+    """Whether just this list came in under its label: the program answers as it did then. It cannot if somebody has blanked the
+    list since: then keys of it tell, which nobody else has."""
+    kept = next((kept for kept in office.lists if kept.label == job.label), None)
+    if kept and kept.is_blank and kept.kind == job.kind == "people":
+        keys = [record.fields[2] for record in CsvList(job.body).records[1:KEYS_ASKED + 1]]
+        return any(answer.status == 0 for answer in attempt(*(f"me {key}" for key in keys)))
+    return kept is not None and try_list(job).status == 0
 
 
 def label_taken(job: Job) -> str:
@@ -320,7 +352,7 @@ def departed(name: str) -> str:
         tell("bad", _("The page no longer knows who was not on the list. Send the list again: it changes nothing."))
         go_to("/office/lists")
     office = office_now()
-    return show("departed", office=office, **departed_form(office, kept.idents))
+    return show("departed", office=office, mailed=kept.mailed, **departed_form(office, kept.idents))
 
 
 @app.get("/office/blank/<label>")

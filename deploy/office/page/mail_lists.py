@@ -39,6 +39,9 @@ class Addresses(NamedTuple):
     shared: tuple[str, ...] = ()
     languages: Pairs = ()
 
+    def people(self) -> set[str]:
+        """Who has an address or a language here."""
+        return {ident for ident, _text in (*self.pairs, *self.languages)}
 
     def of(self, people: set[str]) -> "Addresses":
         """The addresses of these people alone. Lines with a fault stay."""
@@ -126,7 +129,7 @@ def without_others(found: Addresses, office: Office, read: Understood) -> Addres
             ident, name = list_faults.fields_shown(record.fields[:2], "")
             others[record.fields[0]] = AddressFault(record.row, ident[:SHOWN], name[:SHOWN], says)
     left = found._replace(faults=(*found.faults, *others.values()))
-    return left.of({ident for ident, _text in (*found.pairs, *found.languages)} - set(others))
+    return left.of(found.people() - set(others))
 
 
 def has_another_name(office: Office, fields: list[str]) -> bool:
@@ -139,6 +142,18 @@ def now_of(found: Addresses) -> tuple[list[str], list[str]]:
     addresses, spoken = ask("mail-list")["addresses"], ask("languages")["residents"]
     return ([addresses.get(ident, "") for ident, _text in found.pairs],
             [spoken.get(ident, "") for ident, _code in found.languages])
+
+
+def what_changes(found: Addresses) -> Addresses:
+    """The addresses and languages that are not those of now; all of them if nobody can say what they are now."""
+    if not found.people():
+        return found
+    try:
+        addresses, spoken = now_of(found)
+    except KeeperFault:
+        return found
+    pairs = [*zip(found.pairs, addresses), *zip(found.languages, spoken)]
+    return found.of({ident for (ident, text), was in pairs if text != was})
 
 
 def bring(found: Addresses, was: tuple[list[str] | None, list[str] | None] = (None, None)) -> bool:

@@ -3,6 +3,7 @@
 from typing import Any, NamedTuple
 
 from languages import _
+from lines import LABEL
 from register import going_in
 from seen import Saw, saw, stamp, state_of
 
@@ -145,6 +146,10 @@ class Office:  # pylint: disable=too-many-instance-attributes  # each is a part 
         while self.has_label(f"{stem}-{number}"):
             number += 1
         return f"{stem}-{number}"
+
+    def label_for(self, kind: str, label: str) -> str:
+        """The label under which a list can be sent again: this one, or another one if it is taken or not well written."""
+        return self.new_label(kind) if self.has_label(label) or not LABEL.fullmatch(label) else label
 
     def choice_number(self, ident: str) -> int | None:
         """Which room of the own list this person gets, from 1; nothing if they keep their room or get none."""

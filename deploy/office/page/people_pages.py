@@ -6,7 +6,7 @@ import unicodedata
 
 from journal import masked
 from languages import _
-from lines import IDENTIFIER
+from lines import IDENTIFIER, MOST_CHOICES
 from mail_words import LONGEST_ADDRESS
 from plan_of_moves import NONE
 
@@ -72,11 +72,22 @@ def person_page(ident: str) -> str:
                 language=own_of(ident), longest_address=LONGEST_ADDRESS)
 
 
+def why_no_list(codes: list[str]) -> str:
+    """Why the program would not understand these rooms as a list, as far as their number goes, or nothing."""
+    if len(codes) > MOST_CHOICES:
+        return _("This list has {count} rooms. A list has up to {most}.", count=len(codes), most=MOST_CHOICES)
+    twice = next((code for code in codes if codes.count(code) > 1), "")
+    return _("{room} stands twice on this list.", room=masked(twice)) if twice else ""
+
+
 @app.post("/office/person/<ident>/whatif")
 def what_if(ident: str) -> None:
     """Asks which room another list would have given."""
     place = person_of(office_now(), ident)
     wishes = text_of("text").upper()
+    if why := why_no_list(wishes.split()):
+        tell("bad", why)
+        go_to(place)
     answer = attempt(f"whatif {ident} {wishes}".strip())[0]
     if answer.status:
         tell("bad", str(plain.meaning(answer.text)))
@@ -98,10 +109,10 @@ def move_in(ident: str) -> None:
 def choose(ident: str) -> None:
     """Puts a person's list on record. If that is not done, the clerk reads both lists: the page shows the other one."""
     wishes = " ".join(re.split(r"[\s,;]+", field("text").strip(" ,;").upper()))  # as they stand on paper
-    codes = wishes.split()
-    if twice := next((code for code in codes if codes.count(code) > 1), ""):
-        tell("bad", _("Nothing was changed. {room} stands twice on this list.", room=masked(twice)))
-    elif not change("do", lines=[f"choose {ident} {wishes}".strip()], saw=saw("list", ident)):
+    why = why_no_list(wishes.split())
+    if why:
+        tell("bad", _("Nothing was changed. {why}", why=why))
+    if why or not change("do", lines=[f"choose {ident} {wishes}".strip()], saw=saw("list", ident)):
         tell("bad", _("You had entered: {wishes}.", wishes=masked(wishes)) if wishes else _("You had entered: an empty list."))
     go_to(person_of(office_now(), ident))
 

@@ -73,20 +73,40 @@ def bounded(found: Iterator[tuple[int, int, list[str]]]) -> Rows:
     return rows
 
 
+def without_result(row: int, column: int) -> Unreadable:
+    """The fault of a cell whose formula has no result in the file, as scripts write it: the page would read it as empty."""
+    letters = ""
+    while column:
+        column, rest = divmod(column - 1, 26)
+        letters = chr(ord("A") + rest) + letters
+    return Unreadable(_("The formula in the cell {cell} has no result in this file.", cell=f"{letters}{row}"),
+                      N_("Open the workbook in your spreadsheet program, save it there, and send it again."))
+
+
 # --- Excel
 
 def rows_of_xlsx(data: bytes) -> Iterator[tuple[int, int, list[str]]]:
     """The rows of the first sheet that is shown. A formula is what it last came to."""
+    results, written = (first_sheet(data, is_result).iter_rows(max_col=MOST_COLUMNS) for is_result in (True, False))
+    for number, (cells, formulas) in enumerate(zip(results, written), 1):
+        if number > LAST_ROW:
+            raise DAMAGED
+        for column, (cell, formula) in enumerate(zip(cells, formulas), 1):
+            # An empty text as a result has another type.
+            if formula.data_type == "f" and cell.value is None and cell.data_type == "n":
+                raise without_result(number, column)
+        yield number, 1, [text_of_cell(cell) for cell in cells]
+
+
+def first_sheet(data: bytes, is_result: bool) -> Any:
+    """The first sheet that is shown, with what its formulas last came to, or with the formulas."""
     import openpyxl  # pylint: disable=import-outside-toplevel  # it takes a while, and memory
-    book = openpyxl.load_workbook(io.BytesIO(data), read_only=True, data_only=True, keep_links=False)
-    sheet: Any = next((one for one in book.worksheets if one.sheet_state == "visible"), None)
+    book = openpyxl.load_workbook(io.BytesIO(data), read_only=True, data_only=is_result, keep_links=False)
+    sheet = next((one for one in book.worksheets if one.sheet_state == "visible"), None)
     if sheet is None:
         raise DAMAGED
     sheet.reset_dimensions()
-    for number, cells in enumerate(sheet.iter_rows(max_col=MOST_COLUMNS), 1):
-        if number > LAST_ROW:
-            raise DAMAGED
-        yield number, 1, [text_of_cell(cell) for cell in cells]
+    return sheet
 
 
 def text_of_cell(cell: Any) -> str:
@@ -115,12 +135,12 @@ def rows_of_ods(data: bytes) -> Iterator[tuple[int, int, list[str]]]:
                 return
             if element.tag == f"{TABLE}table-row":
                 times = int(element.get(f"{TABLE}number-rows-repeated", 1))
-                yield number, times, fields_of(element)
+                yield number, times, fields_of(element, number)
                 number += times
                 element.clear()
 
 
-def fields_of(row: Element) -> list[str]:
+def fields_of(row: Element, number: int) -> list[str]:
     """The cells of a row as texts."""
     fields: list[str] = []
     empty = 0
@@ -129,6 +149,8 @@ def fields_of(row: Element) -> list[str]:
             continue
         times, text = int(cell.get(f"{TABLE}number-columns-repeated", 1)), text_of_ods(cell)
         if not text:
+            if cell.get(f"{TABLE}formula") and not cell.get(f"{OFFICE}value-type"):
+                raise without_result(number, len(fields) + empty + 1)
             empty += times
             continue
         if len(fields) + empty + times > MOST_COLUMNS:
@@ -146,7 +168,7 @@ def text_of_ods(cell: Element) -> str:
         return cell.get(f"{OFFICE}date-value", shown)
     if kind == "float" and not shown.isdigit():
         return re.sub(r"\.0+$", "", cell.get(f"{OFFICE}value", shown))
-    return shown
+    return shown or cell.get(f"{OFFICE}string-value", "")
 
 
 def text_of_paragraph(part: Element) -> str:
