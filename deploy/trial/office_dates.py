@@ -257,6 +257,15 @@ def try_faults(stand, page, resident):
     check("if residents cannot read it, the page says why", "But residents do not read it" in text, text[:3000])
     folder.with_name("gone").rename(folder)
     until(lambda: (resident.told().get("until") or {}).get("local") == "2027-05-30T12:00", 60, "they read it once that is mended")
+    part = folder / ".part"
+    part.mkdir()
+    page.form("/office/until/drop", page="/office/")
+    text = flat(page.get("/office/")[2])
+    check("if a date that is taken away stays with them, the page says that", bool(resident.told().get("until"))
+          and "But residents may still read the date that you have taken away: " in text and "do not read it" not in text,
+          text[:3000])
+    part.rmdir()
+    until(lambda: not resident.told().get("until"), 60, "they read none once that is mended")
     check("the journal is whole", all(json.loads(line) for line in (stand.data / "journal").read_text("utf-8").splitlines()))
 
 
