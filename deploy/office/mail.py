@@ -22,7 +22,6 @@ import sqlite3
 import threading
 from collections.abc import Callable
 
-import mail_book
 from job import Job, is_other
 from languages import _, languages, ngettext, speaking
 from mail_book import ENDED, PAUSED, RUNNING, Book, Run
@@ -184,8 +183,7 @@ class Post:  # pylint: disable=too-many-instance-attributes  # the parts of the 
         if person not in people_in(rows):
             raise Fault(_("nobody has this identifier"))
         if kind == RECEIPT:
-            since = self.receipts.book.entry(person).at or now()
-            shown = receipt_to(rows, person, since, link, (language, text))
+            shown = receipt_to(rows, person, self.receipts.book.entry(person), link, (language, text))
         else:
             with speaking(language):
                 shown = filled(text, values_of(kind, rows, person, link, self.sender.moves(rows)))
