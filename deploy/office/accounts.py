@@ -16,7 +16,7 @@ from typing import Any, NamedTuple
 
 from copies import Copies
 from journal import Journal
-from languages import _
+from languages import N_, _
 from lines import IDENTIFIER, LONGEST_LIST
 from placing import replace_file
 from register import people_in
@@ -137,7 +137,7 @@ class Accounts:
         try:
             replace_file(self.file, f"{json.dumps(kept._asdict(), ensure_ascii=False)}\n".encode())
         except OSError as fault:
-            raise unwritten("the list of accounts", fault) from fault
+            raise unwritten(N_("the list of accounts"), fault) from fault
 
     def put(self, rule: str, people: dict[str, str]) -> None:
         """Sets the rule, with the accounts of people for the rule `list`."""

@@ -50,8 +50,8 @@ class Why(NamedTuple):
 
 
 class Until(NamedTuple):
-    """A date: the moment, how the office's clocks show it, of which zone they are, the round, whether the keeper closes the
-    round then, and who has set it."""
+    """A date: the moment, how the office's clocks showed it when it was set, of which zone they were, the round, whether the
+    keeper closes the round then, and who has set it."""
 
     at: str
     local: str
@@ -63,6 +63,10 @@ class Until(NamedTuple):
     def moment(self) -> datetime.datetime:
         """The moment."""
         return datetime.datetime.fromisoformat(self.at)
+
+    def local_in(self, zone: str) -> str:
+        """How the clocks of a zone show it, as a form has it."""
+        return self.local if zone == self.zone else f"{self.moment().astimezone(zone_of(zone)):%Y-%m-%dT%H:%M}"
 
     def is_of(self, rows: Rows) -> bool:
         """Whether its round is open in these rows."""
@@ -165,10 +169,10 @@ class Dates:
     # --- what can be asked
 
     def shown(self) -> Job:
-        """The date as clerks see it, and what a form about it needs."""
-        until = self.until
-        return {"until": until and {**until._asdict(), "past": until.is_past()}, "fault": self.fault.told(), "zone": zone_name(),
-                "mark": mark_of(until)}
+        """The date as clerks see it, and what a form about it needs: the zone of the machine, which may be another one by now."""
+        until, zone = self.until, zone_name()
+        return {"until": until and {**until._asdict(), "past": until.is_past(), "here": until.local_in(zone)},
+                "fault": self.fault.told(), "zone": zone, "mark": mark_of(until)}
 
     def set(self, job: Job) -> Job:
         """Sets the date of the open round, or takes it away if `at` is empty."""

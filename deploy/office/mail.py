@@ -183,8 +183,7 @@ class Post:  # pylint: disable=too-many-instance-attributes  # the parts of the 
         if person not in people_in(rows):
             raise Fault(_("nobody has this identifier"))
         if kind == RECEIPT:
-            since = self.receipts.book.entry(person).at or now()
-            shown = receipt_to(rows, person, since, link, (language, text))
+            shown = receipt_to(rows, person, self.receipts.book.entry(person), link, (language, text))
         else:
             with speaking(language):
                 shown = filled(text, values_of(kind, rows, person, link, self.sender.moves(rows)))

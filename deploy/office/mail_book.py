@@ -23,6 +23,7 @@ from times import now
 
 WAITING, BEGUN, SENT, REFUSED, UNCERTAIN = "waiting", "begun", "sent", "refused", "uncertain"
 SECRET = "told-secret"  # a setting: the key of the marks
+ERASED = "erased-"  # a setting for each kind: the last round whose messages were forgotten
 RUNNING, PAUSED, ENDED = "running", "paused", "ended"
 TABLES = """
 CREATE TABLE IF NOT EXISTS address(person TEXT PRIMARY KEY, email TEXT NOT NULL);
@@ -193,6 +194,12 @@ class Book:  # pylint: disable=too-many-public-methods  # one for each thing tha
             database.execute("DELETE FROM message WHERE kind = ? AND round = ? AND turn = ? AND state = ?",
                              (kind, number, turn, UNCERTAIN))
 
+    def erased(self, kind: str, number: int) -> bool:
+        """Whether messages of a kind in a round are forgotten, and there are none since. There can be some again after a way back
+        to a copy of that round."""
+        return (int(self.setting(f"{ERASED}{kind}") or 0) >= number
+                and not self.rows("SELECT 1 FROM message WHERE kind = ? AND round = ? LIMIT 1", kind, number))
+
     # --- the run
 
     def run(self) -> Run | None:
@@ -297,6 +304,9 @@ def mark_by(secret: str, text: str) -> str:
 
 
 def forget_old(database: sqlite3.Connection, number: int) -> None:
-    """Forgets the messages of rounds that are long over."""
+    """Forgets the messages of rounds that are long over, and keeps up to which round those of each kind are forgotten."""
+    database.execute("INSERT INTO setting SELECT ? || kind, max(round) FROM message WHERE round < ? GROUP BY kind "
+                     "ON CONFLICT(name) DO UPDATE SET value = max(CAST(value AS INTEGER), CAST(excluded.value AS INTEGER))",
+                     (ERASED, number - 1))
     for table in ("message", "told", "turn"):
         database.execute(f"DELETE FROM {table} WHERE round < ?", (number - 1,))

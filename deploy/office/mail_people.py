@@ -84,14 +84,24 @@ def move_of(wave: str, old: str, new: str) -> str:
             _("You move to {new}, in wave {wave}: once the people of wave {before} have moved.", new=new, wave=wave, before=before))
 
 
-def receipt_of(rows: Rows, person: str, since: datetime.datetime) -> str:
-    """What the office has of a person's list, as a sentence without its rooms."""
+def receipt_of(rows: Rows, person: str, since: datetime.datetime, withdrew: bool) -> str:
+    """What the office has of a person's list, in sentences without its rooms. Whether the last receipt told of a withdrawal: one
+    that the office has no more, since it went back to a copy, counts no more."""
     number, time = rows["number"], times.to_the_minute(since)
     if person in withdrawn_in(rows):
         return _("You have withdrawn from round {round}, since about {time}.", round=number, time=time)
-    count = len(rows["choices"].get(person, []))
+    on_record = list_of(number, len(rows["choices"].get(person, [])), time)
+    if not withdrew:
+        return on_record
+    again = _("Your withdrawal no longer counts: you take part in round {round} again.", round=number)
+    return f"{again} {on_record}"
+
+
+def list_of(number: int, count: int, time: str) -> str:
+    """How many rooms are on a list, since when, as a sentence. The program does not tell an empty list from none."""
     if not count:
-        return _("An empty list of yours has been on record in round {round} since about {time}.", round=number, time=time)
+        return _("There is no room on your list in round {round}, as of about {time}: the list is empty, or there is none.",
+                 round=number, time=time)
     return ngettext("A list of yours with {count} room has been on record in round {round} since about {time}.",
                     "A list of yours with {count} rooms has been on record in round {round} since about {time}.", count,
                     round=number, time=time)

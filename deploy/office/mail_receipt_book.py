@@ -17,7 +17,8 @@ from times import now
 
 # Settings of the file.
 ON, WHY, WHO, LINK, ROUND, MARK = (f"receipts-{name}" for name in ("on", "why", "who", "link", "round", "mark"))
-NOTHING, AWAY, FORGOTTEN = "", "away", "forgotten"  # marks: no list; who leaves the college; what counts as not told
+# Marks: no room on a list; who has withdrawn; who leaves the college; what counts as not told.
+NOTHING, WITHDRAWN, AWAY, FORGOTTEN = "", "withdrawn", "away", "forgotten"
 
 
 class Wanted(NamedTuple):
@@ -77,7 +78,7 @@ class ReceiptBook:
         """The mark of what is on record of each person who has something there."""
         secret = self.book.setting(MARK)
         found = {person: mark_by(secret, " ".join(rooms)) for person, rooms in rows["choices"].items() if rooms}
-        return {**found, **dict.fromkeys(withdrawn_in(rows), "withdrawn"), **dict.fromkeys(going_in(rows), AWAY)}
+        return {**found, **dict.fromkeys(withdrawn_in(rows), WITHDRAWN), **dict.fromkeys(going_in(rows), AWAY)}
 
     def entries(self) -> dict[str, Entry]:
         """What is written down of each person."""

@@ -14,7 +14,7 @@ from languages import speaking
 from languages_kept import Languages
 from mail_book import REFUSED, WAITING, Book
 from mail_people import receipt_of, values_of
-from mail_receipt_book import AWAY as LEAVES, NONE, NOTHING, Entry, ReceiptBook
+from mail_receipt_book import AWAY as LEAVES, NONE, NOTHING, WITHDRAWN, Entry, ReceiptBook
 from mail_run import IN_A_ROW, LAST_WORDS, STOPS, Pace, outcome_of
 from mail_send import message_of
 from mail_settings import MailSettings, read
@@ -39,11 +39,11 @@ def text_for(book: Book, languages: Languages, person: str) -> tuple[str, Text]:
     return language, texts.each[language]
 
 
-def receipt_to(rows: Rows, person: str, since: str, link: str, worded: tuple[str, Text]) -> Text:
-    """A receipt for a person."""
+def receipt_to(rows: Rows, person: str, entry: Entry, link: str, worded: tuple[str, Text]) -> Text:
+    """A receipt for a person of whom this is written down."""
     language, text = worded
     with speaking(language):
-        told = receipt_of(rows, person, datetime.datetime.fromisoformat(since))
+        told = receipt_of(rows, person, datetime.datetime.fromisoformat(entry.at or now()), entry.told == WITHDRAWN)
         return filled(text, {**values_of(RECEIPT, rows, person, link, {}), "list": told})
 
 
@@ -192,7 +192,7 @@ class Receipts:  # pylint: disable=too-many-instance-attributes  # the parts of 
         if not address or entry.now == LEAVES:
             self.book.tell_nothing(person, entry)
             return True
-        text = receipt_to(rows, person, entry.at, wanted.link, text_for(self.book.book, self.office.languages, person))
+        text = receipt_to(rows, person, entry, wanted.link, text_for(self.book.book, self.office.languages, person))
         message = message_of(settings, address, text)
         turn = self.book.begin_message(rows["number"], person, entry)
         return turn is None or self.hand_over(settings, (rows["number"], turn, person), entry, (address, message))

@@ -2,9 +2,10 @@
 
 A kind is an object of: now: whether it can be sent; turn; people: how many it is for; to: who would get it; gets: how many of these
 in each language; no_address; sent, refused, uncertain: the person, the time and why of each; texts: subject and body by language;
-own: the languages in which clerks have written one; default: the language of all others; mark: of texts and turn. That of
-receipts has also on, why and waiting. The others have, in the form of sent: changed, whose message is no longer right since
-results were published anew, and who would get it again; and others, who has it, and for whom it is not any more.
+own: the languages in which clerks have written one; default: the language of all others; mark: of texts and turn; erased: whether
+messages of this round were sent and forgotten, before a way back to it. That of receipts has also on, why and waiting. The others
+have, in the form of sent: changed, whose message is no longer right since results were published anew, and who would get it again;
+and others, who has it, and for whom it is not any more.
 """
 
 import collections
@@ -49,7 +50,7 @@ class State:
         found = {state: [[one, at, said(why)] for one, (was, at, why) in states.items() if was == state]
                  for state in (SENT, REFUSED, UNCERTAIN, CHANGED, OTHERS)}
         return {"now": now, "turn": turn, "people": len(people), "to": next_ones, "gets": self.gets(texts, next_ones),
-                "no_address": [one for one in people if one not in addresses],
+                "no_address": [one for one in people if one not in addresses], "erased": self.book.erased(kind, number),
                 **(self.of_receipts(texts, rows, addresses) if kind == RECEIPT else found),
                 "texts": texts.each, "own": sorted(texts.own), "default": texts.default,
                 "mark": hashlib.sha256(json.dumps([texts.each, texts.default, turn]).encode()).hexdigest()[:16]}
@@ -93,7 +94,8 @@ class State:
         state, why = (PAUSED, UNWRITTEN) if lost else (run.state, run.why)
         waits = [one for one, (was, *_) in self.book.states(run.kind, run.round, run.turn).items() if was == WAITING]
         return {"kind": run.kind, "round": run.round, "who": run.who, "state": state, "at": run.at, "waits": waits,
-                "why": self.stopped(why, run.kind, run.round), **self.sender.count(run)}
+                "why": self.stopped(why, run.kind, run.round), "erased": self.book.erased(run.kind, run.round),
+                **self.sender.count(run)}
 
     def stopped(self, why: str, kind: str, number: int) -> str:
         """Why messages of a kind do not go on, with whose message it was and what the mail server answered, if that is kept."""

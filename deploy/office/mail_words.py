@@ -62,19 +62,20 @@ KINDS = {
                 "new one. Your room now: {room}. Without a list you keep your room; if you have none, you get none.\n\nYour "
                 "housing office\n"))),
     "reminder": Kind(
-        N_("Reminder"), N_("reminder"), N_("everybody who takes part and has no list on record"),
-        N_("This message goes to everybody who takes part and has no list on record, and can be sent while the round is open."),
+        N_("Reminder"), N_("reminder"), N_("everybody who takes part and has no list on record, or an empty one"),
+        N_("This message goes to everybody who takes part and has no list on record, or an empty one, and can be sent while the "
+           "round is open."),
         "open", {},
-        Text(N_("Room exchange: your list is missing"),
-             N_("Dear {name},\n\nwe have no list from you for round {round} of the room exchange. You can hand one in on this page "
-                "until we close the round:\n\n{link}\n\nSign in with the key on your slip. If you have lost it, ask us for a new "
-                "one. Your room now: {room}. Without a list you keep your room; if you have none, you get none.\n\nYour housing "
-                "office\n"))),
+        Text(N_("Room exchange: there is no room on your list"),
+             N_("Dear {name},\n\nthere is no room on your list for round {round} of the room exchange: the list is empty, or there "
+                "is none. You can hand one in on this page until we close the round:\n\n{link}\n\nSign in with the key on your "
+                "slip. If you have lost it, ask us for a new one. Your room now: {room}. Without a list, or with an empty one, you "
+                "keep your room; if you have none, you get none.\n\nYour housing office\n"))),
     RECEIPT: Kind(
         N_("Receipt"), N_("receipt"), N_("everybody whose list on record has changed, some minutes after the last change"),
         N_("This message goes to everybody whose list on record has changed, while the round is open."), "open",
-        {"list": N_("a sentence: how many rooms are on the list, or that it is empty, or that the person has withdrawn; and since "
-                    "about when. It names no room.")},
+        {"list": N_("a sentence: how many rooms are on the list, or that the person has withdrawn; and since about when. After a "
+                    "way back another one before it says if a withdrawal no longer counts. They name no room.")},
         Text(N_("Room exchange: what is on record of you"),
              N_("Dear {name},\n\n{list}\n\nThis page shows what is on record, and what you can change:\n\n{link}\n\nIf this was "
                 "not you, and you have not asked us for it, tell us at once: somebody else may have your key, and you need a new "

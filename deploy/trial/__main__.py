@@ -40,6 +40,7 @@ from keeping import try_keeping
 from kills import try_kills
 from limits import try_limits
 from mail_changed import try_mail_changed
+from mail_gone import try_mail_gone
 from mail_parts import try_mail_parts
 from mail_runs import try_mail_runs
 from memory import try_memory
@@ -107,7 +108,7 @@ def all_parts(program, folder):
         try_office_again, try_office_between, try_office_formats, try_office_sheets, try_office_keys, try_office_forget,
         try_office_wayback, try_office_told, try_office_dates, try_office_figures, try_draws, try_refused, try_office_mail,
         try_office_receipts, try_mail_runs, try_burst, try_limits, try_ciphers, try_memory, try_port, try_stall, try_waits,
-        try_unread, try_office_tried, try_mail_changed, try_office_on_record,
+        try_unread, try_office_tried, try_mail_changed, try_mail_gone, try_office_on_record,
         try_office_overview, try_office_words, try_office_languages, try_office_marked, try_certificate, try_authority,
         try_signin_account, try_office_beside, try_office_identifiers, try_office_former,
     ]
@@ -131,7 +132,7 @@ def gate_parts(program):
         try_office_figures, try_draws, try_refused, try_office_mail, try_office_receipts, try_mail_runs, try_burst, try_limits,
         try_ciphers, try_unread, try_office_overview, try_office_words, try_office_languages, try_certificate,
         try_office_beside, try_office_identifiers, try_office_former, try_office_tried, try_mail_changed,
-        try_office_on_record,
+        try_mail_gone, try_office_on_record,
     ]
     of_office = [partial(one, program) for one in of_program]
     return [try_parts, try_branching, try_mail_parts, try_replacing, try_audit_told, *of_office]

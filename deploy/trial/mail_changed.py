@@ -1,7 +1,8 @@
 """Messages of results that have changed since: /usr/bin/python3 deploy/trial/mail_changed.py PROGRAM.
 
 The office goes back behind a round that was published, corrects a list, and publishes again. Those whose message is no longer
-right are counted as without one, and get another; nobody else does; and the page names those for whom there is none any more.
+right are counted as without one, and get another; nobody else does; and the page names those for whom there is none any more. Two
+rounds later the record of the messages is erased, and the page says so.
 """
 
 import sys
@@ -131,6 +132,34 @@ def try_given_up(stand, page, server, before):
           and "Your new room is A-3." in got[mail_of("T01")] and kind_of(stand, "results")["changed"] == [], got)
 
 
+def try_erased(stand, page, server):
+    """Two rounds later the record of a round's messages is erased. The page says so, in the place of numbers, and again after a way
+    back to that round, before anybody gets a message a second time."""
+    shown = flat(page.get(FORM)[2])
+    check("the page says how many messages of the last run were sent",
+          "Results, round 1: over Handed to the mail server 4" in shown, shown)
+    copy = stand.ask(ask="backup")["name"]
+    for line in ("settle", "open", "cancel", "open"):
+        stand.office(line)
+    stand.ask(ask="mail-receipts", act="on", mark=kind_of(stand, "receipt")["mark"], link="https://x/")
+    shown = flat(page.get(FORM)[2])
+    check("once they are erased, it says that", "Results, round 1: over" in shown and "Handed to the mail server" not in shown
+          and "How many messages were sent is not on record any more" in shown, shown)
+    stand.ask(ask="back", name=copy)
+    for place in ("results", "results/send"):
+        shown = flat(page.get(f"{FORM}/{place}")[2])
+        check(f"after a way back to that round, {place} says that people may have the message already",
+              "The record of who has got this message in round 1 was erased" in shown, shown)
+    check("and it goes to all", idents([[one] for one in kind_of(stand, "results")["to"]]) == PEOPLE, kind_of(stand, "results"))
+    got = sent_by(page, stand, server, "results")
+    shown = flat(page.get(f"{FORM}/results")[2])
+    check("if the clerk sends it", set(got) == set(map(mail_of, PEOPLE)) and "was erased" not in shown, (got, shown))
+    for line in ("settle", "open"):
+        stand.office(line)
+    shown = flat(page.get(f"{FORM}/invitation")[2])
+    check("of a round whose messages are on record no page says so", "Get it now 4" in shown and "was erased" not in shown, shown)
+
+
 def try_mail_changed(program):
     """All of it."""
     with MailServer() as server, Stand(program) as stand:
@@ -149,6 +178,7 @@ def try_mail_changed(program):
         try_changed(stand, page, server, before)
         try_moves(stand, page, server)
         try_given_up(stand, page, server, before)
+        try_erased(stand, page, server)
         check("no address, name or key is in a log or in the journal", not logs_of(stand), logs_of(stand))
 
 

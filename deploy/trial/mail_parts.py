@@ -25,6 +25,7 @@ from stand import OFFICE, check
 sys.path.append(str(OFFICE))
 
 import mail_why
+from accounts import OFF, Accounts
 from journal import Journal
 from languages import speaking
 from mail import Post
@@ -176,6 +177,18 @@ def try_why():
             check("a server's own words stay as they are", mail_why.said("550 no such mailbox") == "550 no such mailbox")
 
 
+def try_unwritten():
+    """What could not be written is named in the language that is spoken."""
+    with tempfile.TemporaryDirectory() as folder, speaking("de"):
+        try:
+            Accounts(Path(folder) / "none" / "accounts").put(OFF, {})
+            found = ""
+        except Fault as fault:
+            found = str(fault)
+        check("a list of accounts that cannot be written is named in German",
+              found.startswith("Die Liste der Konten ließ sich nicht schreiben"), found)
+
+
 def try_full_disk():
     """An address is refused on a full disk, where the journal cannot have the answer either: it says what the keeper knows."""
     with tempfile.TemporaryDirectory() as folder:
@@ -217,6 +230,7 @@ def try_mail_parts():
     try_earlier()
     try_full_disk()
     try_why()
+    try_unwritten()
     try_addresses()
     try_settings()
     try_texts()

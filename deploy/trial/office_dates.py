@@ -6,6 +6,7 @@ or only reminds. What is no date is refused by name. It also runs over standin.p
 
 import datetime
 import json
+import re
 import signal
 import sys
 import time
@@ -138,6 +139,33 @@ def try_form(stand, page, other, resident):
           and not (stand.data / "until").exists())
 
 
+def in_zone(stand, zone):
+    """The machine has another zone from now on."""
+    stand.stop_keeper()
+    stand.environment["TZ"] = zone
+    stand.start_keeper()
+
+
+def try_zones(stand, page, resident):
+    """The machine gets another zone: the date stays the moment that it is, and has the zone in which it was set everywhere."""
+    for before, after, now in ((ZONE, "America/New_York", "06:00"), ("UTC", ZONE, "14:00")):
+        in_zone(stand, before)
+        set_date(stand, "2027-05-31T12:00")
+        moment = shown(stand)["until"]["at"]
+        in_zone(stand, after)
+        text, form = flat(page.get("/office/")[2]), page.get("/office/")[2]
+        said = (f"2027-05-31, 12:00 ({before})" in text, f"2027-05-31 12:00 {before}" in stand.command("view")[1],
+                resident.told()["until"]["zone"] == before)
+        check(f"a date that was set in {before} is said so in {after}", all(said), (said, text[:3000]))
+        offered = dict(re.findall(r'<input id="(date|time)"[^>]* value="([^"]*)"', form))
+        check("the form has the same moment, by the clocks of now", f"those of the zone {after}." in text
+              and offered == {"date": "2027-05-31", "time": now}, (offered, text[:3000]))
+        send(page, offered["date"], offered["time"])
+        check("and who sends it as it is sets the same moment", shown(stand)["until"]["at"] == moment, shown(stand))
+        page.form("/office/until/drop", page="/office/")
+    in_zone(stand, ZONE)
+
+
 # --- at that time
 
 def try_remind(stand, page):
@@ -229,6 +257,15 @@ def try_faults(stand, page, resident):
     check("if residents cannot read it, the page says why", "But residents do not read it" in text, text[:3000])
     folder.with_name("gone").rename(folder)
     until(lambda: (resident.told().get("until") or {}).get("local") == "2027-05-30T12:00", 60, "they read it once that is mended")
+    part = folder / ".part"
+    part.mkdir()
+    page.form("/office/until/drop", page="/office/")
+    text = flat(page.get("/office/")[2])
+    check("if a date that is taken away stays with them, the page says that", bool(resident.told().get("until"))
+          and "But residents may still read the date that you have taken away: " in text and "do not read it" not in text,
+          text[:3000])
+    part.rmdir()
+    until(lambda: not resident.told().get("until"), 60, "they read none once that is mended")
     check("the journal is whole", all(json.loads(line) for line in (stand.data / "journal").read_text("utf-8").splitlines()))
 
 
@@ -243,6 +280,7 @@ def try_office_dates(program):
         page, other, resident = Page(stand), Page(stand, "bert"), Resident(stand)
         try_no_dates(stand)
         try_form(stand, page, other, resident)
+        try_zones(stand, page, resident)
         try_remind(stand, page)
         try_close(stand, resident)
         try_absences(stand)

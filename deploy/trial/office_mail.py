@@ -1,6 +1,6 @@
 """Mail to residents: /usr/bin/python3 deploy/trial/office_mail.py PROGRAM.
 
-Addresses by lists and one by one, texts with placeholders, results and moves, and people who go: they are gone from the mail.
+Addresses by lists and one by one, texts with placeholders, and results and moves.
 """
 
 import csv
@@ -23,7 +23,6 @@ SENDER = "Wohnbüro <office@college.example>"
 PEOPLE = [f"T{number:02}" for number in range(1, 13)]
 NAME = "Zoë {link} Žák"
 FORM = "/office/mail"
-NOTHING = {"address": "", "sent": [], "fault": ""}
 
 
 def mail_of(person):
@@ -309,96 +308,6 @@ def try_results(stand, page, server):
     stand.office("settle")
 
 
-def try_removal_question(stand, page):
-    """The question before a person is removed names what goes that no copy has, if the person has it."""
-    place, said = "/office/person/T04/remove", "and no copy has it: the mail address, which messages were sent to the person."
-    shown = page.get(place)[2]
-    check("the question before a removal names address and messages, and nothing else", said in shown, shown)
-    stand.ask(ask="set-languages", languages={"T04": "de"})
-    stand.ask(ask="set-accounts", rule="list", list="person,account\nT04,tea\n")
-    said = said.replace(".", ", the language of slips, letters and mails, the account of the college.")
-    shown = page.get(place)[2]
-    check("and language and account, once there are some", said in shown, shown)
-    shown = page.get("/office/forget/T04")[2]
-    check("so does the question before a person is forgotten", said in shown, shown)
-    stand.ask(ask="mail-addresses", addresses={"T11": ""})
-    shown = page.get("/office/person/T11/remove")[2]
-    check("of somebody who has no address it names none", "no copy has it" in shown and "the mail address" not in shown, shown)
-    shown = page.form("/office/many", {"act": "remove", "text": "T06 T07"}, page="/office/many")[2]
-    check("and the question about many says what goes", "messages were sent, languages and accounts" in shown, shown)
-    kept = (stand.data / "accounts").read_bytes()
-    (stand.data / "accounts").write_bytes(b"none")
-    shown = page.get(place)[2]
-    check("a file that is damaged keeps nobody from asking", said in shown and "Yes: remove this person" in shown, shown)
-    shown, told = page.get("/office/about/T04")[2], stand.command("about", "T04")
-    check("nor from reading the rest", "an account of the college is not known: the file" in shown and mail_of("T04") in shown
-          and "\nlanguage de\n" in told[1] and "is damaged" in told[2], (shown, told))
-    (stand.data / "accounts").write_bytes(kept)
-
-
-def try_gone(stand, page):
-    """Who is removed or forgotten is gone from the mail."""
-    shown = page.get("/office/about/T04")[2]
-    there = mail_of("T04") in shown and "results of round 2, sent" in shown
-    check("all about one person has the address, and what was sent", there, shown)
-    said = stand.command("about", "T04")[1]
-    check("and so has the clerk's command", f"mail address {mail_of('T04')}" in said and "results of round 2, sent" in said, said)
-    try_removal_question(stand, page)
-    stand.office("remove T04")
-    check("a person who is removed has no address", not holds(stand, "mail.db*", mail_of("T04"))
-          and stand.ask(ask="about", person="T04")["mail"] == NOTHING)
-    check("this trial finds the next one", holds(stand, "mail.db", mail_of("T05")) and holds(stand, "mail.db", "T05"))
-    shown = page.get("/office/forget/T05")[2]
-    check("the question says that the address goes", "and no copy has it: the mail address, " in shown, shown)
-    page.form("/office/forget/T05", page="/office/forget/T05")
-    check("a person who is forgotten is gone from the mail", not holds(stand, "mail.db*", mail_of("T05"))
-          and stand.ask(ask="about", person="T05")["mail"] == NOTHING)
-    shown = page.form("/office/many", {"act": "remove", "text": "T06 T07"}, page="/office/many")[2]
-    page.post("/office/many/do", dict(re.findall(r'type="hidden" name="(token|seen|held)" value="([^"]*)"', shown)))
-    check("so are many", not holds(stand, "mail.db*", mail_of("T06")) and not holds(stand, "mail.db*", mail_of("T07")))
-    copy = stand.ask(ask="backup")["name"]
-    check("no copy of the office has an address", not holds(stand, f"backups/{copy}/*", "@college.example"))
-
-
-def try_strangers(stand, page):
-    """After a way back, addresses may be of people who are not in the register."""
-    copy = stand.ask(ask="backup")["name"]
-    page.form("/office/person", {"ident": "T80", "name": "Late Comer"}, page="/office/register")
-    stand.ask(ask="mail-addresses", addresses={"T80": mail_of("T80")})
-    stand.ask(ask="set-accounts", rule="list", list="person,account\nT80,late-account\n")
-    stand.ask(ask="back", name=copy)
-    shown = page.get(FORM)[2]
-    check("the page names them", "not in the register: T80" in " ".join(shown.split()), shown)
-    page.form(f"{FORM}/strangers", page=FORM)
-    check("not without a tick", stand.ask(ask="mail")["strangers"] == ["T80"])
-    page.form(f"{FORM}/strangers", {"sure": "yes"}, page=FORM)
-    check("and erases them", not holds(stand, "mail.db*", mail_of("T80")) and stand.ask(ask="mail")["strangers"] == [])
-    shown = page.get("/office/about/T80")[2]
-    check("all about somebody who is not in the register has the account", "late-account" in shown, shown)
-    check("and offers to forget them", "/office/forget/T80" in shown, shown)
-    page.form("/office/forget/T80", page="/office/forget/T80")
-    shown = page.get("/office/about/T80")[2]
-    check("then nothing is left", "late-account" not in shown and "/office/forget/T80" not in shown, shown)
-
-
-def try_damaged(stand, page):
-    """The file of the mail is damaged: the office goes on."""
-    stand.ask(ask="set-accounts", rule="list", list="person,account\nT11,tim\n")
-    stand.stop_keeper()
-    (stand.data / "mail.db").write_bytes(b"this is no database" * 500)
-    stand.start()
-    check("a damaged file of the mail is named", "is damaged" in page.get(FORM)[2])
-    check("the office goes on", page.get("/office/")[0] == 200 and "ok" in stand.office("room A-9"))
-    check("its steps can be asked for", "mails wait to be sent is not known" in page.get("/office/step/open")[2])
-    check("and so do the pages of people", page.get("/office/person/T11")[0] == 200
-          and "is damaged" in page.get("/office/about/T11")[2])
-    status, printed, said = stand.command("do", "remove", "T11")
-    told = status == 3 and "T11: out of the register, but no mail address was erased" in said
-    check("who removes a person reads that the address is not erased", told, (printed, said))
-    check("and the person is out of the register", "T11" not in {row[0] for row in stand.ask(ask="view")["people"]})
-    check("and has no account any more, which somebody else could get", stand.ask(ask="accounts")["count"] == 0)
-
-
 def try_office_mail(program):
     """All of it."""
     with MailServer() as server, Stand(program) as stand:
@@ -421,9 +330,6 @@ def try_office_mail(program):
         try_language_list(stand, page)
         stand.office("cancel")
         try_results(stand, page, server)
-        try_gone(stand, page)
-        try_strangers(stand, page)
-        try_damaged(stand, page)
         check("no address, name or key is in a log or in the journal", not logs_of(stand), logs_of(stand))
 
 

@@ -30,13 +30,13 @@ def try_open(stand, page):
     """While the round is open."""
     stand.office("open")
     page.form("/office/person/T01/choose", {"text": "A-2"}, page="/office/person/T01")
-    is_silent(page, "/office/", "Lists on record 1 of 3", "No list yet: 2")
+    is_silent(page, "/office/", "Lists on record 1 of 3", "No list, or an empty one: 2")
     check("nor does its picture", "1 of 3 participants have a list on record" in page.get("/office/")[2])
     is_silent(page, "/office/person/T01", "It replaces the list that is on record.")
     is_silent(page, "/office/person/T01/going", "A list that is on record of this person counts no more.")
     is_silent(page, "/office/lists", "replaces the list that is on record of this person")
-    is_silent(page, "/office/step/close", "2 of 3 participants have no list on record.")
-    is_silent(page, "/office/mail/reminder", "everybody who takes part and has no list on record: 2")
+    is_silent(page, "/office/step/close", "2 of 3 participants have no list on record, or an empty one.")
+    is_silent(page, "/office/mail/reminder", "everybody who takes part and has no list on record, or an empty one: 2")
     shown = lines(page.form("/office/lists", {"kind": "choices", "label": "paper"},
                             files={"list": b"person,choices\nT01,A-3\nT02,A-3\n"})[2])
     check("a list of choices replaces what is on record", "1 of these people has another list on record already." in shown

@@ -25,6 +25,7 @@ ROOMS = [f"A-{number}" for number in range(1, 7)]
 RECEIPTS = f"{FORM}/receipt"
 SECONDS = 3  # after which a receipt is sent here
 LONG = SECONDS + 3
+NO_ROOM = "There is no room on your list in round {number}, as of about {{time}}: the list is empty, or there is none."
 
 
 def state(stand):
@@ -73,7 +74,7 @@ def try_off(stand, page, server):
     quiet(server, "a list that was there before brings none")
 
 
-def try_changes(stand, server):
+def try_changes(stand, page, server):
     """Each change of a list on record, by its owner or by the office, brings one receipt to who has an address."""
     for count in (1, 2, 3, 4, 5):
         check(f"T02 hands in {count} rooms", hand_in(stand, key_of("T02"), ROOMS[:count]) == 200)
@@ -102,8 +103,11 @@ def try_changes(stand, server):
     quiet(server, "the same list again, and one that was changed back, bring none")
     hand_in(stand, key_of("T04"), [])
     until(lambda: server.got, 60, "a receipt of an empty list")
-    check("an empty list after another one brings one",
-          says(texts_of(server, "T04"), said("An empty list of yours has been on record in round 1 since about {time}.")))
+    check("an empty list after another one brings one", says(texts_of(server, "T04"), said(NO_ROOM.format(number=1))),
+          server.went())
+    shown = " ".join(page.get(f"{FORM}/reminder/in/en/to/T04")[2].split())
+    check("and a reminder says the same", "there is no room on your list for round 1" in shown
+          and "the list is empty, or there is none" in shown and "no list from you" not in shown, shown)
 
 
 def try_bad_days(stand, page, server):
@@ -193,6 +197,30 @@ def try_rounds(stand, server):
           says(texts_of(server, "T02"), said("A list of yours with 1 room has been on record in round 2 since about {time}.")))
 
 
+def try_withdrawn(stand, server):
+    """The office goes back to a copy from before withdrawals. Who has read of theirs reads that it no longer counts."""
+    hand_in(stand, key_of("T07"), ROOMS[:2])
+    until(lambda: texts_of(server, "T07"), 60, "a receipt of a list")
+    copy = stand.ask(ask="backup")["name"]
+    server.forget()
+    for person in ("T03", "T06", "T07"):
+        stand.office(f"withdraw {person}")
+    until(lambda: len(server.got) == 3, 60, "three receipts of withdrawals")
+    server.forget()
+    stand.ask(ask="back", name=copy)
+    until(lambda: len(server.got) == 3, 60, "three receipts after the way back")
+    again = "Your withdrawal no longer counts: you take part in round 2 again."
+    check("who never had a list reads of none, and that the withdrawal no longer counts",
+          says(texts_of(server, "T06"), said(f"{again} {NO_ROOM.format(number=2)}")), texts_of(server, "T06"))
+    check("who has a list reads of that", says(texts_of(server, "T07"), said(
+        f"{again} A list of yours with 2 rooms has been on record in round 2 since about {{time}}.")), texts_of(server, "T07"))
+    german = ["Ihr Ausstieg gilt nicht mehr: Sie nehmen wieder an Runde 2 teil. Auf Ihrer Wunschliste in Runde 2 steht"]
+    check("each in their language", says(texts_of(server, "T03"), german), texts_of(server, "T03"))
+    stand.office("withdraw T06")
+    until(lambda: len(server.got) == 4, 60, "a receipt of another withdrawal")
+    check("and another withdrawal is one", "You have withdrawn from round 2" in texts_of(server, "T06")[-1], server.went())
+
+
 def entries(stand):
     """What the file of the mail has of lists."""
     with contextlib.closing(sqlite3.connect(stand.data / "mail.db")) as database:
@@ -225,10 +253,11 @@ def try_office_receipts(program):
         stand.ask(ask="set-languages", languages={"T03": "de"})
         stand.office("open")
         try_off(stand, page, server)
-        try_changes(stand, server)
+        try_changes(stand, page, server)
         try_bad_days(stand, page, server)
         try_ended(stand, page, server)
         try_rounds(stand, server)
+        try_withdrawn(stand, server)
         try_end(stand, page, server)
         check("no address, name or key is in a log or in the journal", not logs_of(stand), logs_of(stand))
 

@@ -82,8 +82,9 @@ def kind_page(kind: str, language: str = "", ident: str = "", written: Text | No
         shown = ask("mail-show", kind=kind, language=language, person=ident, link=residents_page(), subject=text.subject,
                     body=text.body)
     return show("mail_kind", office=office, mail=mail_now, kind=kind, of=KINDS[kind], state=state, text=text, chosen=ident,
-                shown=shown, language=language, name_of=name_of, back=f"{HOME}/{kind}/in/{language}", most_subject=LONGEST_SUBJECT,
-                most_body=LONGEST_BODY, saw=field("saw") if written else mark_of(state["texts"].get(language)))
+                shown=shown, language=language, name_of=name_of, back=f"{HOME}/{kind}/in/{language}", erased=erased,
+                most_subject=LONGEST_SUBJECT, most_body=LONGEST_BODY,
+                saw=field("saw") if written else mark_of(state["texts"].get(language)))
 
 
 @app.get(f"{HOME}/<kind>")
@@ -152,6 +153,12 @@ def go_back_if_wrong(office: Office, kind: str) -> None:
         go_to("/office/results")
 
 
+def erased(state: dict[str, Any], number: int) -> list[str]:
+    """Says that the office may have sent this before it went back to a copy, if nobody knows that any more."""
+    return [_("The record of who has got this message in round {round} was erased two rounds later. Messages were sent before the "
+              "office went back to a copy: these people may have one already.", round=number)] if state["erased"] else []
+
+
 def who_else(state: dict[str, Any]) -> list[str]:
     """Who gets it although they have got one, and who gets nothing now."""
     sent, absent = len(state["sent"]), len(state["no_address"])
@@ -182,7 +189,7 @@ def ask_send(kind: str) -> str:
         go_to(place)
     count = len(state["to"])
     says = [" ".join([*subjects(state), minutes(count, mail_now["per_minute"]),
-                      _("A message that was sent cannot be taken back.")]), *who_else(state)]
+                      _("A message that was sent cannot be taken back.")]), *erased(state, office.number), *who_else(state)]
     title = ngettext("Send {kind} to {count} person?", "Send {kind} to {count} people?", count, kind=_(KINDS[kind].name))
     return put_question(office, Question(title, says, _("Yes: send the messages"), place, saw=state["mark"], facts=(
         fact_of(office, _("Who gets it"), state["to"]),)))
