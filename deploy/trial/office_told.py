@@ -310,7 +310,7 @@ def try_taking_away(stand, page, resident):
     """Four pictures a room; one is taken away, and its file is gone."""
     said = add(page, {f"S-201-{n}.png": some_pictures.drawn("PNG", 20 + n) for n in range(5)})
     check("a room has four pictures", sorted(said) == ["4 pictures are on the residents' page.", "S-201-4.png was not added: "
-          "S-201 has 4 pictures already. Nothing was changed: take one of them away first."], said)
+          "S-201 has 4 pictures already: take one of them away first."], said)
     add(page, {"S-201-0.png": some_pictures.drawn("PNG", 20)}, shows="New words")
     check("the same picture again is no other one", [shows for shows, _ in pictures_of(stand, "S-201")]
           == ["New words", "", "", ""], told_of(stand)["pictures"])
