@@ -191,8 +191,10 @@ def try_rooms(stand, page, other, resident):
     check("but nothing is there before the clerk says so", resident.told()["rooms"] == {})
     late = send_list(other, b"room,text\nN-103,Mine\n")
     said = bring(page, shown)
-    check("then the descriptions are there", said == ["The descriptions of 4 rooms are on the residents' page."]
+    check("then the descriptions are there", said == ["The descriptions of 3 rooms are on the residents' page."]
           and resident.told()["rooms"] == EXPECTED, (said, resident.told()["rooms"]))
+    check("nor does the page say that residents lose what they do not see",
+          "no longer says anything of 3 rooms" in page.get(f"{PLACE}/rooms/drop")[2])
     said = bring(other, late)
     check("a list that was looked at before is refused", "has changed since" in said[0]
           and resident.told()["rooms"] == EXPECTED, said)
