@@ -44,7 +44,7 @@ class CopyRequests:
     def backup(self, job: Job) -> Job:
         """Keeps a copy of the office while the server runs."""
         name = self.backups.keep(ASKED_FOR, f"asked for by {job['who']}")
-        self.journal.note(who=job["who"], line="backup", answer=name)
+        self.journal.note_done(who=job["who"], line="backup", answer=name)
         return {"name": name}
 
     def list_backups(self, _job: Job) -> Job:
