@@ -3,12 +3,13 @@
 | ask | fields | answer |
 |---|---|---|
 | backup, backups | | name; backups: name, bytes and reason of each; days: how long one stays at most; stays: of each |
-| days | days, only_try | gone: how many copies are older than so many days, and are deleted |
+| days | days, only_try; was: their number as the sender saw it | gone: how many copies are older, and are deleted |
 | compare | name | what becomes of people by going back to a copy (`compared` in parting.py); forgotten: of who comes back |
 | given-up | name of a copy, or none | rounds: copy, number, phase of each; or what that one had, and what has changed since |
 | back | name, seen, newer_keys | name: of the copy of the office of before; what has become of people, if it could be read |
 """
 
+import threading
 from collections.abc import Callable
 
 from backups import ASKED_FOR, BACK, MOST_DAYS
@@ -17,7 +18,7 @@ from branches import Branches, named_in
 from dates import Dates
 from given_up import given_up
 from going_back import GoingBack
-from job import Job, seen_in, text
+from job import Job, is_other, seen_in, text
 from languages import _
 from office import Office
 from parting import Parting
@@ -33,6 +34,7 @@ class CopyRequests:
     def __init__(self, office: Office, worker: Worker, dates: Dates, beside: BesideRegister) -> None:
         self.office, self.worker, self.dates, self.beside = office, worker, dates, beside
         self.backups, self.journal = office.backups, office.journal
+        self.lock = threading.Lock()  # held from a look at the number of days until there is another one
 
     def requests(self) -> dict[str, Callable[[Job], Job]]:
         """What can be asked."""
@@ -42,7 +44,7 @@ class CopyRequests:
     def backup(self, job: Job) -> Job:
         """Keeps a copy of the office while the server runs."""
         name = self.backups.keep(ASKED_FOR, f"asked for by {job['who']}")
-        self.journal.note(who=job["who"], line="backup", answer=name)
+        self.journal.note_done(who=job["who"], line="backup", answer=name)
         return {"name": name}
 
     def list_backups(self, _job: Job) -> Job:
@@ -55,10 +57,13 @@ class CopyRequests:
         days = job["days"]
         if not isinstance(days, int) or isinstance(days, bool) or not 1 <= days <= MOST_DAYS:
             raise Fault(_("a copy stays for 1 to {days:,} days. Nothing was changed.", days=MOST_DAYS))
-        gone = len(self.backups.old(days))
-        if not job.get("only_try"):
-            with self.journal.change(job["who"], f"copies stay for {days} days: {gone} are deleted"):
-                self.backups.set_days(days)
+        with self.lock:
+            if is_other(job.get("was"), [str(self.backups.days())]):
+                raise Fault(_("the number of days was changed after you looked. Nothing was changed by you: decide again."))
+            gone = len(self.backups.old(days))
+            if not job.get("only_try"):
+                with self.journal.change(job["who"], f"copies stay for {days} days: {gone} are deleted"):
+                    self.backups.set_days(days)
         return {"gone": gone}
 
     def compare(self, job: Job) -> Job:

@@ -65,8 +65,8 @@ class Years:
             self.say(place, entry, f"round {number} was closed")
         elif step == "draw":
             self.draws[number] = self.draws.get(number, 0) + 1
-            seed = DRAWN.match(line)
-            source = f"by the seed {seed[1].lower()}" if seed else "by words, without a seed"
+            seed = DRAWN.match(line)  # words may be those of a seed, too: then the head of the record has it
+            source = f"by the seed {seed[1].lower()}" if seed else "by words"
             self.say(place, entry, f"the order of round {number} was drawn, {source}")
         elif step == "cancel":
             drawn = "its order was drawn" if self.draws.get(number) else "no order was drawn"

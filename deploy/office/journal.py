@@ -173,9 +173,11 @@ class Journal:
         return number
 
     def end(self, number: str, answer: str, status: int, milliseconds: int, **other: str) -> None:
-        """Notes how a change ended, and what else is so of it than was noted before. It has happened: if it cannot be noted
-        now, it is noted with the next entry."""
-        values = {"n": number, **other, "answer": without_names(answer), "status": status, "ms": milliseconds}
+        """Notes how a change ended, and what else is so of it than was noted before."""
+        self.note_done(n=number, **other, answer=without_names(answer), status=status, ms=milliseconds)
+
+    def note_done(self, **values: Any) -> None:
+        """Notes what has happened: if it cannot be noted now, it is noted with the next entry."""
         try:
             self.note(**values)
         except (Fault, OSError):

@@ -333,5 +333,5 @@ class Requests:
     def blank_journal(self, job: Job) -> Job:
         """Takes out of the journal what earlier versions noted of names and wishes."""
         count = self.journal.blank()
-        self.journal.note(who=job["who"], line="blank-journal", answer=f"{count} lines")
+        self.journal.note_done(who=job["who"], line="blank-journal", answer=f"{count} lines")
         return {"blanked": count}

@@ -7,7 +7,7 @@ whom no language is set is written to in that of the office.
 |---|---|---|
 | language | language, to choose it | language: of the clerk who asks, or none |
 | languages | | office: of residents without one; residents: the others, by person |
-| set-languages | languages: by person; was: of one or of each, as the sender saw it; or office: of all others | changed: how many |
+| set-languages | languages: by person; or office: of all others; was: of one or of each, as the sender saw it | changed: how many |
 """
 
 import json
@@ -18,12 +18,13 @@ from typing import Any, NamedTuple
 
 from job import Job, is_other
 from journal import Journal
-from languages import ENGLISH, _, languages
+from languages import ENGLISH, N_, _, languages
 from placing import replace_file
 from register import people_in
 from rows import View
 from settings import Fault, unwritten
 
+OTHER = N_("the language was changed after you looked. Nothing was changed by you: decide again.")
 MOST_CLERKS = 1000  # more is no office; the file stays small whichever clerk asks
 
 
@@ -154,9 +155,8 @@ class LanguageRequests:
     def set(self, job: Job) -> Job:
         """Sets languages of people in the register, all or none; or that of the office."""
         if "office" in job:
-            code = code_in(job["office"])
-            with self.journal.change(job["who"], f"language of residents without one: {code}"):
-                self.kept.set_office(code)
+            with self.kept.lock:
+                self.set_office(job, code_in(job["office"]))
             return {"changed": 0}
         codes = job["languages"]
         if not isinstance(codes, dict):
@@ -165,13 +165,20 @@ class LanguageRequests:
         with self.kept.lock:
             return {"changed": self.set_residents(job, codes)}
 
+    def set_office(self, job: Job, code: str) -> None:
+        """Sets the language of residents without one, if it is as the sender saw it."""
+        if is_other(job.get("was"), [self.kept.kept().office or ENGLISH]):
+            raise Fault(_(OTHER))
+        with self.journal.change(job["who"], f"language of residents without one: {code}"):
+            self.kept.set_office(code)
+
     def set_residents(self, job: Job, codes: dict[str, str]) -> int:
         """Sets languages of people, if they are as the sender saw them. Returns of how many."""
         known, old = people_in(self.view.rows()), self.kept.kept().residents
         if strangers := [person for person, code in codes.items() if code and person not in known]:
             raise Fault(_("nobody has the identifier '{person}'. Nothing was changed.", person=strangers[0][:20]))
         if is_other(job.get("was"), [old.get(person, "") for person in codes]):
-            raise Fault(_("the language was changed after you looked. Nothing was changed by you: decide again."))
+            raise Fault(_(OTHER))
         changed = [person for person, code in codes.items() if old.get(person, "") != code]
         if not changed:
             return 0

@@ -255,11 +255,9 @@ class Told:
             pictures = told["pictures"].setdefault(room, [])
             others = [one for one in pictures if one["file"] != name]
             if len(others) >= MOST_OF_ROOM:
-                raise Fault(_("{room} has {most} pictures already. Nothing was changed: take one of them away first.",
-                              room=room, most=MOST_OF_ROOM))
+                raise Fault(_("{room} has {most} pictures already: take one of them away first.", room=room, most=MOST_OF_ROOM))
             if sum(map(len, told["pictures"].values())) >= MOST_PICTURES:
-                raise Fault(_("there are {most:,} pictures already. Nothing was changed: take some away first.",
-                              most=MOST_PICTURES))
+                raise Fault(_("there are {most:,} pictures already: take some away first.", most=MOST_PICTURES))
             self.put(name, data)
             if len(others) < len(pictures):
                 next(one for one in pictures if one["file"] == name)["shows"] = shows

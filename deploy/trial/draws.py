@@ -14,9 +14,13 @@ from pathlib import Path
 # The repository stays as it is.
 sys.dont_write_bytecode = True
 
-# pylint: disable=wrong-import-position  # nothing may be written before
+# pylint: disable=wrong-import-position,wrong-import-order  # nothing may be written before
 from office_requests import Page
-from stand import Stand, check
+from stand import OFFICE, Stand, check
+
+sys.path.append(str(OFFICE))
+
+from audit import seed_words
 
 FEW, ENOUGH = "3 1 6 6 2", " ".join(random.Random(1).choices("123456", k=50))
 LOTTERY = "the lottery of 1 June: 4 17 23 31 40 49"
@@ -103,9 +107,9 @@ def try_record(stand, page):
     said, record = said_by(page)
     check("the record has each seed, with what it was made of",
           f"the seed {sha256(ENOUGH)} was noted: SHA-256 of {ENOUGH}" in said, said)
-    check("marks the one that was struck out, and says that the draw was without a seed", said[-3:] == [
+    check("marks the one that was struck out, and says that the draw was by words", said[-3:] == [
         f"the seed {SEED} was noted: entered as it is", f"the seed {SEED} was struck out",
-        "the order of round 1 was drawn, by words, without a seed"], said)
+        "the order of round 1 was drawn, by words"], said)
     check("in their order", said[:2] == ["round 1 was opened", "round 1 was closed"], said)
     stand.office("cancel")
     stand.office("open")
@@ -136,12 +140,12 @@ def try_later(stand, page):
     """The next year begins anew; a bundle of lines hides no draw; and a journal that is lost is missed."""
     stand.office("open")
     lines = [f"choose {person} A-1" for person in ("P1", "P2") for _ in range(30)]
-    words = " ".join(f"{number:016x}" for number in (2, 1))
+    words = " ".join(seed_words(SEED, 2))
     stand.script("rooms-office", "lines", given="\n".join([*lines, "close", f"draw {words}", "run"]) + "\n")
-    said, _ = said_by(page)
+    said, record = said_by(page)
     check("the record begins after the last round that was settled, and a bundle hides nothing",
-          said == ["round 5 was opened", "round 5 was closed", "the order of round 5 was drawn, by words, without a seed"],
-          said)
+          said == ["round 5 was opened", "round 5 was closed", "the order of round 5 was drawn, by words"], said)
+    check("of words by hand that are those of a noted seed the record has the seed", f"\n# seed {SEED}\n" in record, record)
     line = next(found for entry in stand.ask(ask="journal", last=5)["journal"] if (found := entry.get("line", ""))[:6] == "choose")
     check("the journal keeps the first lines of a bundle", line.startswith("choose P1 (1 room); ") and
           line.endswith("; ..; close; draw (2 words); run"), line)

@@ -34,6 +34,7 @@ def try_noted(program):
         text = page.get("/office/journal")[2]
         check("and the notes as such", "Noted: <code>close</code>" in text and "Noted: <code>seed a1" in text, text)
         forged(stand)
+        unnoted(stand)
         thrown(page)
 
 
@@ -45,6 +46,22 @@ def forged(stand):
     told = stand.script("rooms-office", "journal", "2").split("\n")
     check("rooms-office prints each on one line", len(told) == 3 and all("bert: noted: x" in one for one in told[:2]), told)
     check("without control signs", all(one.isprintable() for one in told), told)
+
+
+def unnoted(stand):
+    """A copy is made, and the journal takes no entry meanwhile."""
+    journal, aside = stand.data / "journal", stand.data / "journal.aside"
+    journal.rename(aside)
+    journal.mkdir()
+    answer = stand.ask(ask="backup", who="anna")
+    journal.rmdir()
+    aside.rename(journal)
+    names = [name for name, *_ in stand.ask(ask="backups")["backups"]]
+    check("of a copy that is made nobody says that nothing was changed", answer.get("name") in names, (answer, names))
+    stand.ask(ask="note", line="later", who="anna")
+    found = [(one.get("line"), one.get("answer"), one.get("note")) for one in stand.ask(ask="journal", last=2)["journal"]]
+    check("and the journal has it with the next entry",
+          found == [("backup", answer["name"], None), (None, None, "later")], found)
 
 
 def thrown(page):

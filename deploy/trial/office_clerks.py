@@ -100,6 +100,29 @@ def try_people(stand, anna, bert):
           and person_of(stand, "T04")[0] == "Dee Day")
 
 
+def try_settings(stand, anna, bert):
+    """The days of copies, and the language of everybody without one, from forms of before another clerk set them."""
+    days, old = "/office/copies/days/", anna.hidden("/office/copies/days/300", "/office/copies/days/300")
+    shown = anna.get(f"{days}300")[2]
+    check("the question about days says how many they are now", "400 days" in shown and "300 days" in shown, shown)
+    bert.form(f"{days}200", page=f"{days}200")
+    anna.post(f"{days}300", old)
+    shown = anna.get("/office/copies")[2]
+    check("the later of two clerks at the days of copies changes nothing, and reads so",
+          stand.ask(ask="backups")["days"] == 200 and STALE in shown, shown[:2500])
+    anna.form(f"{days}300", page=f"{days}300")
+    check("and sets them after a look", stand.ask(ask="backups")["days"] == 300)
+    languages = "/office/languages"
+    old = anna.hidden(languages, f"{languages}/office")
+    bert.form(f"{languages}/office", {"language": "de"}, page=languages)
+    anna.post(f"{languages}/office", {**old, "language": "en"})
+    shown = anna.get(languages)[2]
+    check("so it is with the language of everybody without one",
+          stand.ask(ask="languages")["office"] == "de" and STALE in shown, shown[:2500])
+    anna.form(f"{languages}/office", {"language": "en"}, page=languages)
+    check("which a look lets the clerk set, too", stand.ask(ask="languages")["office"] == "en")
+
+
 def try_at_once(stand, anna, bert):
     """Of forms that arrive at the same time, one takes effect."""
     pages, told = [anna, bert] * 4, []
@@ -277,6 +300,7 @@ def try_office_clerks(program):
         anna, bert = Page(stand), Page(stand, "bert")
         try_held(stand, anna, bert)
         try_people(stand, anna, bert)
+        try_settings(stand, anna, bert)
         try_at_once(stand, anna, bert)
         try_lists(stand, anna, bert, between)
         try_gone_back(stand, anna, bert)

@@ -151,6 +151,19 @@ def try_shown(stand, page):
     named = [one for one in PEOPLE if one in everything or one.title() in everything]
     check("nobody is named anywhere", not named and "Resident" not in everything, named)
     check("the file is for its owner alone", (stand.data / "figures").stat().st_mode & 0o777 == 0o600)
+    try_shares(stand, page, file)
+
+
+def try_shares(stand, page, file):
+    """The share of the first choices that are met lies between two percentages, since both of its numbers are rounded."""
+    # 25 stands for 25 to 29, and 35 for 35 to 39: from 25 of 39, which is 64.1 %, to 29 of 35, which is 82.9 %.
+    for wishing, first, said in ((225, 5, "5, 2 to 4 %"), (35, 25, "25, 64 to 83 %"), (225, 0, "fewer than 5, 0 to 2 %"),
+                                 (100, 100, "100, 96 to 100 %"), (20, 5, "5")):
+        text = file.replace('"wishing": 15, "first": 5', f'"wishing": {wishing}, "first": {first}')
+        (stand.data / "figures").write_text(text, encoding="utf-8")
+        shown = page.get("/office/committee")[2]
+        check(f"of {wishing} the page says: {said}", f"<td>{said}</td></tr>" in shown, shown[:4000])
+    (stand.data / "figures").write_text(file, encoding="utf-8")
 
 
 def try_going_back(stand, page):

@@ -13,6 +13,7 @@ from pathlib import Path
 sys.dont_write_bytecode = True
 
 # pylint: disable=wrong-import-position  # nothing may be written before
+from office_forms import flat, seen_at
 from office_requests import Page
 from office_sheets import bring_in
 from stand import Stand, check, key_of
@@ -20,6 +21,7 @@ from stand import Stand, check, key_of
 NAME = "Zoe Zander"
 KEY = "fedcba98765432100123456789abcdef"
 HEADER = ["person", "name", "key", "home"]
+STILL = "Kept lists and copies still hold names and keys. Blank the lists on the page Lists in."
 
 
 def copies(stand):
@@ -152,6 +154,12 @@ def left_in_copies(stand):
 def try_removed(stand, page):
     """Somebody was removed, and their list is still there."""
     bring_in(page, "people", "people-2", HEADER, [["T2", "Tea Tal", key_of("T2"), ""]])
+    for shown in (seen_at(page, "/office/person/T2/remove"),
+                  flat(page.form("/office/many", {"act": "remove", "text": "T2"}, page="/office/many")[2])):
+        check("before somebody is removed the page says that kept lists have them", STILL in shown, shown)
+        check("and of somebody without a room that no room becomes free", "free" not in shown, shown)
+    shown = flat(page.form("/office/many", {"act": "remove", "text": "T2 T1"}, page="/office/many")[2])
+    check("but of somebody with one that it does", "Their rooms become free." in shown, shown)
     stand.office("remove T2")
     shown = page.get("/office/about/T2")[2]
     check("a kept list still names who was removed", "people-2 (people): T2 | Tea Tal" in shown, shown)

@@ -260,6 +260,8 @@ def try_residents(stand):
     check("a slip is in the language of its resident", section_of(shown, "T01", "slip")[0] == CODE
           and not not_in_it(f'<i>{section_of(shown, "T01", "slip")[1].partition(">")[2]}</i>'.replace("Person T01", ""))
           and section_of(shown, "T02", "slip")[0] == "en" and OPEN not in section_of(shown, "T02", "slip")[1], shown)
+    check("the page says how a slip gets another language, and nothing that cannot be done", "set them first" not in shown
+          and "once the resident is in the register" in " ".join(shown.split()), shown)
     check("on the clerk's page", '<html lang="en"' in shown and "This page shows these keys once." in shown, shown)
     check("the page that shows keys once offers no other language", 'action="/office/language"' not in shown, shown)
     stand.office("choose T01 A-102")
@@ -270,6 +272,7 @@ def try_residents(stand):
     stand.office("run")
     stand.office("publish")
     shown = page.form("/office/letters", {"closing": "See you.", f"closing-{CODE}": "«ω»"}, page="/office/letters")[2]
+    check("beside the text for letters stands that the page does not keep it", "does not keep this text" in shown, shown)
     letters = {person: section_of(shown, person, "sheet") for person in PEOPLE}
     words = {person: re.sub(r"Person T\d\d|T\d\d|A-\d{3}", "", part.partition(">")[2]) for person, (_, part) in letters.items()}
     check("so is a letter", all((code == CODE) == (person in ("T01", "T05")) for person, (code, _) in letters.items())

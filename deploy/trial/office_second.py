@@ -68,6 +68,8 @@ def try_left(stand, page):
     shown = page.get("/office/left")[2]
     check("who left is ticked, and nobody else is there",
           boxes(shown) == {("person", "P06"): True, ("person", "P07"): True}, shown)
+    check("and nothing is said to be deleted that kept lists have",
+          "Kept lists and copies still hold names and keys." in flat(shown), shown)
     token = page.hidden("/office/left", "/office/many")
     shown = flat(page.post("/office/many", token)[2])
     check("if nobody is ticked the page says so", "You have named nobody." in shown and "Yes:" not in shown, shown)

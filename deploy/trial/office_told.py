@@ -191,8 +191,10 @@ def try_rooms(stand, page, other, resident):
     check("but nothing is there before the clerk says so", resident.told()["rooms"] == {})
     late = send_list(other, b"room,text\nN-103,Mine\n")
     said = bring(page, shown)
-    check("then the descriptions are there", said == ["The descriptions of 4 rooms are on the residents' page."]
+    check("then the descriptions are there", said == ["The descriptions of 3 rooms are on the residents' page."]
           and resident.told()["rooms"] == EXPECTED, (said, resident.told()["rooms"]))
+    check("nor does the page say that residents lose what they do not see",
+          "no longer says anything of 3 rooms" in page.get(f"{PLACE}/rooms/drop")[2])
     said = bring(other, late)
     check("a list that was looked at before is refused", "has changed since" in said[0]
           and resident.told()["rooms"] == EXPECTED, said)
@@ -310,7 +312,7 @@ def try_taking_away(stand, page, resident):
     """Four pictures a room; one is taken away, and its file is gone."""
     said = add(page, {f"S-201-{n}.png": some_pictures.drawn("PNG", 20 + n) for n in range(5)})
     check("a room has four pictures", sorted(said) == ["4 pictures are on the residents' page.", "S-201-4.png was not added: "
-          "S-201 has 4 pictures already. Nothing was changed: take one of them away first."], said)
+          "S-201 has 4 pictures already: take one of them away first."], said)
     add(page, {"S-201-0.png": some_pictures.drawn("PNG", 20)}, shows="New words")
     check("the same picture again is no other one", [shows for shows, _ in pictures_of(stand, "S-201")]
           == ["New words", "", "", ""], told_of(stand)["pictures"])

@@ -17,7 +17,7 @@ FEWER = N_("fewer than {number}")
 NO_HOUSE = N_("(no house)")
 # Of so many rooms the page shows who wants them. The list in CSV has all.
 MOST_WANTED = 12
-# Below so many people a percentage would pretend to be exact.
+# Of fewer people the percentages would lie too far from each other to say anything.
 FEW_FOR_PERCENT = 25
 COLUMNS = ("rooms", "people", "wishing", *OUTCOMES, "named", "wanted")
 HEADINGS = ("rooms", "participants", "want another room", *map(str.lower, GETS.values()), "named by", "first choice of")
@@ -45,9 +45,13 @@ class Round(NamedTuple):
 
     @property
     def met(self) -> str:
-        """How many of the first choices are met, in percent, if that are enough people."""
-        wishing = self.all["wishing"]
-        return f"{round(100 * self.all['first'] / wishing)} %" if wishing >= FEW_FOR_PERCENT else ""
+        """Between which percentages the share of the first choices lies that are met, if that are enough people. They follow from
+        the two numbers that are shown, each of which may stand for up to four people more, so they say nothing else of anybody."""
+        first, wishing = self.all["first"], self.all["wishing"]
+        if wishing < FEW_FOR_PERCENT:
+            return ""
+        least, most = 100 * first // (wishing + FEWEST - 1), min(100, -(-100 * (first + FEWEST - 1) // wishing))
+        return _("{least} to {most} %", least=least, most=most)
 
     @property
     def most_wanted(self) -> list[tuple[str, dict[str, int]]]:

@@ -170,29 +170,30 @@ def look_at_days() -> None:
 @app.get("/office/copies/days/<days:int>")
 def ask_days(days: int) -> str:
     """Asks before copies stay for another number of days."""
-    gone = days_gone(days, True)
-    says = [ngettext("One copy is older, and is deleted at once. You cannot take this back.",
+    now, gone = ask("backups")["days"], days_gone(days, only_try=True)
+    says = [_("Now a copy stays for {days:,} days at most.", days=now),
+            ngettext("One copy is older, and is deleted at once. You cannot take this back.",
                      "{count} copies are older, and are deleted at once. You cannot take this back.", gone)
             if gone else _("No copy is older now."),
             _("From then on each copy is deleted when it is {days:,} days old, or earlier if there are enough newer ones of its "
               "kind. Copies that the administrator has taken elsewhere stay there.", days=days)]
     title = _("Keep copies for {days:,} days at most?", days=days)
-    return put_question(office_now(), Question(title, says, _("Yes: keep them for so long"), "/office/copies"))
+    return put_question(office_now(), Question(title, says, _("Yes: keep them for so long"), "/office/copies", saw=str(now)))
 
 
 @app.post("/office/copies/days/<days:int>")
 def set_days(days: int) -> None:
     """Sets for how many days copies stay."""
-    gone = days_gone(days, False)
+    gone = days_gone(days, was=field("saw"))
     deleted = ngettext("{count} copy was deleted.", "{count} copies were deleted.", gone) if gone else _("No copies were deleted.")
     tell("good", f"{_('Copies stay for {days:,} days at most.', days=days)} {deleted}")
     go_to("/office/copies")
 
 
-def days_gone(days: int, only_try: bool) -> int:
+def days_gone(days: int, **fields: Any) -> int:
     """How many copies are older than so many days, and are deleted unless this is only tried."""
     try:
-        return int(ask("days", days=days, only_try=only_try)["gone"])
+        return int(ask("days", days=days, **fields)["gone"])
     except KeeperFault as fault:
         tell("bad", plain.begun(str(fault)))
         go_to("/office/copies")

@@ -43,7 +43,7 @@ def languages_page() -> str:
 @app.post(f"{HOME}/office")
 def set_office() -> None:
     """Sets the language of residents without one."""
-    if is_done(SET, office=field("language")):
+    if is_done(SET, office=field("language"), was=field("was")):
         tell("good", _("The language of everybody without one is set."))
     go_to(HOME)
 

@@ -148,9 +148,9 @@ def question_of(office: Office, ident: str, act: str) -> Question | None:
         title = _("Does {who} leave {room}?", who=who, room=person.home)
         return Question(title, says, _("Yes: leave the room"), place)
     if act == "remove":
-        says = [_("The room becomes free, and the program forgets name and key. Recorded moves stay."), _(plain.COPY_FIRST),
-                *erased_with(ident),
-                _("Kept lists and copies still hold the name and the key. Blank the lists on the page Lists in.")]
+        says = [_("The room becomes free, and the program forgets name and key. Recorded moves stay.") if person.home else
+                _("The program forgets name and key. Recorded moves stay."),
+                _(plain.COPY_FIRST), *erased_with(ident), _(plain.STILL_KEPT)]
         return Question(_("Remove {who} from the register?", who=who), says, _("Yes: remove this person"), place)
     if act == "withdraw":
         says = [_("The person takes no part in this round and keeps {room}, and nobody else can get it.", room=person.home)

@@ -126,6 +126,7 @@ CANCELLABLE = ("open", "closed", "drawn", "ran")
 # Before a withdrawal, and before a note that somebody leaves.
 NOT_WITHIN = N_("You cannot take it back within this round. The only ways are to go back to the copy from before, or to give the "
                 "whole round up.")
+STILL_KEPT = N_("Kept lists and copies still hold names and keys. Blank the lists on the page Lists in.")
 COPY_FIRST = N_("The keeper makes a copy of the office first. The page Copies brings you back to it; what happens after "
                 "the copy is then lost.")
 

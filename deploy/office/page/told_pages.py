@@ -5,6 +5,7 @@ All of it is public, and can be changed at any time. None of it is in the office
 
 import base64
 import re
+from collections.abc import Collection
 from typing import Any, NamedTuple
 
 from languages import N_, _, languages, ngettext
@@ -43,6 +44,11 @@ def told_now() -> tuple[dict[str, Any], dict[str, str]]:
     """What residents read now, and its marks."""
     found = ask("told")
     return found["told"], found["marks"]
+
+
+def how_many_seen(office: Office, rooms: Collection[str]) -> int:
+    """Of how many of these rooms residents see what is said: of those in the register."""
+    return sum(code in office.rooms for code in rooms)
 
 
 def languages_of(notice: dict[str, str]) -> dict[str, str]:
@@ -126,9 +132,11 @@ def bring_rooms() -> None:
     job: Any = memory.held(clerk(), name)
     if not isinstance(job, Job):
         tell("bad", _("The page no longer holds this list. Nothing was changed now: send it again."))
-    elif tell_keeper("tell-rooms", ngettext("The descriptions of {count} rooms are on the residents' page.",
-                                            "The descriptions of {count} rooms are on the residents' page.", len(job.rooms)),
-                     rooms=job.rooms, saw=job.mark):
+        go_to(PLACE)
+    count = how_many_seen(office_now(), job.rooms)
+    if tell_keeper("tell-rooms", ngettext("The descriptions of {count} rooms are on the residents' page.",
+                                          "The descriptions of {count} rooms are on the residents' page.", count),
+                   rooms=job.rooms, saw=job.mark):
         memory.let_go(clerk(), name)
     go_to(PLACE)
 
@@ -136,12 +144,13 @@ def bring_rooms() -> None:
 @app.get(f"{PLACE}/rooms/drop")
 def ask_drop_rooms() -> str:
     """Asks before all descriptions go."""
-    told, marks = told_now()
+    office, (told, marks) = office_now(), told_now()
+    count = how_many_seen(office, told["rooms"])
     says = [ngettext("The residents' page no longer says anything of {count} rooms. Pictures stay.",
-                     "The residents' page no longer says anything of {count} rooms. Pictures stay.", len(told["rooms"])),
+                     "The residents' page no longer says anything of {count} rooms. Pictures stay.", count),
             _("You cannot take it back here: to have the descriptions again, send your list again.")]
-    return put_question(office_now(), Question(_("Take all descriptions away?"), says, _("Yes: take them away"), PLACE,
-                                               saw=marks["rooms"]))
+    return put_question(office, Question(_("Take all descriptions away?"), says, _("Yes: take them away"), PLACE,
+                                         saw=marks["rooms"]))
 
 
 @app.post(f"{PLACE}/rooms/drop")
