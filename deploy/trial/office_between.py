@@ -16,7 +16,6 @@ sys.dont_write_bytecode = True
 from mail_server import MailServer
 from office_mail import FORM, mail_of, press, rest, settle_mail
 from office_requests import Page, hand_in
-from office_sheets import bring_in
 from stand import Stand, check, key_of
 
 ROOMS = ["A-1", "A-2", "A-3"]

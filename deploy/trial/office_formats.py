@@ -96,9 +96,9 @@ def try_numbers(stand, page):
 
 def try_formulas(stand, page):
     """A formula whose result is not in the file, as scripts write it, is a fault, and no empty field."""
-    before = people(stand)
-    for form, make in (("Excel", workbooks.xlsx), ("LibreOffice", workbooks.ods)):
-        shown = send(page, "people", "formulas", make([["id", "name", "room"], ["F1", "Form Ula", "=A1"], ["F2", "Li Wei", None]]))
+    before, sheet = people(stand), [["id", "name", "room"], ["F1", "Form Ula", "=A1"], ["F2", "Li Wei", None]]
+    for form, book in (("Excel", workbooks.xlsx(sheet)), ("LibreOffice", workbooks.ods(sheet))):
+        shown = send(page, "people", "formulas", book)
         check(f"a formula without a result in a workbook of {form} is refused by its place", people(stand) == before
               and "The formula in the cell C2 has no result in this file." in shown and 'name="held"' not in shown, shown)
 
