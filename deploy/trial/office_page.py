@@ -45,7 +45,7 @@ def open_round(clerk, stand, college):
     clerk.try_list("choices", college.write("choices.csv", ["person", "choices"], [["R001", "A-101"], *by_office]))
     clerk.reads("1 of these people has another list on record already")
     clerk.shot("12-replaces")
-    clerk.press("Bring in only the people without a list")
+    clerk.press("Bring in only the people who have no other list")
     clerk.reads("The list is in, with 60 lines.")
     check("the resident's own list stays", stand.ask(ask="view")["choices"]["R001"] == college.choices["R001"])
     clerk.try_list("choices", college.write("choices.csv", ["person", "choices"], by_office), label="choices-1")
