@@ -1,19 +1,27 @@
-"""What the office keeps of one person: in its file, in the kept copies, and in the journal. No key is in it."""
+"""What the office keeps of one person: in its file, in the kept copies, in the journal, and in texts that clerks have written.
+No key is in it.
+"""
 
 import contextlib
 import json
 import re
 import sqlite3
+from collections.abc import Callable
 from pathlib import Path
 from typing import Any
 
 from copies import kept_copy
 from languages import _
+from machine_backup import KEPT
+from mail_book import Book
+from naming import Names, Place, in_mails, in_told
 from office import Office
-from rows import records_of
+from rows import names_in, records_of
+from settings import Fault
 
 # The columns of an imported list that are shown; that of the key in a list of people is not.
 KEY_COLUMN = {"people": 2}
+NAME_COLUMN = 1  # of a list of people
 
 
 def records_in(database: sqlite3.Connection, person: str) -> list[list[Any]]:
@@ -34,18 +42,25 @@ def kept_in(file: Path, person: str) -> dict[str, Any]:
         return {"lists": records_in(database, person), "moves": moves.fetchall()}
 
 
-def has_person(file: Path, person: str) -> bool:
-    """Whether a kept copy has a person, in its register or in a kept list. One that was damaged may have everybody."""
+def names_on(records: list[list[Any]]) -> set[str]:
+    """The names of a person on kept lists of people."""
+    return {fields[NAME_COLUMN] for _label, kind, fields in records if kind == "people" and len(fields) > NAME_COLUMN}
+
+
+def traces_in(file: Path, person: str) -> tuple[bool, set[str]]:
+    """Whether a kept copy has a person, in its register or else in a kept list, and under which names. One that was damaged may
+    have everybody."""
     try:
         with kept_copy(file) as database:
-            known = database.execute("SELECT 1 FROM person WHERE id = ?", (person,)).fetchone()
-            return bool(known or records_in(database, person))
+            known = {name for name, in database.execute("SELECT name FROM person WHERE id = ?", (person,))}
+            records = [] if known else records_in(database, person)
+            return bool(known or records), known | names_on(records)
     except sqlite3.Error:
-        return True
+        return True, set()
 
 
-def entries_of(journal: Path, person: str) -> list[dict[str, Any]]:
-    """The entries of the whole journal that name a person, each change as one."""
+def entries_of(journal: Path, person: str, names: Names) -> list[dict[str, Any]]:
+    """The entries of the whole journal that name a person, each change as one; and notes of clerks that have one of these names."""
     named, found = re.compile(rf"(?<![A-Za-z0-9]){re.escape(person)}(?![A-Za-z0-9])"), []
     changes: dict[str, dict[str, Any]] = {}
     with contextlib.suppress(FileNotFoundError), open(journal, "rb") as lines:
@@ -57,19 +72,36 @@ def entries_of(journal: Path, person: str) -> list[dict[str, Any]]:
                 number = str(entry.get("n", ""))
                 if number in changes:
                     changes[number].update({name: entry[name] for name in ("line", "answer", "status") if name in entry})
-                elif any(named.search(str(entry.get(part, ""))) for part in ("line", "note", "answer")):
+                elif (any(named.search(str(entry.get(part, ""))) for part in ("line", "note", "answer"))
+                      or names.are_in(str(entry.get("note", "")))):
                     found.append(entry)
                     if number:
                         changes[number] = entry
     return found
 
 
-def about(office: Office, person: str) -> dict[str, Any]:
-    """All that the office keeps of a person, beside the rows that are shown."""
+def texts_with(office: Office, book: Book, names: Names) -> dict[str, Any]:
+    """Which texts that clerks have written have one of these names, and which file could not be looked into."""
+    found, faults = list[Place](), list[str]()
+    looks: list[Callable[[], list[Place]]] = [lambda: in_told(office.told.read(), names), lambda: in_mails(book, names)]
+    for look in looks:
+        try:
+            found += look() if names else []
+        except Fault as fault:
+            faults.append(str(fault))
+    return {"places": found, "looked": bool(names), "fault": " ".join(faults)}
+
+
+def about(office: Office, book: Book, person: str) -> dict[str, Any]:
+    """All that the office keeps of a person, beside the rows that are shown; and for how long backups of the machine may have it.
+    Texts may have any name that was under the identifier: the office no longer knows whether it was somebody else's."""
     with office.copies.copied() as copy:
-        kept = kept_in(copy, person)
+        kept, register = kept_in(copy, person), names_in(copy)
     backups = office.backups
-    names = [name for name in backups.names() if has_person(backups.file_of(name), person)]
-    stays = backups.stays(backups.days())
-    return {**kept, "copies": [[name, stays[name].until] for name in names if name in stays],
-            "journal": entries_of(office.settings.journal, person)}
+    traces = {name: traces_in(backups.file_of(name), person) for name in backups.names()}
+    names = Names({register.get(person, ""), *names_on(kept["lists"]), *(one for _has, found in traces.values() for one in found)})
+    days = backups.days()
+    stays = backups.stays(days)
+    return {**kept, "copies": [[name, stays[name].until] for name, (has, _names) in traces.items() if has and name in stays],
+            "journal": entries_of(office.settings.journal, person, names), "texts": texts_with(office, book, names),
+            "backups": {"folder": str(office.settings.place.backups), "most": KEPT, "days": days}}

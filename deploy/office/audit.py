@@ -196,7 +196,7 @@ class Audit:  # pylint: disable=too-many-instance-attributes  # others read what
         grade = f", with grade {self.grade.get(person, 0)}" if self.grade else ""
         said = [f"{person} was number {found.place} of {len(self.order)} in the drawn order{grade}, and had "
                 + (f"the room {home}, which nobody could take away." if home else "no room."),
-                f"The list of {person} was {' '.join(listed)}." if listed else f"{person} had no list."]
+                f"The list of {person} was {' '.join(listed)}." if listed else f"{person} had no list, or an empty one."]
         said += [f"{room} did not count: {cause}." for room, cause in found.struck]
         for gone in found.gone:
             said.append(f"{gone.room}, choice {gone.choice}, went in step {gone.step} to {gone.to}, " + (

@@ -69,6 +69,16 @@ class BesideRegister:
         except Fault:
             return people
 
+    def kept_of(self, people: set[str]) -> list[tuple[str, str, str, list[str]]]:
+        """Address, language and accounts of these people, as far as they can be read: what they have by now may be another clerk's
+        work."""
+        with contextlib.suppress(Fault):
+            addresses, languages = self.post.book.addresses(), self.languages.kept().residents
+            accounts = self.accounts.kept().people
+            return [(one, addresses.get(one, ""), languages.get(one, ""),
+                     sorted(name for name, who in accounts.items() if who == one)) for one in sorted(people)]
+        return []
+
     def let_go(self, gone: Iterable[str]) -> None:
         """Erases all of people who are out of the register. If one file fails, the others are changed all the same, and the next
         keeper tries again."""

@@ -5,17 +5,14 @@ its place: how many changes came before it in the journal, those of other branch
 """
 
 import datetime
-import re
 from collections.abc import Iterable, Iterator
 from typing import NamedTuple
 
 import times
-from journal import NOT_KNOWN
-from seeds import Entry, lines_of, merged
+from happened import DONE, NOT_DONE, WENT_BACK, Entry, Happened, Known, kept_at, lines_of, merged, said_of
 
 SECOND = datetime.timedelta(seconds=1)
 LATEST = datetime.datetime.max.replace(tzinfo=datetime.timezone.utc) - SECOND
-WENT_BACK = re.compile(r"back (\S+?)(?:,|$)")
 REMOVED = ("remove", "forget")  # the lines after which an identifier can be another person's
 
 
@@ -113,10 +110,12 @@ class Branches:
         """The copies that were kept before the ways back, the last one first."""
         return (way.before for way in reversed(self.ways.values()) if way.before)
 
-    def removed_since_settled(self) -> set[str]:
+    def removed_since_settled(self, now: Known) -> set[str]:
         """Who was removed since the last round was settled. Who has come in again since then did not leave in that round."""
-        settled = [str(entry["copy"]) for entry in self.entries
-                   if is_done(entry) and entry.get("copy") and "settle" in lines_of(entry)]
+        happened = Happened(self.entries, now)
+        entries = (self.entries[step.place] for step, outcome in zip(happened.steps, happened.outcomes)
+                   if outcome is DONE and step.verb == "settle")
+        settled = [str(entry["copy"]) for entry in entries if entry.get("copy")]
         return named_in(self.fork(settled[-1]).before_other, *REMOVED) if settled else set()
 
 
@@ -127,18 +126,11 @@ def named_in(entries: Iterable[Entry], *verbs: str) -> set[str]:
 
 
 def is_done(entry: Entry) -> bool:
-    """Whether a change was carried out, for all that is known."""
-    return entry.get("status") == 0
+    """Whether the journal says that a change was carried out."""
+    return said_of(entry) is DONE
 
 
 def went_back_to(entry: Entry) -> str:
     """To which copy the office went back by a change, or may have done so when the keeper was ended; nothing if it did not."""
-    if is_done(entry) or entry.get("answer") == NOT_KNOWN:
-        found = WENT_BACK.match("; ".join(lines_of(entry)))
-        return found[1] if found and times.moment_of(found[1]) else ""
-    return ""
-
-
-def kept_at(entry: Entry) -> str:
-    """The copy that was kept just before a change, or that somebody asked for; nothing if there is none."""
-    return str(entry.get("copy") or (entry.get("answer", "") if entry.get("line") == "backup" else ""))
+    found = WENT_BACK.match(str(entry.get("line", ""))) if "answer" in entry and said_of(entry) is not NOT_DONE else None
+    return found[1] if found and times.moment_of(found[1]) else ""

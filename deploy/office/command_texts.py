@@ -1,5 +1,8 @@
 """What the office's command prints of what is on record: an office, a person, lists, the journal."""
 
+import contextlib
+import csv
+import io
 from typing import Any
 
 from lines import on_one_line
@@ -7,7 +10,7 @@ from register import going_in, takes_part, withdrawn_in
 
 
 def office_text(rows: dict[str, Any]) -> str:
-    """How far the round is, and who has handed in no list."""
+    """How far the round is, and who has no list on record, or an empty one."""
     away, going = withdrawn_in(rows), going_in(rows)
     without = [person for person in takes_part(rows) if person not in rows["choices"]]
     states = [bool(shut) for _, shut, _ in rows["rooms"]]
@@ -45,13 +48,28 @@ def lists_text(rows: dict[str, Any]) -> str:
     return "".join(["person,choices\n", *(f"{person},{' '.join(rooms)}\n" for person, rooms in lists)])
 
 
+def row_text(answer: str, body: bytes) -> str:
+    """After `BadRecord N`, with N from 1: in which row of the spreadsheet the record is, and whose it is; else nothing."""
+    words = answer.split()
+    if words[:3] != ["refused", "15", "BadRecord"] or words[3] == "0":
+        return ""
+    with contextlib.suppress(csv.Error, IndexError):  # of a file that is no list
+        rows = enumerate(csv.reader(io.StringIO(body.decode("utf-8-sig", "replace"), newline="")), 1)
+        row, fields = [(row, fields) for row, fields in rows if fields][int(words[3])]
+        # A longer first field is no identifier and no code: it may be a key in the wrong column.
+        return f"record {words[3]} is row {row} of the list" + (f", {fields[0]}" if len(fields[0]) <= 12 else "")
+    return ""
+
+
 def about_text(kept: dict[str, Any]) -> str:
-    """All that is kept of a person besides what is on record: moves, imported lists, copies, mail, language, account and
-    journal."""
-    mail, language, account = kept["mail"], kept["language"]["own"], kept["account"]["own"]
+    """All that is kept of a person besides what is on record: moves, imported lists, copies, mail, language, account,
+    journal, and which texts of clerks have their name."""
+    mail, language, account, backups = kept["mail"], kept["language"]["own"], kept["account"]["own"], kept["backups"]
     lines = [f"move {number} {old or 'none'} {new or 'none'}" for number, old, new in kept["moves"]]
     lines += [f"list {label} {kind} {','.join(fields)}" for label, kind, fields in kept["lists"]]
     lines += [f"copy {name} until {until}" for name, until in kept["copies"]]
+    lines += [f"backups {backups['folder']}: at most {backups['most']}, for at most {backups['days']} days"]
+    lines += [" ".join(["name in", *filter(None, place)]) for place in kept["texts"]["places"]]
     lines += [f"mail address {mail['address']}"] if mail["address"] else []
     lines += [f"mail {at} {kind} of round {number}, {state}" for kind, number, state, at in mail["sent"]]
     lines += [f"language {language}"] if language else []

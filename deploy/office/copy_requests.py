@@ -5,10 +5,12 @@
 | backup, backups | | name; backups: name, bytes and reason of each; days: how long one stays at most; stays: of each |
 | days | days, only_try; was: their number as the sender saw it | gone: how many copies are older, and are deleted |
 | compare | name | what becomes of people by going back to a copy (`compared` in parting.py); forgotten: of who comes back |
+| | | date: whether that of the round is forgotten; mark: of what would be undone, as `back` takes it |
 | given-up | name of a copy, or none | rounds: copy, number, phase of each; or what that one had, and what has changed since |
-| back | name, seen, newer_keys | name: of the copy of the office of before; what has become of people, if it could be read |
+| back | name, seen, mark, newer_keys | name: of the copy of the office of before; what has become of people, if it could be read |
 """
 
+import functools
 import threading
 from collections.abc import Callable
 
@@ -19,13 +21,21 @@ from dates import Dates
 from given_up import given_up
 from going_back import GoingBack
 from job import Job, is_other, seen_in, text
-from languages import _
+from languages import N_, _
 from office import Office
 from parting import Parting
 from program import is_refused
 from rows import rows_of
+from seen import why_stale
 from settings import Fault
+from told import mark_of
 from worker import Change, Worker
+
+CHANGED = N_("The office was changed after you looked, so the way back would undo something else than you have read. Nothing was "
+             "changed by you: look again, and decide again.")
+RESTARTED = N_("The office's keeper was started anew after you looked, so nobody knows whether keys were changed meanwhile. "
+               "Nothing was changed by you: look again, and decide again.")
+OF_LISTS = ("lists", "newest", "lost")  # what becomes of residents' lists
 
 
 class CopyRequests:
@@ -68,13 +78,33 @@ class CopyRequests:
 
     def compare(self, job: Job) -> Job:
         """What becomes of people, if the office goes back to a kept copy."""
-        name, now = text(job, "name"), self.worker.view.rows()
-        branches = Branches(self.journal.entries(whole=True))
+        return self.compared(text(job, "name"))
+
+    def compared(self, name: str, still: bool = False) -> Job:
+        """What becomes of people, with a mark of what would be undone.
+
+        Residents hand in lists all the time. A list is in no mark, or no yes would come in time: the answer to it names whose list
+        does not count any more. But if the office itself puts one on record, the mark is another one.
+        """
+        now, branches = self.worker.view.rows(still), Branches(self.journal.entries(whole=True))
         with self.backups.taken_out(name) as copy:
-            found = Parting(self.office, branches, name).compared(rows_of(copy), now)
-        forgotten = named_in(branches.entries, "forget")
-        return {**found, "gone": sorted(self.beside.with_something(set(found["gone"]))),
-                "forgotten": [person for person, _name in found["come"] if person in forgotten]}
+            then = rows_of(copy)
+            found = Parting(self.office, branches, name).compared(then, now)
+        gone, forgotten, until = set(found["gone"]), named_in(branches.entries, "forget"), self.dates.until
+        goes = until is not None and not until.is_of(then)
+        found |= {"gone": sorted(self.beside.with_something(gone)), "date": goes,
+                  "forgotten": [person for person, _name in found["come"] if person in forgotten]}
+        by_hand = sum(bool(named_in([entry], "choose")) for entry in branches.entries)
+        seen = {**now, "choices": by_hand}, {**found, **dict.fromkeys(OF_LISTS)}
+        return {**found, "mark": f"{mark_of([*seen, self.beside.kept_of(gone), until if goes else None])}-{now['run']}"}
+
+    def why_other(self, name: str, seen: str | None, mark: str | None, still: bool = False) -> str:
+        """Why the office does not go back, or nothing: its sender has read of another state of the round, or something else of what
+        would be undone. Who says nothing of both may go back from an office that nobody can read."""
+        why = why_stale(self.worker.rows(still), seen, None) if seen is not None else ""
+        if why or mark is None or mark == (known := self.compared(name, still)["mark"]):
+            return why
+        return _(CHANGED if mark.partition("-")[2] == known.partition("-")[2] else RESTARTED)
 
     def given_up(self, job: Job) -> Job:
         """The rounds that were given up, or what one of them had."""
@@ -82,10 +112,13 @@ class CopyRequests:
 
     def put_back(self, job: Job) -> Job:
         """Puts a kept copy in the office's place. The present office is copied before, even if it is damaged."""
-        name = text(job, "name")
+        name, seen = text(job, "name"), seen_in(job)
+        look = functools.partial(self.why_other, name, seen, text(job, "mark") if "mark" in job else None)
+        if why := look():
+            raise Fault(why)
         way = GoingBack(self.office, self.beside, name, bool(job.get("newer_keys")))
-        change = self.worker.change(Change(job["who"], way.line, way.carry_out, whole=True, kind=BACK,
-                                           before=f"back {name}", damaged=True, seen=seen_in(job), before_put=way.erase))
+        change = self.worker.change(Change(job["who"], way.line, way.carry_out, whole=True, kind=BACK, before=f"back {name}",
+                                           damaged=True, why_not=lambda: look(still=True), before_put=way.erase))
         if is_refused(change.answers):
             said = change.answers[-1].text.strip()
             raise Fault(_("the program does not take this copy ({said}). Nothing was changed.", said=said))

@@ -18,7 +18,7 @@ from typing import NamedTuple
 
 import times
 from job import Job
-from languages import N_, _
+from languages import N_, Said, _, again, what_says
 from mail_why import FAILED
 from office import Office
 from placing import replace_file
@@ -36,17 +36,6 @@ CHANGED = N_("Another date was set since you opened the page. Nothing was change
 NOT_OPEN = N_("No round is open, so no date can be set. Nothing was changed.")
 LOST = N_("the date until which lists are taken is lost: the file {file} is damaged. Set the date again.")
 ANSWERED = N_("the program answered: {answer}")
-
-
-class Why(NamedTuple):
-    """What went wrong while no clerk asked: a text in English, and its values. A clerk reads it in their language."""
-
-    text: str
-    values: dict[str, object]
-
-    def told(self) -> str:
-        """In the language that is spoken."""
-        return _(self.text, **self.values)
 
 
 class Until(NamedTuple):
@@ -128,13 +117,13 @@ class Dates:
     def __init__(self, office: Office, worker: Worker) -> None:
         self.office, self.worker, self.lock = office, worker, threading.Lock()
         self.until: Until | None = None
-        self.fault = Why("", {})  # why there is no date, or why the round could not be closed
+        self.fault = ""  # why there is no date, or why the round could not be closed; a clerk reads it in their language
         self.pause, self.due = OFTEN, 0.0
         self.published: tuple[Until | None, int] | None = None  # what residents read, and when that was written
         try:
             self.until = self.read()
         except Damaged:
-            self.fault = Why(LOST, {"file": office.settings.until})
+            self.fault = _(LOST, file=office.settings.until)
 
     # --- the file
 
@@ -157,7 +146,7 @@ class Dates:
             replace_file(self.office.settings.until, None if until is None else json.dumps(until._asdict()).encode())
         except OSError as fault:
             raise unwritten(N_("the date"), fault) from fault
-        self.until, self.fault, self.pause, self.due = until, Why("", {}), OFTEN, 0.0
+        self.until, self.fault, self.pause, self.due = until, "", OFTEN, 0.0
 
     def publish(self) -> None:
         """Has residents read the date, without its author. If the administrator has put older texts back, they get it too."""
@@ -169,10 +158,19 @@ class Dates:
     # --- what can be asked
 
     def shown(self) -> Job:
-        """The date as clerks see it, and what a form about it needs: the zone of the machine, which may be another one by now."""
+        """The date as clerks see it, why residents do not read it, if so, and what a form about it needs: the zone of the machine,
+        which may be another one by now."""
         until, zone = self.until, zone_name()
         return {"until": until and {**until._asdict(), "past": until.is_past(), "here": until.local_in(zone)},
-                "fault": self.fault.told(), "zone": zone, "mark": mark_of(until)}
+                "untold": self.untold(), "fault": again(self.fault), "zone": zone, "mark": mark_of(until)}
+
+    def untold(self) -> str:
+        """Why residents do not read what is so of the date, or nothing."""
+        try:
+            self.publish()
+        except (Fault, OSError) as fault:
+            return str(fault)
+        return ""
 
     def set(self, job: Job) -> Job:
         """Sets the date of the open round, or takes it away if `at` is empty."""
@@ -190,11 +188,7 @@ class Dates:
             until = self.made(written, zone, rows["number"], closes, job["who"]) if written else None
             with self.office.journal.change(job["who"], spoken_of(until)):
                 self.write(until)
-        try:
-            self.publish()
-        except Fault as fault:
-            return {"untold": str(fault)}
-        return {}
+        return {"untold": why} if (why := self.untold()) else {}
 
     @staticmethod
     def made(written: str, zone: str, number: int, closes: bool, who: str) -> Until:
@@ -218,12 +212,12 @@ class Dates:
         while not self.worker.over:
             try:
                 self.look()
-                if self.fault.text == FAILED:
-                    self.fault = Why("", {})
+                if isinstance(self.fault, Said) and self.fault.text == FAILED:
+                    self.fault = ""
             except (Fault, OSError, sqlite3.Error):  # it looks again
                 pass
             except Exception as fault:  # pylint: disable=broad-except  # whatever it is, the next look may close the round
-                self.fault = Why(FAILED, {"kind": type(fault).__name__})
+                self.fault = _(FAILED, kind=type(fault).__name__)
             time.sleep(OFTEN)
 
     def look(self) -> None:
@@ -258,10 +252,10 @@ class Dates:
                         seen=stamp_of(until.round, "open"))
         try:
             answers = self.worker.change(change).answers
-            fault = Why(ANSWERED, {"answer": answers[-1].text.strip()}) if is_refused(answers) else None
+            fault = _(ANSWERED, answer=answers[-1].text.strip()) if is_refused(answers) else ""
         except (Fault, OSError, sqlite3.Error) as why:
-            fault = Why(str(why), {})
-        if fault is None:
+            fault = what_says(why)
+        if not fault:
             self.forget()
             return
         self.fault, self.due = fault, time.monotonic() + self.pause

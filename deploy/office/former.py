@@ -9,17 +9,17 @@ import contextlib
 import json
 import re
 import sqlite3
-from collections.abc import Callable, Iterator
+from collections.abc import Callable, Collection, Iterator
 from pathlib import Path
 
 from branches import REMOVED, is_done, named_in
 from copies import kept_copy
+from happened import Entry
 from languages import _
 from lines import IDENTIFIER
 from office import Office
 from program import Answer, is_refused
 from rows import names_in, records_of
-from seeds import Entry
 from settings import Fault
 
 Names = dict[str, str]  # by identifier; an empty one is not known
@@ -32,23 +32,35 @@ MOST_NAMED = 20  # in a refusal
 
 
 class WasAnothers(Fault):
-    """People come under identifiers that were somebody else's: each identifier, with that person's name."""
+    """People come under identifiers that were somebody else's: each identifier, with that person's name. Of `removed` the same
+    lines take that person out of the register."""
 
-    def __init__(self, former: list[tuple[str, str]]) -> None:
-        super().__init__(said_of(former))
+    def __init__(self, former: list[tuple[str, str]], removed: Collection[str] = ()) -> None:
+        super().__init__(said_of_many(former, removed) if len(former) > 1 else said_of(*former[0], former[0][0] in removed))
         self.former = former
 
 
-def said_of(former: list[tuple[str, str]]) -> str:
-    """What a clerk reads before people come under identifiers that were somebody else's."""
-    if len(former) > 1:
-        people = ", ".join(f"{person} ({name})" if name else person for person, name in former[:MOST_NAMED])
-        if len(former) > MOST_NAMED:
-            people = _("{people} and more", people=people)
-        return _("These were the identifiers of people who are out of the register: {people}. Moves, lists, copies and the journal "
-                 "still speak of those people under them. If they are the same people, say so. If somebody is another person, "
-                 "give another identifier.", people=people)
-    person, name = former[0]
+def said_of_many(former: list[tuple[str, str]], removed: Collection[str]) -> str:
+    """What a clerk reads before people come under identifiers that were somebody else's. Nothing is changed yet: who is removed
+    by the same lines is still in the register."""
+    people = ", ".join(f"{person} ({name})" if name else person for person, name in former[:MOST_NAMED])
+    if len(former) > MOST_NAMED:
+        people = _("{people} and more", people=people)
+    if any(person in removed for person, _name in former):
+        return _("These are identifiers of people who are out of the register, or whom these lines remove: {people}. Moves, lists, "
+                 "copies and the journal speak of those people under them. If they are the same people, say so. If somebody is "
+                 "another person, give another identifier.", people=people)
+    return _("These were the identifiers of people who are out of the register: {people}. Moves, lists, copies and the journal "
+             "still speak of those people under them. If they are the same people, say so. If somebody is another person, "
+             "give another identifier.", people=people)
+
+
+def said_of(person: str, name: str, is_removed: bool) -> str:
+    """The same of one identifier. Who is removed by the same lines has a name."""
+    if is_removed:
+        return _("{person} is the identifier of {name}, whom these lines remove. Moves, lists, copies and the journal speak of "
+                 "that person under it. If this is the same person, say so. If it is somebody else, give another identifier.",
+                 person=person, name=name)
     if name:
         return _("{person} was the identifier of {name}, who is out of the register. Moves, lists, copies and the journal still "
                  "speak of that person under it. If this is the same person, say so. If it is somebody else, give another "
@@ -89,7 +101,7 @@ class Former:
         former = self.names_of(come.keys() - before.keys())
         former.update((person, before[person]) for person in come.keys() & before.keys())
         if asked := [(person, former[person]) for person in sorted(former) if not is_same(former[person], come[person])]:
-            raise WasAnothers(asked)
+            raise WasAnothers(asked, before.keys())
 
     def names_of(self, people: set[str]) -> Names:
         """Those of these people, who are not in the register, whose identifiers were somebody's, with the name in the newest copy

@@ -37,7 +37,7 @@ def saw_in(job: Job) -> Saw | None:
     if job.get("saw") is None:
         return None
     part, people, mark = job["saw"]
-    if part not in PARTS or not are_texts(people):
+    if part not in PARTS or not are_texts(people) or not isinstance(mark, str):
         raise Fault("not understood: saw is no part of what is on record of people")
     return Saw(part, people, mark)
 

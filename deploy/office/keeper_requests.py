@@ -11,10 +11,12 @@
 | export | kind | answers |
 | figures | | rounds: number, day and tables of each published round (figures_counted.py); damaged: the file, if it is damaged |
 | record | | body: the public record of the round |
+| seeds | | found: the seeds that were noted in this round; drawn: that of the draw; since (all by `Seeds` in seeds.py) |
 | blank | label, seen | blanked: the label |
 | correct | person, name or key or both, seen, saw | corrected: the person; copy |
 | keys | keys: by person, seen, saw | corrected: how many; copy |
-| about | person | lists, moves, copies, journal: what names the person (about.py); mail; language; account: theirs |
+| about | person | lists, moves, copies, journal: what names the person (about.py); mail; language; account: theirs; |
+| | | texts: places that have their name (naming.py), looked, fault; backups: folder, most, days |
 | forget | person, seen, saw | as `do`: the person is removed, and the lists that name them are blanked |
 | note, journal | line; last | nothing; journal: the last entries; whole: whether no entry is too old to be had |
 | blank-journal | | blanked: how many lines of the journal had wishes, or an answer that may have had names |
@@ -48,17 +50,20 @@ from dates import Dates
 from disk import short_of_room
 from figures_kept import Before
 from former import Former, WasAnothers
+from given_up import round_in
+from happened import Known
 from history import history
 from job import Job, again_in, body_of, identifier_in, lines_of, saw_in, seen_in, text
 from journal import masked, masked_line, masked_note, spoken_of
 from languages import ENGLISH, _, speaking
 from languages_kept import LanguageRequests
-from lines import BY_SEED, gone_by, name_shows_a_key, named, only_reads, reason_to_copy, verb_of
+from lines import BY_SEED, gone_by, name_shows_a_key, named, only_reads, verb_of
 from mail import Post
 from office import Office
 from program import NOT_UNDERSTOOD, Answer, correct, is_refused
 from register import homes_in, takes_part
 from rows import identifiers_in, rows_of
+from seeds import noted_seeds
 from seen import Rows
 from settings import Fault
 from watching import watch
@@ -85,6 +90,11 @@ def told_of(change: Change) -> Job:
             "copy": change.copy}
 
 
+def known_of(rows: Rows) -> Known:
+    """The number and the phase of the round."""
+    return rows["number"], rows["phase"]
+
+
 def only(answer: Answer) -> Job:
     """One answer that changed nothing."""
     return {"answers": [answer], "done": False}
@@ -102,7 +112,7 @@ class Requests:
         self.known: dict[str, Callable[[Job], Job]] = {
             "view": self.view, "watch": lambda _job: watch(self.office, self.worker), "try": self.try_out,
             "do": self.do_lines, "draw": self.draw, "import": self.bring_in, "export": self.export,
-            "record": self.record, "blank": self.blank, "note": self.note,
+            "record": self.record, "seeds": self.seeds, "blank": self.blank, "note": self.note,
             "journal": self.show_journal, "blank-journal": self.blank_journal, "correct": self.correct,
             "keys": self.new_keys, "forget": self.forget, "about": self.about,
             **CopyRequests(office, worker, self.dates, self.beside).requests(),
@@ -129,7 +139,7 @@ class Requests:
     def view(self, _job: Job) -> Job:
         """The office as it is now."""
         rows = self.worker.rows()
-        again = Branches(self.journal.entries()).removed_since_settled() if rows["left"] else set()
+        again = Branches(self.journal.entries()).removed_since_settled(known_of(rows)) if rows["left"] else set()
         return {**rows, "left": [row for row in rows["left"] if row[0] not in again],
                 "server": self.worker.server is not None, "status": self.worker.status,
                 "ended": self.worker.ended(), "until": self.dates.shown(), "mail": self.post.is_on(),
@@ -138,7 +148,7 @@ class Requests:
     def about(self, job: Job) -> Job:
         """All that is kept of a person."""
         person = identifier_in(job)
-        return {**about(self.office, person), "mail": self.post.about(person),
+        return {**about(self.office, self.post.book, person), "mail": self.post.about(person),
                 "language": self.office.languages.about(person), "account": self.accounts.about(person)}
 
     def try_out(self, job: Job) -> Job:
@@ -167,12 +177,22 @@ class Requests:
             rows = rows_of(copy)
             try:
                 with speaking(ENGLISH):
-                    told_before = history(list(self.journal.entries()), self.journal.is_whole(), rows["number"], rows["settled"])
+                    told_before = history(list(self.journal.entries()), self.journal.is_whole(), known_of(rows), rows["settled"],
+                                          self.round_of)
                     body = record.record(copy, self.journal.seeds(), told_before)
             except record.Refused as why:  # record.py has its texts in English, since it also works without the keeper
                 raise Fault(_("there is no record: {why}", why=_(why.text, **why.values))) from why
         self.journal.note(who=job["who"], line="the public record was taken")
         return {"body": body}
+
+    def seeds(self, _job: Job) -> Job:
+        """The seeds that were noted in the round of now."""
+        now = known_of(self.worker.view.rows())
+        return noted_seeds(list(self.journal.entries()), self.journal.is_whole(), now, self.round_of)._asdict()
+
+    def round_of(self, copy: str) -> Known | None:
+        """The number and the phase of the round in a kept copy, if it is still there."""
+        return round_in(self.office.backups.file_of(copy))
 
     # --- changing
 
@@ -186,8 +206,6 @@ class Requests:
             answers = self.try_out(job)["answers"]
             return {"answers": answers, "done": not is_refused(answers)}
         kind = "lines" if len(lines) > 1 else verb_of(lines[0])
-        if not reason_to_copy(lines, self.worker.view.rows()["choices"]):
-            kind = ""
         before, removed = Before(self.copies.file), named(lines, "remove")
         reply: Job = {}
 

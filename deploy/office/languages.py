@@ -133,24 +133,46 @@ def first_of(wanted: Iterable[str]) -> str:
 
 
 class Said(str):
-    """A text in another language, which knows what it is in English."""
+    """A text with its values in a language, which knows what it is in English, and can be said again in another language."""
 
-    english: str
+    text: str
+    values: dict[str, object]
+
+    @property
+    def english(self) -> str:
+        """In English."""
+        return filled(self.text, {name: in_english(one) if is_said(one) else one for name, one in self.values.items()})
+
+
+def is_said(value: object) -> bool:
+    """Whether a value may be in a language: a text that was said, or a fault that says one."""
+    return isinstance(value, (Said, Exception))
+
+
+def what_says(said: object) -> str:
+    """A text, or what a fault says."""
+    text = said.args[0] if isinstance(said, Exception) and len(said.args) == 1 else said
+    return text if isinstance(text, str) else str(text)
 
 
 def in_english(said: object) -> str:
     """A text, or what a fault says, in English."""
-    text = said.args[0] if isinstance(said, Exception) and len(said.args) == 1 else said
-    return text.english if isinstance(text, Said) else str(said)
+    text = what_says(said)
+    return text.english if isinstance(text, Said) else text
+
+
+def again(said: object) -> str:
+    """A text, or what a fault says, in the language that is spoken now. One that counts is in English."""
+    text = what_says(said)
+    if not isinstance(text, Said):
+        return text
+    return _(text.text, **{name: again(one) if is_said(one) else one for name, one in text.values.items()})
 
 
 def said_of(text: str, other: str, values: dict[str, object]) -> str:
     """A translation with its values."""
-    if other == text:
-        return filled(text, values)
-    said = Said(Filler().format(other, **values) if values else other)
-    said.english = filled(text, {name: in_english(one) if isinstance(one, (Said, Exception)) else one
-                                 for name, one in values.items()})
+    said = Said((Filler().format(other, **values) if values else other) if other != text else filled(text, values))
+    said.text, said.values = text, values
     return said
 
 

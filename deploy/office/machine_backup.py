@@ -25,6 +25,7 @@ from told_files import is_own
 FILE, ABOUT, SUMS = "rooms.db", "about.json", "SHA256SUMS"
 STATE, TOLD, FILES = "state", "told", "files"
 FORMAT = 1
+KEPT = 7  # backups in the machine's own folder for them
 # What `rooms-restore --with` brings beside the office's file.
 PARTS = {
     "journal": "the journal: who changed what, and the seeds of the draws",

@@ -228,6 +228,9 @@ class Post:  # pylint: disable=too-many-instance-attributes  # the parts of the 
         """Lets those get a receipt of whom nobody knows whether they have it."""
         if not job.get("only"):
             raise Fault("not understood: a receipt is for the one whose list has changed")
+        wanted = self.receipts.book.wanted()
+        if not wanted.on or wanted.round != number:
+            raise Fault(_("no receipts are sent now, so none can be sent again. Nothing was changed."))
         with self.journal.change(job["who"], once_more(RECEIPT, number, True)):
             self.receipts.book.forget_uncertain(number)
         return {}

@@ -308,5 +308,5 @@ def forget_old(database: sqlite3.Connection, number: int) -> None:
     database.execute("INSERT INTO setting SELECT ? || kind, max(round) FROM message WHERE round < ? GROUP BY kind "
                      "ON CONFLICT(name) DO UPDATE SET value = max(CAST(value AS INTEGER), CAST(excluded.value AS INTEGER))",
                      (ERASED, number - 1))
-    for table in ("message", "told", "turn"):
+    for table in ("message", "told", "earlier", "turn"):
         database.execute(f"DELETE FROM {table} WHERE round < ?", (number - 1,))

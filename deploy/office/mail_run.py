@@ -151,6 +151,8 @@ class Sender:
             return
         self.book.set_run(ENDED, why)
         now = self.count(run)
+        said = ("how many were sent is not on record any more" if self.book.erased(run.kind, run.round) else
+                f"sent {now[SENT]}, refused {now[REFUSED]}, uncertain {now[UNCERTAIN]}")
         with contextlib.suppress(Fault, OSError):
             self.office.journal.note(who=run.who, line=f"mail {run.kind} of round {run.round} ends{f': {why}' if why else ''}",
-                              answer=f"sent {now[SENT]}, refused {now[REFUSED]}, uncertain {now[UNCERTAIN]}")
+                              answer=said)

@@ -35,8 +35,8 @@ class Text(NamedTuple):
 
 
 class Kind(NamedTuple):
-    """A kind of message: its title, its name within a sentence, to whom it goes, what is said while it cannot be sent, the phase
-    in which it can be, its own placeholders, and its text until the clerk writes another."""
+    """A kind of message: its title, its name within a sentence, to whom it goes, what is said while it cannot be sent by a clerk,
+    the phase in which it can be, its own placeholders, and its text until the clerk writes another."""
 
     title: str
     name: str
@@ -72,8 +72,8 @@ KINDS = {
                 "slip. If you have lost it, ask us for a new one. Your room now: {room}. Without a list, or with an empty one, you "
                 "keep your room; if you have none, you get none.\n\nYour housing office\n"))),
     RECEIPT: Kind(
-        N_("Receipt"), N_("receipt"), N_("everybody whose list on record has changed, some minutes after the last change"),
-        N_("This message goes to everybody whose list on record has changed, while the round is open."), "open",
+        N_("Receipt"), N_("receipt"),
+        N_("everybody whose list on record has changed, or who has withdrawn, some minutes after the last change"), "", "open",
         {"list": N_("a sentence: how many rooms are on the list, or that the person has withdrawn; and since about when. After a "
                     "way back another one before it says if a withdrawal no longer counts. They name no room.")},
         Text(N_("Room exchange: what is on record of you"),

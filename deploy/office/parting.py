@@ -70,15 +70,19 @@ class Parting:
     def compared(self, then: Rows, now: Rows) -> dict[str, Any]:
         """What becomes of people by going back to the copy (differences.py). `others` may be somebody else there, and what the
         keeper has under the identifiers of `gone` may be of somebody else than of that person. Of `keys`, `newer_now` have the
-        newer one now, and `newer_then` in the copy; of `lists`, `newest` have the newest one in the copy."""
+        newer one now, and `newer_then` in the copy; of `lists`, `newest` have the newest one in the copy, and `lost` another one
+        now, which counts no more."""
         found = differences(then, now)
         others = self.others_in(then, now)
         same = {part: [one for one in found[part] if one not in others] if self.base else [] for part in ("keys", "lists")}
         newer_then = self.unchanged(KEYS, same["keys"], now)
         come = {person for person, _name in found["come"]}
+        newest = self.unchanged(LISTS, same["lists"], now)
+        emptied = then["number"] == now["number"] and now["phase"] != "idle"  # who has no list now has taken it back
         return {**found, "others": sorted(others), "gone": sorted(others | self.come_as_others(come)),
                 "newer_now": [one for one in same["keys"] if one not in newer_then], "newer_then": newer_then,
-                "newest": self.unchanged(LISTS, same["lists"], now)}
+                "newest": newest,
+                "lost": [one for one in found["lists"] if one not in newest and (emptied or now[LISTS].get(one))]}
 
     def unchanged(self, part: str, people: list[str], now: Rows) -> list[str]:
         """Of these people, those whose key or list is now what it was in the state in which both part."""

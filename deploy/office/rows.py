@@ -32,6 +32,7 @@ LATER = {
 KEYS = "SELECT id, passkey FROM person"
 # By it a mark of a key says whether the key has changed, and nothing else. It never leaves this process.
 SECRET = secrets.token_bytes(32)
+RUN = secrets.token_hex(4)  # names this process: marks of keys by another one say nothing
 
 
 def identifiers_in(file: Path) -> set[str]:
@@ -72,7 +73,7 @@ def rows_of(file: Path) -> Rows:
                      for person, key in database.execute(KEYS)}
         settled = [number for number, in database.execute("SELECT DISTINCT round FROM move ORDER BY round")]
     return {**rows, "version": version, "number": number, "phase": phase, "choices": choices, "settled": settled,
-            "key_marks": key_marks}
+            "key_marks": key_marks, "run": RUN}
 
 
 class View:  # pylint: disable=too-few-public-methods  # it keeps what it has read

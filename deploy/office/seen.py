@@ -22,6 +22,9 @@ PARTS = {
     "key": N_("The key of {who} was changed after you looked. Nothing was changed by you: decide again."),
     "all": N_("What is on record of {who} was changed after you looked. Nothing was changed by you: decide again."),
 }
+KEYED = ("key", "all")  # parts in which the marks of keys are
+RESTARTED = N_("The office's keeper was started anew after you looked, so nobody knows whether the key of {who} was changed "
+               "meanwhile. Nothing was changed by you: look again, and decide again.")
 BACK = N_("The office went back to a copy after you looked, or was about to. Nothing was changed by you: look again, and decide "
           "again.")
 NEVER = "never"  # has the office gone back
@@ -56,7 +59,7 @@ def state_of(rows: Rows) -> str:
 
 
 def saw(rows: Rows, part: str, people: list[str]) -> Saw:
-    """What rows say of people."""
+    """What rows say of people. A mark with somebody's key in it ends with the run of the keeper: another one has other marks."""
     known, grades = {person: row for person, *row in rows["people"]}, dict(rows["grades"])
     going = set(going_in(rows))
     found: list[Any] = []
@@ -65,7 +68,17 @@ def saw(rows: Rows, part: str, people: list[str]) -> Saw:
         record = {"name": name, "home": home, "grade": grades.get(person, 0), "list": rows["choices"].get(person),
                   "key": rows["key_marks"].get(person), "away": [withdrawn, person in going]}
         found.append(record.get(part, record))
-    return Saw(part, people, hashlib.sha256(json.dumps(found).encode()).hexdigest()[:16])
+    run = f"-{rows['run']}" if part in KEYED and any(person in rows["key_marks"] for person in people) else ""
+    return Saw(part, people, hashlib.sha256(json.dumps(found).encode()).hexdigest()[:16] + run)
+
+
+def why_other(rows: Rows, had: Saw) -> str:
+    """Why what was seen of people is not so any more, or nothing. If the keeper was started anew, nobody knows it of keys."""
+    if had == saw(rows, had.part, had.people):
+        return ""
+    by_another = had.mark.partition("-")[2] not in ("", rows["run"])
+    return _(RESTARTED if by_another else PARTS[had.part],
+             who=had.people[0] if len(had.people) == 1 else _("one of these people"))
 
 
 def why_stale(rows: Rows, seen: str | None, had: Saw | None) -> str:
@@ -76,6 +89,4 @@ def why_stale(rows: Rows, seen: str | None, had: Saw | None) -> str:
     if seen is not None and seen.partition(", back ")[0] != stamp(rows):
         now = _(STATES[rows["phase"]], number=rows["number"])
         return _("the office has gone on: it is at {state} now. Nothing was changed. Look before you go on.", state=now)
-    if had is not None and had != saw(rows, had.part, had.people):
-        return _(PARTS[had.part], who=had.people[0] if len(had.people) == 1 else _("one of these people"))
-    return ""
+    return why_other(rows, had) if had is not None else ""

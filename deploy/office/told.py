@@ -36,6 +36,7 @@ LONGEST = 120_000
 # The fields of a description with their longest texts, in signs.
 FIELDS = {"house": 40, "floor": 20, "size": 20, "rent": 40, "text": 300}
 UNTIL = "until"    # the date until which lists are taken (dates.py)
+GONE = "gone"      # the pictures that went with the last change: a keeper that was killed then has not deleted them
 AMOUNT = "amount"  # the rent as a number, by which residents look for rooms
 LONGEST_NOTICE, LONGEST_CONTACT, LONGEST_CAPTION = 600, 200, 80
 MOST_ROOMS, MOST_PICTURES, MOST_OF_ROOM = 2_000, 2_000, 4
@@ -182,12 +183,13 @@ class Told:
         `saw` nothing is changed if somebody else has changed this part since."""
         with self.lock:
             told = self.read()
-            had = files_in(told)
+            had = files_in(told) | set(told.get(GONE, ()))
             if saw is not None and saw != marks_of(told)[part]:
                 raise Fault(_(CHANGED))
             yield told
+            gone = sorted(had - files_in(told))
             with self.journal.change(who, line):
-                self.write(told)
+                self.write({**{name: value for name, value in told.items() if name != GONE}, **({GONE: gone} if gone else {})})
             with contextlib.suppress(OSError):
                 self.sweep(files_in(told), had)
 
@@ -218,7 +220,8 @@ class Told:
         """Puts away what a killed keeper left. Whatever is wrong there, the office goes on."""
         with contextlib.suppress(Exception):
             (self.folder / PART).unlink(missing_ok=True)
-            self.sweep(files_in(self.read()))
+            told = self.read()
+            self.sweep(files_in(told), told.get(GONE, ()))
 
     # --- what can be asked
 

@@ -20,8 +20,8 @@ import times
 from backups import BACK
 from copies import make_whole
 from journal import spoken_of
-from languages import _, in_english, speaking, spoken
-from lines import NOT_TAKEN
+from languages import _, in_english, speaking, spoken, what_says
+from lines import NOT_TAKEN, reason_to_copy
 from office import Office
 from program import Answer, Unanswered, is_refused
 from register import people_in
@@ -45,7 +45,7 @@ class Change:  # pylint: disable=too-many-instance-attributes  # what is asked f
     line: str                                   # as the journal has it
     carry_out: CarryOut                         # on a copy, or on the office's file
     whole: bool = False                         # on a copy, which then replaces the file: all takes effect or nothing
-    kind: str = ""                              # the kind of the copy that is kept before, or none
+    kind: str = ""                              # the kind of the copy that is kept before, or none; lines may need none
     before: str = ""                            # what the reason of this copy says that it was kept before
     damaged: bool = False                       # even if the office is damaged
     register: Register | None = None            # learns who comes into the register and who leaves, before they do
@@ -55,6 +55,7 @@ class Change:  # pylint: disable=too-many-instance-attributes  # what is asked f
     gone: set[str] = field(default_factory=set)  # who is out of the register after it, if it is not whole
     seen: str | None = None                     # the state in which its sender saw the round
     saw: Saw | None = None                      # what its sender saw of people
+    why_not: Callable[[], str] | None = None    # why it is not made although all this is as it was, or nothing
     language: str = field(default_factory=spoken)  # of its sender
     copy: str | None = None                     # the name of the copy that was kept before
     answers: list[Answer] = field(default_factory=list)
@@ -206,7 +207,7 @@ class Worker:  # pylint: disable=too-many-instance-attributes  # the parts of th
                 self.make(change)
                 change.fault = ""
             except Fault as fault:
-                change.fault = str(fault)
+                change.fault = what_says(fault)
             except (OSError, sqlite3.Error) as fault:
                 change.fault = _("the disk or the memory did not serve ({why}). Look whether this took effect.", why=fault)
             finally:
@@ -224,7 +225,9 @@ class Worker:  # pylint: disable=too-many-instance-attributes  # the parts of th
             saw_something = change.seen is not None or change.saw is not None
             if saw_something and (why := why_stale(self.rows(still=True), change.seen, change.saw)):
                 raise Fault(why)
-            if change.kind:
+            if change.why_not and (why := change.why_not()):
+                raise Fault(why)
+            if self.has_to_copy(change):
                 change.copy = self.backups.keep(change.kind, change.why, still=True, damaged=change.damaged)
                 self.back = change.copy if change.kind == BACK else self.back
             number = self.journal.begin(change.who, change.line, change.copy)
@@ -241,6 +244,11 @@ class Worker:  # pylint: disable=too-many-instance-attributes  # the parts of th
                               isinstance(fault, Unanswered))
                 raise
         self.note_end(change, number, began, change.answers[-1])
+
+    def has_to_copy(self, change: Change) -> bool:
+        """Whether the office is copied before a change. A list that a line would replace may have come while the line waited."""
+        lists = self.view.rows(still=True)["choices"] if change.kind == "choose" else {}
+        return bool(change.kind) and (not change.lines or bool(reason_to_copy(change.lines, lists)))
 
     def prepare(self, change: Change) -> None:
         """Has what is beside the register follow a change of it that is carried out in place."""

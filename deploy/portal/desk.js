@@ -25,10 +25,10 @@ export const stateOf = code => desk.rooms.find(row => row.room === code)?.state 
 export const isChangedElsewhere = () => isChanged() && !isSameList(desk.me.choices, desk.base)
   && !(desk.sent !== null && isSameList(desk.me.choices, desk.sent));
 
-// Takes what the server has on record. A list that was begun in this tab, by this person in this round, stays in the
-// page. Says whether such a list is there, or came too late.
+// Takes what the server has on record. A list that was begun in this tab, by this person, stays in the page, also if another
+// round is open by now. Says whether such a list is there, or came too late.
 export function takeRecord(person, rooms) {
-  const draft = recallDraft(person.person, person.round);
+  const draft = recallDraft(person.person, person.round, person.choices);
   const begun = draft?.list && mayEdit(person) ? draft : null;
   desk.me = person;
   if (rooms) desk.rooms = rooms;

@@ -115,13 +115,15 @@ export const forgetDraft = () => drop(DRAFT);
 
 const isList = value => Array.isArray(value) && value.length <= LONGEST_LIST && value.every(code => typeof code === "string");
 
-// The draft of this person in this round, or nothing: another person's is never shown, and a damaged one is passed
-// over.
-export function recallDraft(person, round) {
+// The draft of this person, or nothing: another person's is never shown, and a damaged one is passed over. A list that was begun in
+// another round, as in one that was given up since, is not lost by that. What was on record or handed in then says nothing of this
+// round; but a list that is on record in it by now is replaced only if the person says so.
+export function recallDraft(person, round, recorded) {
   try {
     const draft = JSON.parse(read(DRAFT));
     const isWhole = isList(draft.base) && [draft.list, draft.sent].every(list => list === null || isList(list));
-    return isWhole && draft.person === person && draft.round === round ? draft : null;
+    if (!isWhole || draft.person !== person) return null;
+    return draft.round === round ? draft : { ...draft, base: recorded.length > 0 ? draft.base : [], sent: null };
   } catch {
     return null;
   }

@@ -220,10 +220,18 @@ async function handIn() {
     return isChanged();
   });
   if (!isThere) return;
-  const answer = isChangedElsewhere() ? await askWhichList() : "replace";
-  if (answer === "replace") await during(sendList);
+  if (!isChangedElsewhere()) {
+    await during(sendList);
+    return;
+  }
+  const answer = await askWhichList();
   if (answer === "keep") undo();
   if (answer === "later") say("elsewhere.waits");
+  if (answer !== "replace") return;
+  // The record is looked at once more: while the question was open, a third list may have been handed in, which nobody has seen.
+  desk.base = desk.me.choices;
+  rememberList();
+  await handIn();
 }
 
 const bothLists = () => [[text("elsewhere.record"), desk.me.choices], [text("elsewhere.here"), desk.list]];

@@ -162,7 +162,7 @@ export const TEXTS = {
     handedInEmpty: "Handed in: an empty list.",
     nothingNew: "Nothing to hand in: this is the list on record.",
     draftBack: "The list that you had begun is still here. It is not handed in yet.",
-    draftLate: "The list that you had begun was not handed in in time. What counts is shown here.",
+    draftLate: "The list that you had begun was not handed in, and can no longer be. What counts is shown here.",
     emptyList: "no rooms",
 
     elsewhere: {
@@ -405,7 +405,7 @@ export const TEXTS = {
     handedInEmpty: "Sie haben eine leere Liste abgegeben.",
     nothingNew: "Es gibt nichts abzugeben: Diese Liste ist schon gespeichert.",
     draftBack: "Ihre begonnene Liste ist noch da. Sie ist noch nicht abgegeben.",
-    draftLate: "Ihre begonnene Liste wurde nicht rechtzeitig abgegeben. Hier steht, was zählt.",
+    draftLate: "Ihre begonnene Liste wurde nicht abgegeben, und das geht nun nicht mehr. Hier steht, was zählt.",
     emptyList: "keine Zimmer",
 
     elsewhere: {
@@ -456,8 +456,8 @@ export const TEXTS = {
       ["Die Reihenfolge wird ausgelost.", "Wenn die Runde geschlossen ist, entscheidet das Los, in welcher Reihenfolge "
         + "alle drankommen. Hat die Wohnheimverwaltung Gruppen angekündigt, so kommen alle aus einer früheren Gruppe "
         + "vor allen aus einer späteren dran."],
-      ["Die Zimmer werden zugeteilt.", "Wer an der Reihe ist, bekommt von seiner Liste das beste Zimmer, das noch da "
-        + "ist. Wohnt dort jemand, so wählt diese Person zuerst und behält ihr Zimmer, wenn sie keines bekommt, das "
+      ["Die Zimmer werden zugeteilt.", "Wer an der Reihe ist, bekommt von der eigenen Liste das beste Zimmer, das noch "
+        + "da ist. Wohnt dort jemand, so wählt diese Person zuerst und behält ihr Zimmer, wenn sie keines bekommt, das "
         + "ihr lieber ist. Zwei Personen, die jeweils das Zimmer der anderen möchten, tauschen; ebenso mehrere im "
         + "Kreis."],
       ["Ihr Ergebnis sehen Sie hier.", "Die Wohnheimverwaltung zeigt alle Ergebnisse zur selben Zeit und sagt dann, "

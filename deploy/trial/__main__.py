@@ -89,6 +89,7 @@ from signin_account import try_signin_account
 from signin_browser import try_signin_browser
 from silent import try_silent
 from stall import try_stall
+from unanswered import try_unanswered
 from unbroken import try_unbroken
 from unread import try_unread
 from waits import try_waits
@@ -108,7 +109,7 @@ def all_parts(program, folder):
         try_office_again, try_office_between, try_office_formats, try_office_sheets, try_office_keys, try_office_forget,
         try_office_wayback, try_office_told, try_office_dates, try_office_figures, try_draws, try_refused, try_office_mail,
         try_office_receipts, try_mail_runs, try_burst, try_limits, try_ciphers, try_memory, try_port, try_stall, try_waits,
-        try_unread, try_office_tried, try_mail_changed, try_mail_gone, try_office_on_record,
+        try_unanswered, try_unread, try_office_tried, try_mail_changed, try_mail_gone, try_office_on_record,
         try_office_overview, try_office_words, try_office_languages, try_office_marked, try_certificate, try_authority,
         try_signin_account, try_office_beside, try_office_identifiers, try_office_former,
     ]
@@ -130,7 +131,7 @@ def gate_parts(program):
         partial(try_office_doors, requests=150), try_office_clerks, try_office_again, try_office_between, try_office_formats,
         try_office_sheets, try_office_keys, try_office_forget, try_office_wayback, try_office_told, try_office_dates,
         try_office_figures, try_draws, try_refused, try_office_mail, try_office_receipts, try_mail_runs, try_burst, try_limits,
-        try_ciphers, try_unread, try_office_overview, try_office_words, try_office_languages, try_certificate,
+        try_ciphers, try_unanswered, try_unread, try_office_overview, try_office_words, try_office_languages, try_certificate,
         try_office_beside, try_office_identifiers, try_office_former, try_office_tried, try_mail_changed,
         try_mail_gone, try_office_on_record,
     ]

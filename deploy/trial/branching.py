@@ -17,7 +17,7 @@ sys.path.append(str(OFFICE))
 # pylint: disable=wrong-import-position,wrong-import-order  # they are in the folder of the line above
 from branches import Branches, named_in
 from history import history
-from journal import NOT_KNOWN
+from journal import EARLIER, NOT_KNOWN
 
 
 def name(second, end=""):
@@ -112,10 +112,11 @@ def not_made():
     for second in (2, 3, 4):
         told.has("a way back that was not made begins no branch", name(second), name(second))
     told.has("so all since the copy counts", name(0), name(0), "X")
-    told = Told().asked(0, name(0)).change(1, "remove X", name(1))
-    told.change(2, f"back {name(0)}", name(2), status=3, answer=NOT_KNOWN).change(3, "remove Y", name(3))
-    told.has("if nobody knows whether it was made, both may be so", name(0), name(0), "XY")
-    told.has("also for the copy before it", name(2), name(0), "XY")
+    for answer in (NOT_KNOWN, EARLIER):
+        told = Told().asked(0, name(0)).change(1, "remove X", name(1))
+        told.change(2, f"back {name(0)}", name(2), status=3, answer=answer).change(3, "remove Y", name(3))
+        told.has("if nobody knows whether it was made, both may be so", name(0), name(0), "XY")
+        told.has("also for the copy before it", name(2), name(0), "XY")
 
 
 def lines():
@@ -160,7 +161,7 @@ def record():
         for step, copy in zip(steps, names):
             told.change(0, step, copy)
         told.change(1, f"back {names[number]}{keys}", name(1)).change(2, "cancel", name(2))
-        said = history(told.entries, True, 1, [])
+        said = history(told.entries, True, (1, "idle"), [])
         check(f"of four steps in one second the record says that the round was given up {phase}",
               any(f"given up {phase}: " in one for one in said), said)
 

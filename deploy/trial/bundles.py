@@ -149,6 +149,21 @@ def try_ended(stand, between):
     stand.until_listening(stand.server_port)
 
 
+def try_replaced(stand, between):
+    """A line that puts a list on record waits for another clerk's, for the same person, which comes first."""
+    between.before_next("sleep 2")
+    first = threading.Thread(target=stand.ask, kwargs={"ask": "do", "lines": ["choose P19 A-6"], "who": "anna"})
+    first.start()
+    until(lambda: not between.act.exists(), 60, "the first line begins")
+    reply = stand.ask(ask="do", lines=["choose P19 A-7"], who="bert")
+    first.join()
+    check("of two lists at the same time the second one counts", stand.recorded()["P19"] == ["A-7"], stand.recorded())
+    check("and the first one is in a copy", reply["copy"], reply)
+    stand.ask(ask="back", name=reply["copy"])
+    check("which brings it back", stand.recorded()["P19"] == ["A-6"], stand.recorded())
+    stand.until_listening(stand.server_port)
+
+
 def try_keys(stand, between):
     """New people come by a bundle. Their keys are in no process, log or journal."""
     keys = [key_of(f"N{number}") for number in range(40)]
@@ -234,6 +249,7 @@ def try_bundles(program, sizes=(True, False)):
         stand.start_proxy()
         try_by_hand(stand, between)
         try_ended(stand, between)
+        try_replaced(stand, between)
         try_keys(stand, between)
     with Stand(program) as stand:
         between = Between(stand)

@@ -157,6 +157,24 @@ def try_later(stand, page):
           {f"it does not say what became of round {number}" for number in (1, 2, 3)} <= {*said}, said)
 
 
+def try_other_round(stand, page):
+    """A form, and a question, of a round that was given up since note nothing in the next one."""
+    for line in ("cancel", "open", "close"):
+        stand.office(line)
+    form = {**page.hidden("/office/draw"), "way": "seed", "text": SEED}
+    where = re.sub("^https?://[^/]*", "", enter(page, FEW))
+    asked = page.hidden(where, where)
+    for line in ("cancel", "open", "close"):
+        stand.office(line)
+    before = notes(stand)
+    for place, sent in (("/office/seed", form), (where, asked)):
+        led = re.sub("^https?://[^/]*", "", page.post(place, sent)[1]["location"])
+        text = page.get(led)[2]
+        check(f"{place[:12]} of a round that was given up notes nothing", notes(stand) == before
+              and "The office has gone on" in text, (notes(stand), text))
+    check("and what was entered is still there", f'value="{FEW}"' in text, text)
+
+
 def try_draws(program):
     """All of it."""
     with Stand(program) as stand:
@@ -171,6 +189,7 @@ def try_draws(program):
         try_strike(stand, page)
         try_record(stand, page)
         try_later(stand, page)
+        try_other_round(stand, page)
         check("the page has noted no fault of its own", "rooms-page:" not in stand.log("page"), stand.log("page"))
 
 

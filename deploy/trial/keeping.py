@@ -98,6 +98,9 @@ def hidden_keys(stand):
         for line in slips:
             told = stand.command("do", "-", given=f"{line}\n")
             check("a line with a slip is not understood", told[:2] == (2, "not understood\n"), told)
+        told = stand.command("do", "-", given=f"person R8 {OTHER} Bea Ma\nperson R7 {'c' * 16} Cy Lo\n")
+        check("of several lines none is taken for the only one", told[:2] == (2, "") and "rooms-office lines" in told[2]
+              and "Bea" not in stand.office("people"), told)
         for job in (
             {"ask": "import", "kind": KEY, "label": "l-1", "body": ""},
             {"ask": "import", "kind": "rooms", "label": KEY, "body": ""},

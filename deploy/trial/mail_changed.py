@@ -106,6 +106,10 @@ def try_moves(stand, page, server):
           and "Tell them in another way" in shown, shown)
     got = sent_by(page, stand, server, "moves")
     check("the one who moves reads when", list(got) == [mail_of("T04")], got)
+    shown = flat(page.get(f"{FORM}/moves/again")[2])
+    check("and another one can be begun", "1 person has got this message. If you go on, they can get another one" in shown, shown)
+    shown = flat(page.get("/office/about/T04")[2])
+    check("all about this person calls the message by its name", "plan of moves of round 1, sent" in shown, shown)
     shown, said = counts(page, "moves")
     check("and counts", "Have got it 1 Get it now 0" in shown and "1 sent, 0 to send" in said, (shown, said))
 
@@ -160,6 +164,28 @@ def try_erased(stand, page, server):
     check("of a round whose messages are on record no page says so", "Get it now 4" in shown and "was erased" not in shown, shown)
 
 
+def try_ended_late(stand, page, server):
+    """Messages wait that are to replace earlier ones, until the record of their round is erased. Then the clerk gives them up."""
+    before = stand.ask(ask="backup")["name"]
+    publish(stand)
+    sent_by(page, stand, server, "results")
+    stand.ask(ask="back", name=before)
+    stand.office("choose T02 A-1")
+    publish(stand)
+    server.stop()
+    press(page, "results")
+    run = rest(stand)
+    check("a message to T02 waits, and the others are sent", (run["round"], run["waits"], run["sent"]) == (2, ["T02"], 3), run)
+    for line in ("settle", "open", "cancel", "open"):
+        stand.office(line)
+    page.form(f"{FORM}/run", {"act": "give-up"}, page=FORM)
+    last = stand.ask(ask="journal", last=1)["journal"][0]
+    check("if they are given up once they are erased, the journal says that nobody knows how many were sent",
+          last["line"].startswith("mail results of round 2 ends") and "not on record any more" in last["answer"], last)
+    kept = [one[:3] for person in PEOPLE for one in stand.ask(ask="about", person=person)["mail"]["sent"]]
+    check("and what was erased does not come back", not [one for one in kept if one[:2] == ["results", 2]], kept)
+
+
 def try_mail_changed(program):
     """All of it."""
     with MailServer() as server, Stand(program) as stand:
@@ -179,6 +205,7 @@ def try_mail_changed(program):
         try_moves(stand, page, server)
         try_given_up(stand, page, server, before)
         try_erased(stand, page, server)
+        try_ended_late(stand, page, server)
         check("no address, name or key is in a log or in the journal", not logs_of(stand), logs_of(stand))
 
 

@@ -30,7 +30,7 @@ def try_invitation(stand, page, server):
     """Everybody with an address gets one message, and nobody gets another one."""
     place = f"{FORM}/invitation/send"
     shown = page.get(place)[2]
-    said = ("Send invitation to 12 people?", "cannot be taken back", "1 have no mail address")
+    said = ("Send invitation to 12 people?", "cannot be taken back", "1 person has no mail address")
     check("the question says to how many", all(one in shown for one in said), shown)
     old = page.hidden(place, place)
     check("and nothing is sent before the yes", not server.got)
@@ -125,6 +125,23 @@ def try_bad_days(stand, page, server):
     press(page, "invitation")
     rest(stand)
     check("a further press goes to these two", server.went() == ["new.t03@college.example", mail_of("T05")], server.went())
+
+
+def try_broken_settings(stand, page, server):
+    """Somebody damages the settings while messages are sent. Once they are mended, the page says so."""
+    once_more(page, "invitation")
+    server.forget()
+    settle_mail(stand, server, **{"per-minute": "30"})
+    press(page, "invitation")
+    (stand.folder / "mail.conf").write_text("server\n", encoding="utf-8")
+    time.sleep(6)
+    settle_mail(stand, server)
+    run = rest(stand)
+    check("the run stops", run["state"] == "paused" and "not written as it should be" in run["why"], run)
+    shown = " ".join(page.get(FORM)[2].split())
+    check("and the page says why, in sentences", "Tell the administrator. Nothing is lost: what waits" in shown, shown)
+    page.form(f"{FORM}/run", {"act": "go-on"}, page=FORM)
+    check("then it goes on", rest(stand)["state"] == "ended")
 
 
 def try_words_of_server(stand, page, server):
@@ -260,8 +277,8 @@ def try_mail_runs(program):
         stand.office("open")
         stand.ask(ask="mail-text", kind="invitation", language="en", subject="Räume für {name}",
                   body="Dear {name} ({person}), room {room}, round {round}:\n{link}\n\n.\nŽ\n")
-        for part in (try_invitation, try_reminder, try_bad_days, try_words_of_server, try_all_refused, try_cut, try_ended,
-                     try_other_texts):
+        for part in (try_invitation, try_reminder, try_bad_days, try_broken_settings, try_words_of_server, try_all_refused,
+                     try_cut, try_ended, try_other_texts):
             part(stand, page, server)
         check("no address, name or key is in a log or in the journal", not logs_of(stand), logs_of(stand))
 

@@ -225,6 +225,10 @@ def try_german(page):
         shown = flat(page.form("/office/lists", fields, files={"list": listed([[one] for one in (*ROOMS, *more)], ["room"])})[2])
         about = shown.partition("<main")[2]
         check(f"a German clerk reads: {says}", says in about and "Person" not in about, about)
+    sample = page.get("/office/sample/descriptions.csv")[2]
+    check("a sample has its rents as a German office writes them", '"412,50 €"' in sample and "412.50" not in sample, sample)
+    shown = flat(page.form("/office/told/rooms", page="/office/told", files={"list": sample.encode()})[2])
+    check("and is understood so", ">412,50</td>" in shown and ">455,00</td>" in shown, shown)
     shown = page.get("/office/copies")[2]
     check("and why a copy was made", "Liste rooms-new (Zimmer) eingelesen" in shown and "(rooms)" not in shown, shown)
 

@@ -172,6 +172,7 @@ def try_lists(stand, anna, bert, between):
     check("the others alone can come in", stand.recorded().get("T07") == ["A-112"]
           and stand.recorded().get("T08") == ["A-111"], stand.recorded())
     try_between(stand, anna, between)
+    try_back_between(stand, anna, between)
     try_many(stand, anna, bert)
 
 
@@ -204,6 +205,30 @@ def try_between(stand, anna, between):
     check("a list that somebody replaces in between stays", stand.recorded().get("T03") == ["A-115"], stand.recorded())
     check("and the page works out again what comes in",
           STALE in shown and "1 of these people has another list on record" in shown, shown[:2500])
+
+
+def try_back_between(stand, anna, between):
+    """A grade that is set after the keeper has looked at a yes to a way back, and before the turn of the way back."""
+    copy, may_go = stand.ask(ask="backup")["name"], stand.folder / "may-go-back"
+    place = f"/office/copies/{copy}/back"
+    form = anna.hidden(place, place)
+    between.before_next(f"while [ ! -e {may_go} ]; do sleep 0.1; done")
+    with ThreadPoolExecutor() as both:
+        both.submit(stand.ask, ask="do", lines=["grade T03 4"], who="bert")
+        until(lambda: stand.server() is None, 60, "the other clerk's turn")
+        led = both.submit(anna.post, place, form)
+        until(lambda: looked(stand), 60, "the way back beside the other clerk's turn")
+        may_go.touch()
+        shown = anna.get(led.result()[1]["location"])[2]
+    check("no way back undoes what somebody does just before it", person_of(stand, "T03")[3] == 4 and STALE in shown, shown[:2500])
+    copies = stand.ask(ask="backups")["backups"]
+    check("and none was made, nor a copy for it", not [why for _, _, why in copies if f"back {copy}" in why], copies)
+    form = anna.hidden(place, place)
+    stand.stop_keeper()
+    stand.start()
+    shown = anna.get(anna.post(place, form)[1]["location"])[2]
+    check("after a start of the keeper the page asks again, and says that nothing was changed but that",
+          "was started anew" in shown and STALE not in shown and "<form" in shown, shown[:2500])
 
 
 def try_many(stand, anna, bert):

@@ -240,6 +240,11 @@ def try_faults(stand, page, resident):
     until(lambda: shown(stand)["fault"], 120, "the keeper says why it could not close the round")
     text = flat(page.get("/office/")[2])
     check("the overview says so", phase(stand) == "open" and "A copy of the office could not be written" in text, text[:3000])
+    page.form("/office/language", {"language": "de"}, page="/office/")
+    text = flat(page.get("/office/")[2])
+    check("in the language of the clerk who looks", "Eine Kopie der Verwaltung ließ sich nicht schreiben" in text
+          and "could not be written" not in text, text[:3000])
+    page.form("/office/language", {"language": "en"}, page="/office/")
     backups.unlink()
     away.rename(backups)
     until(lambda: phase(stand) == "closed", 120, "it closes the round once that is mended")
@@ -255,8 +260,11 @@ def try_faults(stand, page, resident):
     folder.rename(folder.with_name("gone"))
     text = send(page, "2027-05-30", "12:00")
     check("if residents cannot read it, the page says why", "But residents do not read it" in text, text[:3000])
+    text = flat(page.get("/office/")[2])
+    check("as long as that is so", "But residents do not read it" in text and "Residents read it." not in text, text[:3000])
     folder.with_name("gone").rename(folder)
     until(lambda: (resident.told().get("until") or {}).get("local") == "2027-05-30T12:00", 60, "they read it once that is mended")
+    check("and the page says so", "Residents read it." in flat(page.get("/office/")[2]))
     part = folder / ".part"
     part.mkdir()
     page.form("/office/until/drop", page="/office/")

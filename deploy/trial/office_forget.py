@@ -3,8 +3,11 @@
 Copies by age, all about one person on a page, and a person who is forgotten.
 """
 
+import base64
+import contextlib
 import datetime
 import re
+import shutil
 import sqlite3
 import sys
 from pathlib import Path
@@ -175,6 +178,74 @@ def try_removed(stand, page):
     check("what is no identifier is refused", all("not understood" in one for one in bad), bad)
 
 
+NAMED = "Nora O'Neill"
+TEXTS = ("the description of A-1", "the text of a picture of A-2", "the notice (Deutsch)", "the contact",
+         "the text of mails: results (English)", "the messages that were sent last, until others are sent: plan of moves")
+
+
+def write_texts(stand):
+    """Texts of clerks that have a name, as one writes it in a hurry, and others that have none."""
+    stand.ask(ask="tell-rooms", who="anna", rooms={"A-1": {"text": "NORA  O'Neill mag dieses"}, "A-2": {"text": "Balkon"}})
+    body = base64.b64encode(b"\xff\xd8\xff no picture").decode()
+    stand.ask(ask="add-picture", who="anna", room="A-2", body=body, shows="The balcony of Nora O\u2019Neill")
+    stand.ask(ask="tell-words", who="anna", notice={"de": "Nora\nO'Neills Post liegt hier", "en": "Nora: call"},
+              contact="Nora O'Neill, room 1")
+    stand.ask(ask="mail-addresses", addresses={"N1": "nora@college.example"})
+    with contextlib.closing(sqlite3.connect(stand.data / "mail.db", isolation_level=None)) as database:
+        database.executemany("INSERT INTO words VALUES (?, 'en', 'Rooms', ?)", [("results", NAMED), ("moves", "Dear {name}")])
+        database.execute("INSERT INTO run VALUES (1, 'moves', 1, 1, 'Rooms', ?, '', 'anna', 'ended', '', '')", (f"Not {NAMED}",))
+    stand.ask(ask="note", who="anna", line=f"seed {'0' * 64} rolled by {NAMED}")
+
+
+def try_texts(stand, page):
+    """Texts that clerks have written may have the name. The question and the page name them, and the backups of this machine."""
+    bring_in(page, "people", "people-4", HEADER, [["N1", NAMED, key_of("N1"), ""]])
+    write_texts(stand)
+    machine = ("/var/backups/rooms, may have this person, too, with what no copy has. One stays until there are 7 newer ones, and "
+               "for 200 days at most")
+    shown = seen_at(page, "/office/forget/N1")
+    check("the question names the texts that have the name", ", ".join(TEXTS) in shown, shown)
+    check("and the backups of this machine, with how long they stay", machine in shown, shown)
+    fields = page.form("/office/forget/N1", page="/office/forget/N1")[1]
+    shown = seen_at(page, fields["location"])
+    missing = [one for one in (*TEXTS, machine, f"rolled by {NAMED}") if one not in shown]
+    check("afterwards the page says that they are left, and which entry of the journal", "N1 is forgotten" in shown and not missing,
+          (missing, shown))
+    others = ("description of A-2", "notice (English)", "mails: plan of moves")
+    check("and of no other text", not any(one in shown for one in others), shown)
+    told = stand.command("about", "N1")[1]
+    said = ("name in description A-1", "name in picture A-2", "name in notice de", "name in contact", "name in mail results en",
+            "name in sent moves", "backups /var/backups/rooms: at most 7, for at most 200 days")
+    check("so does the clerk's command", all(f"{one}\n" in told for one in said), told)
+    told = stand.command("forget", "Z9")
+    check("which says after `forget` where to read it", "what is left, and until when: rooms-office about Z9" in told[2], told)
+    page.form("/office/language", {"language": "de"}, page="/office/")
+    shown = seen_at(page, "/office/about/N1")
+    check("in German, too", "die Beschreibung von A-1" in shown and "der Hinweis (Deutsch)" in shown
+          and "/var/backups/rooms" in shown and "bis es 7 neuere gibt" in shown, shown)
+    page.form("/office/language", {"language": "en"}, page="/office/")
+    try_no_texts(stand, page)
+
+
+def try_no_texts(stand, page):
+    """Once the texts are changed, the page finds none; and it does not say so where it cannot look."""
+    stand.ask(ask="tell-rooms", rooms={})
+    stand.ask(ask="tell-words", notice={}, contact="")
+    (stand.folder / "told" / "told.json.gz").unlink()
+    (stand.data / "mail.db").unlink()
+    shown, none = seen_at(page, "/office/about/N1"), "No text has a name that the office has had under this identifier."
+    check("once they are changed the page says that there is none", none in shown, shown)
+    (stand.folder / "told" / "told.json.gz").write_bytes(b"none")
+    shown = seen_at(page, "/office/about/N1")
+    check("of a damaged file it says that it could not look there", "what residents read of rooms is damaged" in shown
+          and none not in shown, shown)
+    (stand.folder / "told" / "told.json.gz").unlink()
+    shutil.rmtree(stand.data / "backups")
+    shown = seen_at(page, "/office/about/N1")
+    check("and where no copy has the name any more that it could not look", "so this page could not look for it" in shown
+          and none not in shown, shown)
+
+
 def try_stale(stand, page):
     """Somebody has changed the person since the question."""
     bring_in(page, "people", "people-3", HEADER, [["T3", "Tom Tao", key_of("T3"), ""]])
@@ -199,7 +270,9 @@ def try_office_forget(program):
         try_forget(stand, page)
         try_removed(stand, page)
         try_stale(stand, page)
-        check("no name is in a log", not re.search("zander|zoe", stand.proxy_log() + stand.log("page") + stand.log("keeper"), re.I))
+        try_texts(stand, page)
+        logs = stand.proxy_log() + stand.log("page") + stand.log("keeper")
+        check("no name is in a log", not re.search("zander|zoe|neill", logs, re.I))
 
 
 if __name__ == "__main__":

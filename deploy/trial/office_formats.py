@@ -121,6 +121,22 @@ def try_person(stand, page):
     check("and the list on record stays", stand.recorded() == before, stand.recorded())
 
 
+def try_what_if(stand, page):
+    """Nor is a list lost about which the page cannot say what it would have given; and it is read as it stands on paper."""
+    stand.office("close")
+    stand.ask(ask="draw", seed="7" * 64, who="anna")
+    stand.office("run")
+    for entered, why in (("A-101 a-102 A-101", "A-101 stands twice on this list."), ("A-101; 1/2", "does not understand this."),
+                         ("A-101, A-999", "No room has this code. (A-999)")):
+        page.form("/office/person/B1/whatif", {"text": entered}, page="/office/person/B1")
+        shown, codes = flat(page.get("/office/person/B1")[2]), " ".join(re.findall("[^ ,;]+", entered.upper()))
+        check(f"asked what {entered} would have given, the page says: {why}", why in shown
+              and f"You had entered: {codes}." in shown, shown)
+    page.form("/office/person/B1/whatif", {"text": "a-101, A-102;"}, page="/office/person/B1")
+    shown = flat(page.get("/office/person/B1")[2])
+    check("commas between rooms are no fault there", "By the list A-101 A-102 this person would get" in shown, shown)
+
+
 def try_choices(stand, page):
     """Choices in one column for each, or with commas between them."""
     page.form("/office/step/open", page="/office/step/open")
@@ -168,6 +184,9 @@ def try_hostile(stand, page):
     check(f"the page has taken {used} MB at most", used < MOST_MEMORY)
     check("a list longer than a file may be is refused", "longer than 262,144 bytes"
           in send(page, "rooms", "long", b"room\n" + b" " * 1_200_000))
+    shown = send(page, "rooms", "long", b"PK\x03\x04" + bytes(1_200_000))
+    check("of a workbook that is too long the page does not know how long its list is", "This workbook is too large" in shown
+          and "Copy the rows of the list alone" in shown and "262,144" not in shown, shown[:3000])
 
 
 def try_samples(stand, page):
@@ -203,6 +222,7 @@ def try_office_formats(program):
         try_hostile(stand, page)
         try_choices(stand, page)
         try_person(stand, page)
+        try_what_if(stand, page)
         check("the page's log is empty", not stand.log("page").strip(), stand.log("page"))
 
 

@@ -60,7 +60,13 @@ def is_asked(what, reply, *former):
     """Whether the keeper asks about just these identifiers, with these names, before anything is changed."""
     check(f"{what}: the keeper asks first", reply.get("former") == [list(one) for one in former] and "answers" not in reply, reply)
     said = all(ident in reply["fault"] and name in reply["fault"] for ident, name in former)
-    check("and says whose each identifier was", said and "still speak of" in reply["fault"], reply)
+    check("and says whose each identifier was", said and "speak of" in reply["fault"], reply)
+
+
+def is_still_there(who, reply, said):
+    """Whether the keeper does not say of somebody in the register that they are out of it."""
+    check(f"the keeper says nothing false of the register: {who}", said in reply["fault"]
+          and "who is out of the register" not in reply["fault"], reply)
 
 
 # --- lines
@@ -93,6 +99,7 @@ def try_bundle(stand):
     reply = send(stand, "remove P02", new("P02", "Ben Other"))
     is_asked("`remove` and `person` in one bundle", reply, ("P02", "Person P02"))
     check("and the one before is still there", names(stand)["P02"] == "Person P02")
+    is_still_there("who is removed by the same bundle", reply, "P02 is the identifier of Person P02, whom these lines remove.")
     check("with the same name it is done", send(stand, "remove P02", new("P02", "Person P02")).get("done"))
     check("and with the clerk's word", send(stand, "remove P02", new("P02", "Ben Other"), again=["P02"]).get("done")
           and names(stand)["P02"] == "Ben Other")
@@ -100,6 +107,9 @@ def try_bundle(stand):
     reply = send(stand, new("F2", "Fred"), new("P04", "Dan Other"), new("P03", "Cy Other"), again=["F2"])
     is_asked("several in one bundle", reply, ("P03", "Person P03"), ("P04", "Person P04"))
     check("and none of them has come", not people(stand) & {"F2", "P03", "P04"})
+    reply = send(stand, "remove P02", new("P02", "Bo Other"), new("P03", "Cy Other"), ask="try")
+    is_asked("one who is removed by the bundle, and one who was before", reply, ("P02", "Ben Other"), ("P03", "Person P03"))
+    is_still_there("of both", reply, "who are out of the register, or whom these lines remove: P02 (Ben Other), P03 (Person P03)")
 
 
 def try_command(stand):

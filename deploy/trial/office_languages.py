@@ -317,6 +317,12 @@ def try_not_seen(stand, page):
     page.post("/office/languages/strangers", forms[0])
     left = stand.ask(ask="languages")["residents"]
     check("languages of people whom the clerk has not seen stay", left == {"T02": CODE, "N2": CODE}, left)
+    page.get("/office/languages")
+    stand.script("rooms-office", "back", stand.ask(ask="backups")["backups"][-1][0])
+    page.post("/office/languages/strangers", forms[1])
+    shown, left = page.get("/office/languages")[2], stand.ask(ask="languages")["residents"]
+    check("who is back in the register keeps theirs, and the page says so", left == {"T02": CODE, "N2": CODE} and "erased." not in
+          shown and "are in the register again, and keep their language: N2" in shown, (left, shown[:2500]))
 
 
 def try_office_languages(program):

@@ -14,6 +14,7 @@ sys.dont_write_bytecode = True
 
 # pylint: disable=wrong-import-position  # nothing may be written before
 from mail_server import MailServer
+from office_forms import flat
 from office_requests import Page, hand_in
 from office_sheets import bring_in
 from refused import swap
@@ -97,6 +98,9 @@ def try_settings(stand, server):
 
 def try_people_list(stand, page):
     """Addresses come in with a list of people, and the program does not get them."""
+    shown = " ".join(page.get("/office/lists")[2].split())
+    check("the page of lists says that these columns are not left out", "brings the mail addresses in, too, and a column" in shown,
+          shown)
     rows = [[person, f"Person {person}", key_of(person), "", mail_of(person)] for person in PEOPLE[:8]]
     rows[1][1], rows[6][4], rows[7][4] = NAME, "t07 at college.example", "T01.Resident@college.example"
     shown = bring_in(page, "people", "people-1", ["person", "name", "key", "home", "E-Mail"], rows)
@@ -123,6 +127,24 @@ def try_people_list(stand, page):
     shown = page.get("".join(re.findall(r'href="(/office/mail/addresses/\w+)"', shown)))[2]
     check("a line with another name than the register's changes no address", "another name for this identifier" in shown
           and "1 stays as it is" in " ".join(shown.split()) and "Bring the addresses in" not in shown, shown)
+    try_without_address(page)
+
+
+def try_without_address(page):
+    """Lines of a list of people without an address have no fault of an address, whatever name they have."""
+    header, new = ["person", "name", "key", "home", "email", "language"], ["T91", "New Comer", key_of("T91"), "", "", ""]
+    shown = page_of(page, "people-4", header, [["T07", "Somebody Else", "", "", "", ""], new])
+    check("a line with another name than the register's and no address has no fault of an address", "T91" in shown
+          and "with a fault: left out" not in shown and "address may be another" not in shown, shown)
+    shown = page_of(page, "people-5", header, [["T07", "Somebody Else", "", "", "", "Deutsch"], new])
+    check("and one with a language alone has none of an address, either", "1 line with a fault: left out" in shown
+          and "so the language may be another person's" in shown, shown)
+
+
+def page_of(page, label, header, rows):
+    """The page of a list of people that is not brought in, as a reader has it."""
+    text = "".join(",".join(row) + "\n" for row in [header, *rows])
+    return flat(page.form("/office/lists", {"kind": "people", "label": label}, files={"list": text.encode()})[2])
 
 
 def holds(stand, pattern, text):
@@ -134,6 +156,13 @@ def send_file(page, body):
     """Sends a file of addresses, and gives the page that follows."""
     fields = page.form(f"{FORM}/addresses", page=FORM, files={"list": body})[1]
     return fields["location"], page.get(fields["location"])[2]
+
+
+def try_two_languages(page):
+    """Of two languages of one person none counts without a word."""
+    shown = send_file(page, f"person,email,language\nT09,{mail_of('T09')},de\nT09,,en\nT08,,de\nT08,,de\n".encode())[1]
+    check("a line with another language than one before is a fault", shown.count("with another language already") == 1
+          and ">T09</td>" in shown.partition("with another language already")[0][-200:], shown)
 
 
 def try_address_list(stand, page):
@@ -159,6 +188,10 @@ def try_address_list(stand, page):
     place = page.form(f"{FORM}/addresses", page=FORM, files={"list": b"person,name\nT01,Ann\n"})[1]["location"]
     shown = page.get(place)[2]
     check("a file without addresses is refused", "Nothing came in" in shown and "email" in shown, shown)
+    page.form(f"{FORM}/addresses", page=FORM, files={"list": b"person,email\n" * 80_000})
+    shown = page.get(FORM)[2]
+    check("so is one that is too long, which has no label", "longer than 1,000,000 bytes" in shown and "a label each" not in shown,
+          shown)
 
 
 def try_one_address(stand, page):
@@ -323,6 +356,7 @@ def try_office_mail(program):
         try_settings(stand, server)
         try_people_list(stand, page)
         try_address_list(stand, page)
+        try_two_languages(page)
         try_one_address(stand, page)
         page.form("/office/step/open", page="/office/step/open")
         try_texts(stand, page)

@@ -41,7 +41,7 @@ def bring_people_in(clerk, college):
 def bring_addresses_in(clerk, college):
     """A list of addresses alone, and one person's."""
     clerk.visit(FORM)
-    clerk.reads("22 of 24 people have a mail address.", "2 without an address")
+    clerk.reads("People with a mail address: 22 of 24.", "2 without an address")
     clerk.shot("41-mail")
     path = college.write("addresses.csv", ["person", "email"], [["T07", mail_of("T07")], ["T01", "new.t01@college.example"],
                                                                 ["T99", "nobody@college.example"]])

@@ -31,7 +31,7 @@ def try_open(stand, page):
     stand.office("open")
     page.form("/office/person/T01/choose", {"text": "A-2"}, page="/office/person/T01")
     is_silent(page, "/office/", "Lists on record 1 of 3", "No list, or an empty one: 2")
-    check("nor does its picture", "1 of 3 participants have a list on record" in page.get("/office/")[2])
+    check("nor does its picture", 'aria-label="Lists on record: 1 of 3"' in page.get("/office/")[2])
     is_silent(page, "/office/person/T01", "It replaces the list that is on record.")
     is_silent(page, "/office/person/T01/going", "A list that is on record of this person counts no more.")
     is_silent(page, "/office/lists", "replaces the list that is on record of this person")
@@ -71,10 +71,15 @@ def try_results(stand, page):
         else:
             stand.office(line)
     is_silent(page, "/office/person/T01", "choice 1")
-    is_silent(page, "/office/person/T02", "No list of T02 was on record, so T02 gets no room.")
-    is_silent(page, "/office/person/T03", "No list of T03 was on record, so T03 keeps A-1.")
-    is_silent(page, "/office/letters", "You keep A-1, since no list of yours was on record.",
-              "You get no room, since no list of yours was on record.")
+    is_silent(page, "/office/results", "People without a room: 1", "Free rooms: 1")
+    is_silent(page, "/office/person/T02", "No list of T02 was on record, or an empty one, so T02 gets no room.")
+    is_silent(page, "/office/person/T03", "No list of T03 was on record, or an empty one, so T03 keeps A-1.")
+    is_silent(page, "/office/letters", "You keep A-1, since no list of yours was on record, or an empty one.",
+              "You get no room, since no list of yours was on record, or an empty one.")
+    is_silent(page, "/office/print", "Participants with no list on record, or an empty one")
+    is_silent(page, "/office/mail", "People with a mail address: 3 of 3.")
+    page.form("/office/step/settle", page="/office/step/settle")
+    is_silent(page, "/office/", "The round is settled, with 1 move.")
 
 
 def try_office_on_record(program):

@@ -80,7 +80,11 @@ def try_plan(stand, page):
     check("whose question says nothing of nobody", "Nobody" not in page.get("/office/step/open")[2])
     stand.office("open")
     stand.office("going P7")
+    check("it counts one who leaves", "; withdrawn: 0; leave the college: 1</dd>" in flat(page.get("/office/")[2]))
     for person, rooms in LISTS.items():
+        if person == "P8":
+            shown = flat(page.get("/office/step/close")[2])
+            check("and one without a list", "1 of 7 participants has no list on record, or an empty one." in shown, shown)
         stand.office(f"choose {person} {rooms}")
     stand.office("close")
     page.form("/office/seed", {"way": "seed", "text": SEED}, page="/office/draw")

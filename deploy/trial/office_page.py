@@ -94,7 +94,7 @@ def note_leavers(clerk, college):
     clerk.press("Yes: note that they leave")
     clerk.reads("Done for 2 people")
     clerk.visit("/office/")
-    clerk.reads("Leave the college: 3", "and 3 leave the college")
+    clerk.reads("Leave the college: 3", "leave the college: 3")
     clerk.shot("15-leavers")
     clerk.visit(f"/office/person/{one}")
     clerk.reads("This person leaves the college.")

@@ -16,6 +16,7 @@ sys.dont_write_bytecode = True
 
 # pylint: disable=wrong-import-position  # nothing may be written before
 from mail_server import MailServer
+from office_forms import flat
 from office_mail import FORM, holds, kind_of, logs_of, mail_of, settle_mail
 from office_requests import Page, hand_in
 from stand import Stand, check, key_of, until
@@ -61,7 +62,8 @@ def try_off(stand, page, server):
     quiet(server, "by itself the office sends no receipt")
     shown = " ".join(page.get(f"{RECEIPTS}/begin")[2].split())
     parts = ("Send receipts of lists?", "10 people get the text in English: “Room exchange: what is on record of you”.",
-             "1 person gets the text in Deutsch", "1 have no mail address", "It names no room")
+             "1 person gets the text in Deutsch", "1 person has no mail address", "It names no room",
+             "or they have withdrawn", "or whose withdrawal no longer counts")
     check("the question says who gets which text", all(one in shown for one in parts), shown)
     old = page.hidden(f"{RECEIPTS}/begin", f"{RECEIPTS}/begin")
     stand.ask(ask="mail-text", kind="receipt", language="en", subject="What we have", body="Dear {name},\n{list}\n{link}\n")
@@ -166,9 +168,26 @@ def try_ended(stand, page, server):
     quiet(server, "after the clerk's word the other one goes out", 2)
     check("each of the two got one", sorted(server.went()) == [mail_of("T10"), mail_of("T11")], server.went())
     person = now["uncertain"][0][0]
+    try_uncertain_off(stand, page, now["uncertain"])
     page.form(f"{RECEIPTS}/uncertain", page=f"{RECEIPTS}/uncertain")
     until(lambda: len(server.got) == 3, 60, "the uncertain receipt once more")
     check("one that counts as not sent is sent again", server.went()[-1] == mail_of(person), server.went())
+
+
+def try_uncertain_off(stand, page, uncertain):
+    """Without receipts none is sent again, so the page offers it no more, and an old question changes nothing."""
+    place = f"{RECEIPTS}/uncertain"
+    asked = page.hidden(place, place)
+    page.form(f"{RECEIPTS}/steer", {"act": "off"}, page=RECEIPTS)
+    shown = flat(page.get(RECEIPTS)[2])
+    check("without receipts the page does not offer to send one again", "Nobody knows whether these got it: 1" in shown
+          and "Count them as not sent" not in shown and "none of these is sent again" in shown, shown)
+    page.post(place, asked)
+    shown = flat(page.get(RECEIPTS)[2])
+    check("nor does a question of before say so", "none can be sent again" in shown and "They count as not sent" not in shown
+          and state(stand)["uncertain"] == uncertain, (state(stand), shown))
+    place = f"{RECEIPTS}/begin"
+    page.form(place, page=place)
 
 
 def try_rounds(stand, server):

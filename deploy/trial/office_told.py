@@ -1,5 +1,4 @@
-"""What residents read of rooms, as the clerks put it on the residents' page: /usr/bin/python3 deploy/trial/office_told.py
-PROGRAM.
+"""What residents read of rooms, as clerks put it on their page: /usr/bin/python3 deploy/trial/office_told.py PROGRAM.
 
 Notice and contact, descriptions as a list, pictures. What does not fit is refused by name, and changes nothing. Nothing of it
 becomes a script of the residents' page. It also runs over standin.py.
@@ -168,6 +167,8 @@ def try_words(stand, page, other, resident):
     check("what another clerk has changed meanwhile is not replaced", status == 200
           and "has changed since you opened the page" in text and told_of(stand)["contact"] == "bert", text[:2000])
     check("and what was written is not lost", ">Mine</textarea>" in text and 'value="anna"' in text, text[:3000])
+    status, text = words(page, "Mine", "Meins", "anna", "".join(re.findall(r'name="saw" value="(\w+)"', text)))
+    check("nor is it replaced by a second press", status == 200 and told_of(stand)["contact"] == "bert", text[:2000])
     for what, texts, said in (("a long notice", ("x" * 601, "", ""), "more than 600 signs"),
                               ("a long contact", ("", "", "x " * 150), "more than 200 signs"),
                               ("what may be a key", (f"Use {KEY}", "", ""), "may be a key")):
@@ -204,6 +205,9 @@ def try_rooms(stand, page, other, resident):
     check("and which name of somebody it has", "is in the description of N-103" in shown, shown[:4000])
     check("and escapes what a list has", "<b>Garten</b>" not in page.get(f"{PLACE}/room/S-201")[2])
     check("nothing was changed by looking", packed_of(stand)["rooms"] == EXPECTED)
+    check("of one room the page says so", bring(page, send_list(page, b"room,text\nN-101,One\n"))
+          == ["The description of 1 room is on the residents' page."])
+    bring(page, send_list(page, LIST))
 
 
 FAULTS = {
@@ -228,7 +232,8 @@ def try_faults(stand, page):
         check(f"{what} is refused, and the page says why", said in shown and "Nothing was changed" in shown
               and 'name="held"' not in shown and KEY not in shown, shown[:3000])
     send_list(page, b"room,text\n" + (b"N-101," + b"a" * 40 + b"\n") * 9_000)
-    check("a list that is too long is refused", "longer than 262,144 bytes" in news(page)[0])
+    check("a list that is too long is refused, and not to be split: the second half would replace the first one",
+          "longer than 262,144 bytes" in (said := news(page)[0]) and "shorten its texts" in said and "plit it" not in said, said)
     many = b"room,text\n" + b"".join(f"R-{n},{n}\n".encode() for n in range(2001))
     said = bring(page, send_list(page, many))
     check("so are more rooms than an office has", "2,000 rooms" in said[0], said)

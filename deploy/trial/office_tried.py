@@ -58,6 +58,7 @@ def try_in(stand, page):
     """Back, and F5, once the list is in."""
     shown = send(page, "people-in", people("A01", "A02"))
     slips, held = slips_in(shown), held_in(shown)
+    check("the page says how long it has them", "until the list is in, but for an hour at most." in flat(shown), shown)
     bring(page, shown)
     check("the slips work", all(works(stand, key) for _, key in slips.values()) and len(slips) == 2, slips)
     for times in ("once", "twice"):

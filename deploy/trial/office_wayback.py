@@ -239,7 +239,9 @@ def try_changed(stand, page):
     whole = copy.read_bytes()
     copy.write_bytes(whole[:8192] + b"\xff" * 4096 + whole[12288:])
     shown = seen_at(page, "/office/")
-    check("a damaged copy hides no overview, which says so", "is damaged" in shown and "Round 3: the round is open" in shown, shown)
+    check("a damaged copy hides no overview, which says so", "Nobody knows what is not back (the copy " in shown
+          and "was not put back). If nothing of that is to come back, nothing has to be done." in shown
+          and "Round 3: the round is open" in shown, shown)
     check("nor the question before closing", "Yes: close the round" in seen_at(page, "/office/step/close"))
     status, _, shown = page.get(link)
     check("and nothing of it is offered", status == 503 and "is damaged" in shown and "Bring this back" not in shown, shown)
@@ -319,8 +321,18 @@ def try_given_up_twice(stand, page):
         stand.office(line)
     shown, asked = seen_at(page, "/office/"), seen_at(page, "/office/step/close")
     left = "ad withdrawn, and take part now (P12); lists that are not back (P04)"
-    check("the overview names what the round before had", f"H{left}. If that is right, nothing has to be done" in shown, shown)
+    check("the overview names what the round before had", f"H{left}. If nothing of that is to come back, nothing" in shown, shown)
     check("and so does the question before closing", f"h{left}. The overview leads to it" in asked, asked)
+    for line in ("cancel", "open", "choose P04 A-103", "choose P09 A-109", "cancel", "open", "choose P04 A-111", "cancel", "open"):
+        stand.office(line)
+    newer, older = re.findall(r'href="(/office/given-up/[^"]+)"', page.get("/office/")[2])[:2]
+    shown, ticked = seen_at(page, older), boxes(page.get(older)[2])
+    check("of whom the later round has something is named", "has something of these people, too: P04. They" in shown, shown)
+    check("and not ticked", (ticked[("list", "P04")], ticked[("list", "P09")]) == (False, True), ticked)
+    send_as_it_is(page, older)
+    check("the later list is not replaced", stand.recorded() == {"P09": ["A-109"]}, stand.recorded())
+    send_as_it_is(page, newer)
+    check("and comes back", stand.recorded() == {"P04": ["A-111"], "P09": ["A-109"]}, stand.recorded())
 
 
 def try_office_wayback(program):

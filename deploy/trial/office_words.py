@@ -30,6 +30,7 @@ BARE = re.compile(r"\b\d\d:\d\d:\d\d\b(?! IST)")
 OLD_LINES = "going T01; going T02; going T03; going T04; going T05; going "
 SECRET = f"choose T09 {' '.join(WISHES)}"
 CUT_OFF = "(an entry that was cut off)"
+NOT_KNOWN = "not known: the keeper ended before it had noted the answer. Look whether the line took effect."
 
 def local(copy):
     """When a copy was made, by its name, in India, and the number of those of one second."""
@@ -87,6 +88,10 @@ def try_reasons(stand, page):
         held.write_text(json.dumps({"kind": "lines", "why": f"before {old}, by anna"}) + "\n", encoding="utf-8")
         shown = page.get("/office/copies")[2]
         check(f"one of an earlier version reads: {new}", new in shown and WISHES[2] not in shown, shown)
+    held.write_text(json.dumps({"kind": "restore", "why": "before rooms-restore /mnt/stick"}) + "\n", encoding="utf-8")
+    shown = page.get("/office/copies")[2]
+    check("and one of before a restore says so", "Before: rooms-restore from /mnt/stick, by the administrator" in shown, shown)
+    held.write_text(json.dumps({"kind": "lines", "why": f"before {SECRET}, by anna"}) + "\n", encoding="utf-8")
     check("and the command shows no wishes", "choose T09, by anna" in stand.script("rooms-office", "backups"))
     held.write_bytes(kept)
 
@@ -146,6 +151,22 @@ def try_times(stand, page):
           f"back at the copy of {local(copy)}. What it was before is in the copy of" in shown, shown[:2500])
 
 
+def try_own_texts(stand, page):
+    """What the keeper itself has written into the journal is in the clerk's language, also in all about one person."""
+    at = "2026-11-29T22:20:00+00:00"
+    with open(stand.data / "journal", "a", encoding="utf-8") as journal:
+        for entry in ({"n": "8-1", "at": at, "who": "bert", "line": "leave T09"}, {"n": "8-1", "at": at, "answer": NOT_KNOWN},
+                      {"n": "8-2", "at": at, "who": "bert", "line": "remove T09"}):
+            journal.write(json.dumps(entry) + "\n")
+    page.form("/office/language", {"language": "de"}, page="/office/")
+    for name in ("journal", "about/T09"):
+        shown = page.get(f"/office/{name}")[2]
+        check(f"the page {name} says in German that an answer is not known", NOT_KNOWN not in shown
+              and "nicht bekannt: Der Dienst endete, bevor er die Antwort notiert hatte" in shown, shown[-3000:])
+        check("also of one that is not there", "nicht bekannt: Sehen Sie nach, ob es gewirkt hat" in shown, shown[-3000:])
+    page.form("/office/language", {"language": "en"}, page="/office/")
+
+
 def try_office_words(program):
     """All of it."""
     with Stand(program, TZ="Asia/Kolkata") as stand:
@@ -159,6 +180,7 @@ def try_office_words(program):
         try_reasons(stand, page)
         try_wishes(stand)
         try_times(stand, page)
+        try_own_texts(stand, page)
         check("the page has noted no fault of its own", "rooms-page:" not in stand.log("page"), stand.log("page"))
 
 

@@ -238,10 +238,14 @@ def leaving(page: Page, stand: Stand) -> None:
         other.open()
         other.sign_in(key_of("T3"), "Tea Tal")
         other.add("A-10")
+        page.add("A-12")
         stand.office("going T3")
         page.click("ask-again")
         told = page.waits(lambda: "no, you leave the college" in page.text("facts"))
         check("a resident who leaves the college reads that they take no part", told, page.text("facts"))
+        text = page.text("news")
+        check("and, in a round that is open, not that a list that was begun came too late",
+              text.startswith("The list that you had begun was not handed in, and can no longer be."), text)
         text = page.text("result")
         check("and what becomes of their room", text == "You leave the college: room H3 is given out in this round, "
               "and you move out at its end.", text)
@@ -304,6 +308,29 @@ def closing_and_result(page: Page, stand: Stand) -> None:
           page.waits(lambda: "no room at present" in page.text("next")) and not page.element("recorded").is_displayed())
 
 
+def given_up(page: Page, stand: Stand) -> None:
+    """The office gives a round up, and opens the next one, while a list was begun that is not handed in."""
+    page.sign_out()
+    stand.office("open")
+    page.sign_in(key_of("N"), "Nia Ng")
+    page.add("A-8", "A-9")
+    for line in ("cancel", "open"):
+        stand.office(line)
+    page.click("ask-again")
+    is_there = page.waits(lambda: "still here" in page.text("news")) and page.codes() == ["A-8", "A-9"]
+    check("a list that was begun is not lost with a round that is given up", is_there, (page.text("news"), page.codes()))
+    for line in ("cancel", "open"):
+        stand.office(line)
+    check("and is handed in in the round that is open", page.hand_in() and page.text("record") == "A-8, A-9", page.text("news"))
+    page.add("A-10")
+    for line in ("cancel", "open", "choose N A-11"):
+        stand.office(line)
+    page.click("hand-in")
+    check("but in the place of no list of that round unasked", page.waits(lambda: page.focus() == "later"), page.focus())
+    page.keys(Keys.ESCAPE)
+    page.sign_out()
+
+
 def nothing_odd(page: Page, stand: Stand) -> None:
     """What the browser and the proxy have written down."""
     logged = [entry["message"] for entry in page.driver.get_log("browser")]
@@ -345,4 +372,5 @@ def try_page(program: str, shots: Path) -> None:
             leaving(page, stand)
             closing_and_result(page, stand)
             left(page)
+            given_up(page, stand)
             nothing_odd(page, stand)

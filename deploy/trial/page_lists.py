@@ -179,6 +179,11 @@ def decided(page: Page, other: Device) -> None:
     page.add("A-11")
     page.click("hand-in")
     page.waits(lambda: page.focus() == "later")
+    other.hand_in("A-8")
+    page.keys(Keys.TAB, Keys.TAB, Keys.ENTER)
+    is_asked = page.waits(lambda: page.element("question").is_displayed() and "A-8" in page.text("question-lists"))
+    check("a list that comes while it is asked is not replaced unasked, either", is_asked and other.recorded() == ["A-8"],
+          (page.text("question-lists"), other.recorded()))
     page.keys(Keys.TAB, Keys.TAB, Keys.ENTER)
     check("or replaced", page.waits(lambda: "Handed in" in page.text("news"))
           and other.recorded() == ["A-9", "V", "A-11"], page.text("news"))

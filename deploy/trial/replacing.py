@@ -1,9 +1,10 @@
 """A file takes the office's place. After a kill at each point it is the one office or the other, and a line by hand
-that is accepted at any point, before the kill or after it, is in the office.
+that is accepted at any point, before the kill or after it, is in the office. Nor does a picture that was taken away stay.
 
 No program is needed. This run alone: /usr/bin/python3 deploy/trial/replacing.py
 """
 
+import base64
 import contextlib
 import fcntl
 import os
@@ -20,8 +21,11 @@ from stand import check
 
 # pylint: disable=wrong-import-position,wrong-import-order  # parts.py has added the folder of the keeper
 import placing
+from journal import Journal
 from placing import LOCK, Place
 from settings import Fault
+from told import JPEG, Told
+from told_files import FILE
 
 STAYS = {"rooms.db", "rooms.db-wal", "rooms.db-shm", "scratch"}
 
@@ -174,9 +178,31 @@ def opened_late():
         check("once that is closed the old file is let go", not place.replaced)
 
 
+def dropped_picture():
+    """A clerk takes the only picture of all away, and the keeper is killed before its file is deleted. The next one deletes it; but
+    pictures whose texts were taken away stay."""
+    body = base64.b64encode(JPEG + b"a picture").decode()
+    with an_office() as settings:
+        folder = settings.file.with_name("told")
+        folder.mkdir()
+        told = Told(folder, Journal(settings.journal))
+        job = {"who": "anna", "room": "A-1", "body": body, "shows": ""}
+        picture = folder / told.add_picture(job)["file"]
+        with contextlib.suppress(Cut), mock.patch.object(told, "sweep", side_effect=Cut):
+            told.drop_picture({**job, "file": picture.name})
+        check("residents read nothing of a picture that was taken away", not told.read()["pictures"])
+        told.clear()
+        check("and a keeper that starts after a kill deletes it", not picture.exists())
+        told.add_picture(job)
+        (folder / FILE).unlink()
+        told.clear()
+        check("without texts, which may be put back, it stays", picture.exists())
+
+
 def try_replacing():
     """All of it."""
     os.umask(0o077)
+    dropped_picture()
     cut_off()
     opened_before()
     locked_by_others()

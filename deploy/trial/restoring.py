@@ -16,12 +16,13 @@ import time
 from pathlib import Path
 from unittest import mock
 
-from stand import DEPLOY, OFFICE, PYTHON, Stand, check
+from stand import DEPLOY, OFFICE, PYTHON, Stand, check, key_of
 
 sys.path.append(str(OFFICE))
 
 # pylint: disable=wrong-import-position,wrong-import-order  # they are in the folder of the line above
-from seeds import merged, noted_seeds
+from happened import merged
+from seeds import noted_seeds
 
 SEED = "5eed" * 16
 KEPT_OFFICE = '{"kind": "backup", "why": "", "whole": true}\n'
@@ -163,6 +164,24 @@ def in_journal(stand):
           and "the office went back to the copy of" in record, record[:2000])
 
 
+def other_people(stand):
+    """An identifier went to somebody else since the copy. What is kept beside the register stays, and rooms-restore names it."""
+    stand.fill(["A-1"], ["T01", "T02", "T03"])
+    stand.start()
+    copy = stand.ask(ask="backup")["name"]
+    stand.ask(ask="do", lines=["remove T02", f"person T02 {key_of('other')} Other T02", "room A-2"], again=["T02"])
+    stand.ask(ask="correct", person="T03", key=key_of("new"))
+    stand.ask(ask="set-accounts", rule="list", list="person,account\nT02,other\nT03,tea\n")
+    for said in (True, False):
+        stand.stop_keeper()
+        told = restore(stand, stand.data / "backups" / copy)
+        stand.start()
+        check("who has another name than before is named, since an account may be another person's" if said else
+              "nobody is named if all have the names of before", told[0] == 0
+              and ("another name than in the office that was there" in told[1]) == said
+              and told[1].rstrip().endswith(": T02") == said, told)
+
+
 def try_restoring(program):
     """All of it."""
     if not can_restore():
@@ -177,6 +196,8 @@ def try_restoring(program):
         in_use(stand, folder)
     with Stand(program) as stand:
         in_journal(stand)
+    with Stand(program) as stand:
+        other_people(stand)
     units()
 
 

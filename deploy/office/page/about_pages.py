@@ -2,9 +2,11 @@
 
 from typing import Any, NamedTuple
 
-from journal import masked
-from languages import N_, _, ngettext
+from journal import OWN_TEXTS, masked
+from languages import N_, _, languages, ngettext
 from lines import IDENTIFIER
+from mail_words import ALL, KINDS
+from naming import CONTACT, DESCRIPTION, MAIL, NOTICE, PICTURE
 
 import explaining
 import plain
@@ -17,9 +19,8 @@ from office_view import Office
 from questions import Question, put_question
 
 
-# The words of the keeper for messages: their kinds, and what became of one.
-WORDS = (N_("invitation"), N_("reminder"), N_("receipt"), N_("results"), N_("moves"),
-         N_("waiting"), N_("begun"), N_("sent"), N_("refused"), N_("uncertain"))
+# The words of the keeper for what became of a message.
+WORDS = (N_("waiting"), N_("begun"), N_("sent"), N_("refused"), N_("uncertain"))
 
 
 class Kept(NamedTuple):
@@ -32,6 +33,8 @@ class Kept(NamedTuple):
     mail: dict[str, Any]
     language: dict[str, Any]
     account: dict[str, str]
+    texts: dict[str, Any]
+    backups: dict[str, Any]
 
     @property
     def labels(self) -> list[str]:
@@ -43,6 +46,41 @@ class Kept(NamedTuple):
         """The day on which the last copy that has the person goes, at the latest; or nothing."""
         return max((until for _, until in self.copies), default="")
 
+    def texts_named(self) -> list[tuple[str, str]]:
+        """The texts that have the person's name, and the page on which each is changed."""
+        return [(said_of_text(*place), page_of_text(*place)) for place in self.texts["places"]]
+
+    def said_of_backups(self) -> str:
+        """What backups of the machine have, and for how long."""
+        return _("Backups of this machine, in {folder}, may have this person, too, with what no copy has. One stays until there "
+                 "are {most} newer ones, and for {days:,} days at most, as long as one is made each night.", **self.backups)
+
+
+def said_of_text(what: str, of: str, language: str) -> str:
+    """A text that clerks have written, as the page calls it."""
+    known = languages().get(language)
+    spoken = known.name if known else language if language != ALL else _("all languages")
+    if what == DESCRIPTION:
+        return _("the description of {room}", room=of)
+    if what == PICTURE:
+        return _("the text of a picture of {room}", room=of)
+    if what == NOTICE:
+        return _("the notice ({language})", language=spoken)
+    if what == CONTACT:
+        return _("the contact")
+    kind = _(KINDS[of].name)
+    return (_("the text of mails: {kind} ({language})", kind=kind, language=spoken) if what == MAIL else
+            _("the messages that were sent last, until others are sent: {kind}", kind=kind))
+
+
+def page_of_text(what: str, of: str, language: str) -> str:
+    """The page on which a text is changed; or nothing, if it only stays until the next one."""
+    if what == MAIL:
+        return f"/office/mail/{of}/in/{language}" if language != ALL else f"/office/mail/{of}"
+    if what == PICTURE:
+        return f"/office/told/room/{of}"
+    return "/office/told" if what in (DESCRIPTION, NOTICE, CONTACT) else ""
+
 
 def kept_of(ident: str) -> Kept:
     """What is kept of a person. An identifier that is none leads back."""
@@ -51,7 +89,7 @@ def kept_of(ident: str) -> Kept:
         go_to("/office/register")
     found = ask("about", person=ident)
     return Kept(found["lists"], found["moves"], found["copies"], found["journal"], found["mail"], found["language"],
-                found["account"])
+                found["account"], found["texts"], found["backups"])
 
 
 def place_of(office: Office, ident: str) -> str:
@@ -82,7 +120,7 @@ def page_about(ident: str) -> str:
     facts = explainer.facts_of(ident) if explainer else None
     told = explaining.to_resident(facts) if facts else []  # as in a letter: the page may go to the person, and names nobody else
     return show("about", office=office, ident=ident, person=office.people.get(ident), kept=kept, told=told,
-                place=place_of(office, ident), kind_name=kind_name, told_who=reasons.told_who)
+                place=place_of(office, ident), kind_name=kind_name, told_who=reasons.told_who, own=OWN_TEXTS, kinds=KINDS)
 
 
 def question_of(office: Office, ident: str, kept: Kept) -> Question:
@@ -97,7 +135,10 @@ def question_of(office: Office, ident: str, kept: Kept) -> Question:
         says.append(_("At once the lists that name the person are blanked: {lists}. This deletes what they say of everybody; the "
                       "register stays as it is. Their labels stay taken.", lists=", ".join(kept.labels)))
     says += erased({"mail": kept.mail, "language": kept.language, "account": kept.account})
-    says += [said_of_copies(len(kept.copies)),
+    if texts := kept.texts_named():
+        says.append(_("A name that the office has had under this identifier is in these texts: {texts}. This does not change them: "
+                      "take it out yourself.", texts=", ".join(text for text, _page in texts)))
+    says += [said_of_copies(len(kept.copies)), kept.said_of_backups(),
              _("The moves and the journal stay. They have the identifier, and no name but one that a clerk has noted.")]
     return Question(_("Forget {person}?", person=who), says, _("Yes: forget this person"), place, saw=office.saw("all", ident).mark)
 

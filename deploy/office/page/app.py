@@ -34,7 +34,8 @@ from codes import unbroken
 from keeper_client import Answer, KeeperFault, WasAnothers
 from memory import Memory
 from office_view import Office
-from sheet_limits import LONGEST_FILE
+from sheet_books import is_book
+from sheet_limits import LONGEST_FILE, TOO_BIG
 
 HERE = Path(__file__).resolve().parent
 # As in haproxy.cfg. A list that is too long comes as far as this page, which says so: where the proxy answers before all
@@ -145,11 +146,13 @@ def list_sent() -> bytes:
     return bytes(upload.file.read(LONGEST_FILE + 1)) if upload else b""
 
 
-def why_not_read(body: bytes) -> str:
-    """Why the bytes of a list are not even looked at, or nothing."""
+def why_not_read(body: bytes, too_long: str = plain.TOO_LONG) -> str:
+    """Why the bytes of a list are not looked at, or nothing. Of a workbook that is too long nobody knows how long its list is."""
     if not body:
         return _("Choose a list first.")
-    return _(plain.TOO_LONG) if len(body) > LONGEST_FILE else ""
+    if len(body) <= LONGEST_FILE:
+        return ""
+    return str(plain.Meaning(TOO_BIG.says, TOO_BIG.to_do).translated()) if is_book(body) else _(too_long)
 
 
 def uploads_of(name: str) -> list[tuple[str, bytes]]:

@@ -163,6 +163,18 @@ def has_come_again(office: Office, ident: str) -> bool:
     return bool(office.choices.get(ident))
 
 
+def said_later(office: Office, copy: str) -> dict[int, list[str]]:
+    """By the number of a round that was given up after the one of this copy: of whom it has something, too. What they said last is
+    there, and would be replaced by what they had said before."""
+    later: dict[int, list[str]] = {}
+    for given_up in rounds(office):
+        if given_up.copy == copy:
+            break
+        had = had_in(given_up.copy)
+        later[given_up.number] = sorted({*had.going, *had.withdrawn, *had.choices})
+    return later
+
+
 def all_missing(office: Office) -> list[tuple[GivenUp, str]]:
     """What of the rounds that were given up is not back in the round that is open, but could be, the newest round first. A clerk
     has to know it before the round is closed. Somebody of whom a newer round has something is named with that one alone."""
@@ -172,7 +184,7 @@ def all_missing(office: Office) -> list[tuple[GivenUp, str]]:
         try:
             had = had_in(given_up.copy)
         except KeeperFault as fault:
-            found.append((given_up, _("nobody knows what ({fault})", fault=str(fault).rstrip("."))))
+            found.append((given_up, _("nobody knows what is not back ({fault})", fault=str(fault).rstrip("."))))
             continue
         if missing := missing_of(office, had, newer):
             found.append((given_up, missing))

@@ -8,7 +8,8 @@ from typing import NamedTuple, NoReturn
 from journal import masked
 from languages import N_, _, ngettext
 from lines import SEED, on_one_line
-from seeds import OF_TEXT, STRUCK, UNEXPLAINED, Noted, Seeds, noted_seeds
+from seeds import OF_TEXT, STRUCK, UNEXPLAINED, Noted, Seeds
+from seen import why_stale
 
 import plain
 from app import app, ask, change, clerk, drawn_order, field, go_to, memory, office_now, show, tell, text_of
@@ -19,8 +20,6 @@ from questions import Question, put_question
 THROWS = re.compile(r"(?:[1-6]|[^\w])+")
 ENOUGH = 50  # throws of a die are 129 bits
 SHORTEST_TEXT, LONGEST_TEXT = 8, 400
-# As much of the journal as the keeper gives.
-ALL_ENTRIES = 1_000_000
 BACK = "/office/draw"
 # How a seed came about: as the journal has it, and as the page shows it.
 BY_MACHINE, AS_IT_IS = "made by the machine", "entered as it is"
@@ -40,8 +39,8 @@ def seeds_of(office: Office) -> Seeds:
     """The seeds of this round, and that of its draw."""
     if office.phase == "idle":
         return Seeds([], "", "")
-    reply = ask("journal", last=ALL_ENTRIES)
-    return noted_seeds(reply["journal"], reply["whole"])
+    reply = ask("seeds")
+    return Seeds([Noted(*one) for one in reply["found"]], reply["drawn"], reply["since"])
 
 
 def throws_in(text: str) -> int | None:
@@ -108,6 +107,13 @@ def doubt_of(text: str) -> list[str]:
     return []
 
 
+def go_back_if_stale(office: Office, place: str = BACK) -> None:
+    """Leads back from a form of another round: what the witnesses of that one saw is no seed of this one."""
+    if why := why_stale(office.view, field("seen"), None):
+        tell("bad", plain.begun(why))
+        go_to(place)
+
+
 @app.post("/office/seed")
 def note_seed() -> None:
     """Writes a seed into the journal before anything is drawn with it, so that nobody can try seeds in secret."""
@@ -115,6 +121,7 @@ def note_seed() -> None:
     if office.phase != "closed":
         tell("bad", _("There is nothing to draw now. {phase}.", phase=_(plain.PHASES[office.phase].title)))
         go_to(BACK)
+    go_back_if_stale(office)
     try:
         seed, source = seed_of(field("way"), text_of("text"))
     except NoSeed as why:
@@ -154,14 +161,15 @@ def ask_note(name: str) -> str:
 @app.post("/office/seed/<name:re:[0-9a-f]{32}>")
 def note(name: str) -> None:
     """Notes it."""
-    line = pending(name).line
+    waits, office = pending(name), office_now()
+    if office.phase != "closed":
+        memory.let_go(clerk(), name)
+        tell("bad", _("Nothing was noted. {phase}.", phase=_(plain.PHASES[office.phase].title)))
+        go_to(BACK)
+    go_back_if_stale(office, f"{BACK}/{name}" if waits.text else BACK)
     memory.let_go(clerk(), name)
-    phase = office_now().phase
-    if phase != "closed":
-        tell("bad", _("Nothing was noted. {phase}.", phase=_(plain.PHASES[phase].title)))
-    else:
-        ask("note", line=line)
-        tell("good", _("The seed is struck out.") if line.endswith(STRUCK) else _("The seed is noted."))
+    ask("note", line=waits.line)
+    tell("good", _("The seed is struck out.") if waits.line.endswith(STRUCK) else _("The seed is noted."))
     go_to(BACK)
 
 

@@ -143,10 +143,11 @@ def outcome_of(facts: Facts) -> str:
     if facts.got:
         text = (_("Nothing better on the list was left, so {person} keeps {room}.", person=facts.ident, room=facts.got)
                 if facts.has_list else
-                _("No list of {person} was on record, so {person} keeps {room}.", person=facts.ident, room=facts.got))
+                _("No list of {person} was on record, or an empty one, so {person} keeps {room}.", person=facts.ident,
+                  room=facts.got))
     else:
         text = (_("Nothing on the list was left, so {person} gets no room.", person=facts.ident) if facts.has_list else
-                _("No list of {person} was on record, so {person} gets no room.", person=facts.ident))
+                _("No list of {person} was on record, or an empty one, so {person} gets no room.", person=facts.ident))
     return text
 
 
@@ -190,6 +191,6 @@ def your_outcome(facts: Facts) -> str:
                  room=facts.got, choice=facts.found.choice)
     if facts.got:
         return (_("You keep {room}, since nothing better on your list was left.", room=facts.got) if facts.has_list else
-                _("You keep {room}, since no list of yours was on record.", room=facts.got))
+                _("You keep {room}, since no list of yours was on record, or an empty one.", room=facts.got))
     return (_("You get no room, since nothing on your list was left.") if facts.has_list else
-            _("You get no room, since no list of yours was on record."))
+            _("You get no room, since no list of yours was on record, or an empty one."))

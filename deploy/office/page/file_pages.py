@@ -10,14 +10,14 @@ from typing import Any, NamedTuple
 import bottle  # type: ignore[import]  # Debian's bottle has no types
 
 import times
+from happened import merged
 from journal import OWN_TEXTS
 from languages import N_, _, ngettext
-from seeds import merged
 
 import explaining
 import plain
 import reasons
-from app import HERE, app, ask, download, drawn_order, field, go_to, office_now, show, tell, text_of
+from app import HERE, app, ask, download, drawn_order, field, go_to, office_now, show, tell, tell_fault, text_of
 from keeper_client import KeeperFault, answers_of
 from many_pages import propose_keys
 from office_view import Office
@@ -129,6 +129,12 @@ THEN = {
     "drawn": N_("Then this holds again: the order is drawn (round {number})."),
     "ran": N_("Then this holds again: the rooms are given (round {number})."),
     "published": N_("Then this holds again: the results are published (round {number})."),
+}
+# Whose list does not count after the way back, if no round is open then, and if one is.
+LOST = {
+    False: N_("These people had another list before, which does not count now: {people}. Tell them so. While no round is open, "
+              "nobody can hand in a list."),
+    True: N_("These people had another list before, which does not count now: {people}. Tell them to hand it in again."),
 }
 
 
@@ -242,26 +248,30 @@ def ask_back(name: str) -> str:
     if found["come"]:
         says.append(_("Of people who were removed and come back into the register, the language of slips, letters and mails "
                       "does not come back, nor does their mail address. Set both again."))
+    if found["date"]:
+        says.append(_("The date until which lists are taken is forgotten."))
     title = _("Go back to the copy of {time}?", time=made)
     keys = ("newer", _("Keep the newer keys. Without this tick the old ones work again, also for somebody who has found or "
                        "copied one.")) if found["newer_now"] else None
-    return put_question(office, Question(title, says, _("Yes: go back to this copy"), "/office/copies", facts=facts_of(found),
-                                         choice=keys))
+    return put_question(office, Question(title, says, _("Yes: go back to this copy"), "/office/copies", saw=found["mark"],
+                                         facts=facts_of(found), choice=keys))
 
 
 @app.post("/office/copies/<name>/back")
 def back(name: str) -> None:
-    """Puts a copy back."""
-    found = ask("back", name=name, seen=field("seen"), newer_keys=bool(field("newer")))
+    """Puts a copy back, if that undoes what the question has named. If it does not, the question comes again."""
+    try:
+        found = ask("back", name=name, seen=field("seen"), mark=field("saw"), newer_keys=bool(field("newer")))
+    except KeeperFault as fault:
+        tell_fault(fault)
+        go_to(f"/office/copies/{name}/back")
     tell("good", _("The office is back at the copy of {time}. What it was before is in the copy of {before}.",
                    time=times.of_copy(name), before=times.of_copy(found["name"])))
     if gone := found.get("gone"):
         tell("bad", _("What was kept of these identifiers may have been of other people than those of the copy, and was erased: "
                       "{people}.", people=", ".join(gone)))
-    newest = found.get("newest", [])
-    if (lost := [person for person in found.get("lists", []) if person not in newest]) and found["round"][1] == "open":
-        tell("bad", _("These people had another list before, which does not count now: {people}. Tell them to hand it in again.",
-                      people=", ".join(lost)))
+    if lost := found.get("lost"):
+        tell("bad", _(LOST[found["round"][1] == "open"], people=", ".join(lost)))
     if keys := [person for person in found.get("keys", []) if person not in found["newer_then"]]:
         tell("bad", ngettext("One person has the key of the copy again, and the key of before does not work. If a key was lost, or "
                              "others know it, make a new key now. Take out whoever needs none.",

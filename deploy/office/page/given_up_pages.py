@@ -6,10 +6,11 @@ from typing import ClassVar, NamedTuple
 from bottle import request  # type: ignore[import]  # Debian's bottle has no types
 
 from languages import N_, _
+from seen import Saw, why_other
 
 import plain
 from app import app, ask, clerk, field, go_to, memory, office_now, show, tell, ticked
-from coming_back import Back, GivenUp, bodies, had_in, has_come_again, rounds, what_is_left
+from coming_back import Back, GivenUp, bodies, had_in, has_come_again, listed, rounds, said_later, what_is_left
 from keeper_client import KeeperFault, answers_of
 from list_pages import Job
 from many_pages import bundle_of, carry_out
@@ -43,11 +44,13 @@ def round_of(office: Office, copy: str) -> GivenUp:
     return found
 
 
-def out_of(back: Back) -> TakenOut:
-    """Who is not ticked: the one person who is being undone, or everybody whom the clerk has taken out before."""
+def out_of(back: Back, later: list[str]) -> TakenOut:
+    """Who is not ticked: the one person who is being undone, and of whom a later round has something; or everybody whom the clerk
+    has taken out before."""
     query = dict(request.query)
     if "out" not in query:
-        return TakenOut([query["but"]] if "but" in query else [], [])
+        return TakenOut([*query.get("but", "").split(), *(one for one in back.away if one in later)],
+                        [one for one in back.lists if one in later])
     held = memory.held(clerk(), query["out"])
     if isinstance(held, TakenOut):
         return held
@@ -73,10 +76,13 @@ def given_up(copy: str) -> str:
     """What of a round can come back, for the clerk to choose from."""
     office = office_now()
     found, back = round_of(office, copy), what_is_left(office, had_in(copy))
-    out = out_of(back)
+    later = {number: [one for one in people if one in back.away or one in back.lists]
+             for number, people in said_later(office, copy).items()}
+    out = out_of(back, [one for people in later.values() for one in people])
     parts = {"going": rows_of(office, back, back.going, out.idents), "withdrawn": rows_of(office, back, back.withdrawn, out.idents)}
     away = [row.ident for rows in parts.values() for row in rows if row.is_ticked]
     return show("given_up", office=office, given_up=found, back=back, parts=parts, lists=back.lists, out=out.lists,
+                later={number: listed(people) for number, people in later.items() if people},
                 rest=away or back.lists_but(away) or back.longer, saw=office.saw("all", *back.away, *back.longer).mark,
                 others=[one for one in rounds(office) if one.copy != copy])
 
@@ -95,8 +101,8 @@ def bring_back(copy: str) -> None:
     if office.phase != "open" or field("seen") != office.state:
         tell("bad", _("Nothing was changed. {phase}. Look again.", phase=_(plain.PHASES[office.phase].title)))
         go_to(place)
-    if field("saw") != office.saw("all", *back.away, *back.longer).mark:
-        tell("bad", _("Nothing was changed. What is on record of one of these people was changed after you looked. Look again."))
+    if why := why_other(office.view, Saw("all", [*back.away, *back.longer], field("saw"))):
+        tell("bad", why)
         go_to(place)
     came, before = Came(), office
     if lists:  # before the withdrawals, as it was: nobody's list is lost by a way back later on

@@ -62,9 +62,16 @@ def set_many() -> None:
 @app.post(f"{HOME}/strangers")
 def erase_strangers() -> None:
     """Erases the languages of people who are not in the register, of those whom the clerk saw alone."""
-    known = office_now().people
-    if is_done(SET, languages={ident: "" for ident in ticked("person") if ident not in known}):
-        tell("good", _("They are erased."))
+    known, seen = office_now().people, ticked("person")
+    try:
+        erased = ask(SET, languages={ident: "" for ident in seen if ident not in known})["changed"]
+    except KeeperFault as fault:
+        tell_fault(fault)
+        go_to(HOME)
+    if here := [ident for ident in seen if ident in known]:
+        tell("bad", _("These people are in the register again, and keep their language: {people}.", people=", ".join(here)))
+    if erased or not here:
+        tell("good", ngettext("The language of one person is erased.", "The language of {count} people is erased.", erased))
     go_to(HOME)
 
 

@@ -73,6 +73,14 @@ class Job(NamedTuple):
         """Those of people who are in the register already, and whose address or language would be another one."""
         return mail_lists.what_changes(self.mailed.of(self.mailed.people() - set(self.people())))
 
+    def mail_of_same(self, office: Office) -> Addresses:
+        """Those of all of its people that would be other ones than now, but for who is out of the register, or has another name
+        there: that may be another person."""
+        names = self.names()
+        same = {ident for ident in self.mailed.people() & office.people.keys()
+                if office.people[ident].name == names.get(ident, office.people[ident].name)}
+        return mail_lists.what_changes(self.mailed.of(same))
+
     def names(self) -> dict[str, str]:
         """The names of the people on the list."""
         return {record.fields[0]: record.fields[1] for record in CsvList(self.body).records[1:]}
@@ -283,14 +291,16 @@ def bring_list() -> str:
 
 
 def come_in(name: str, job: Job, is_told: bool = False) -> NoReturn:
-    """What follows once a list is in. The clerk reads so now if nobody said it before: the keeper's answer may be lost."""
+    """What follows once a list is in. The clerk reads so now if nobody said it before: the keeper's answer may be lost. Or the list
+    may be in for long, as by another clerk, and its addresses be changed since: then none comes in without a yes."""
     memory.replace(clerk(), name, Brought(job.label, job.made))
-    if not is_told:
+    if is_told:
+        mail_lists.bring(job.mail_of_new())
+    else:
         tell("good", list_slips.once_in(job.label, None)[0])
-    mail_lists.bring(job.mail_of_new())
     for kind, text in list_slips.which_work(job.people(), job.made) if job.kind == "people" else ():
         tell(kind, text)
-    known = job.mail_of_known()
+    known = job.mail_of_known() if is_told else job.mail_of_same(office_now())
     held = memory.hold(clerk(), known) if known.people() else ""
     if held:
         tell("bad", _("The list has new mail addresses or languages of people who were in the register already: {people}. These "

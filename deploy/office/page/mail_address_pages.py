@@ -6,6 +6,7 @@ from languages import _, ngettext
 from told import mark_of
 
 import columns
+import plain
 from app import (app, ask, clerk, download, field, go_to, list_sent, memory, office_now, show, tell, text_of, ticked,
                  why_not_read)
 from csv_list import line_of
@@ -32,7 +33,7 @@ def export() -> HTTPResponse:
 def look_at_addresses() -> str:
     """Reads a file of addresses. Nothing is changed before the clerk says yes."""
     office, body = office_now(), list_sent()
-    if why := why_not_read(body):
+    if why := why_not_read(body, plain.ADDRESSES_TOO_LONG):
         tell("bad", why)
         go_to(HOME)
     try:

@@ -64,7 +64,7 @@ def of_rows(read: Understood, known: set[str]) -> Addresses:
             continue
         ident, text, language = record.fields
         says = fault_of(ident, text, known, found)
-        if wrong := says or fault_of_language(language):
+        if wrong := says or fault_of_language(language, spoken.get(ident, "")):
             ident, shown = list_faults.fields_shown([ident, text if says else language], "")
             faults.append(AddressFault(record.row, ident[:SHOWN], shown[:SHOWN], wrong))
             continue
@@ -92,8 +92,10 @@ def code_of(language: str) -> str:
     return next((code for code, one in languages().items() if small in (code.casefold(), one.name.casefold())), "")
 
 
-def fault_of_language(language: str) -> str:
-    """What is wrong with a language, or nothing."""
+def fault_of_language(language: str, before: str) -> str:
+    """What is wrong with a language, beside the one that a line before has for the person; or nothing."""
+    if language and before and code_of(language) not in ("", before):
+        return _("This person is on the list with another language already.")
     if not language or code_of(language):
         return ""
     return _("There is no such language here. There are: {languages}.",
@@ -121,13 +123,16 @@ def beside_people(office: Office, body: bytes, read: Understood) -> tuple[Addres
 
 
 def without_others(found: Addresses, office: Office, read: Understood) -> Addresses:
-    """The addresses without those of lines that have another name for a person than the register: they may be another person's."""
-    says = _("The register has another name for this identifier, so the address may be another person's.")
+    """The addresses and languages without those of lines that have another name for a person than the register: they may be another
+    person's. A line that has neither says nothing of mail, so it has no fault here."""
+    address = _("The register has another name for this identifier, so the address may be another person's.")
+    language = _("The register has another name for this identifier, so the language may be another person's.")
+    says = {**{ident: language for ident, _code in found.languages}, **{ident: address for ident, _text in found.pairs}}
     others = {}
     for record in read.table.records[1:]:
-        if has_another_name(office, record.fields):
+        if record.fields[0] in says and has_another_name(office, record.fields):
             ident, name = list_faults.fields_shown(record.fields[:2], "")
-            others[record.fields[0]] = AddressFault(record.row, ident[:SHOWN], name[:SHOWN], says)
+            others[record.fields[0]] = AddressFault(record.row, ident[:SHOWN], name[:SHOWN], says[record.fields[0]])
     left = found._replace(faults=(*found.faults, *others.values()))
     return left.of(found.people() - set(others))
 

@@ -170,10 +170,10 @@ def who_else(state: dict[str, Any]) -> list[str]:
                              "{count} of these people have got an earlier one, which is no longer right. Say in the text that "
                              "this message replaces it.", changed))
     if sent:
-        says.append(ngettext("{count} have got it already, and get nothing now.",
+        says.append(ngettext("{count} person has got it already, and gets nothing now.",
                              "{count} have got it already, and get nothing now.", sent))
     if absent:
-        says.append(ngettext("{count} have no mail address, and get nothing: tell them in another way.",
+        says.append(ngettext("{count} person has no mail address, and gets nothing: tell them in another way.",
                              "{count} have no mail address, and get nothing: tell them in another way.", absent))
     return says
 
@@ -222,10 +222,11 @@ def steer() -> None:
 def ask_begin() -> str:
     """Asks before receipts are sent by themselves."""
     state = ask("mail")["kinds"][RECEIPT]
-    says = [_("Whoever has a mail address gets a message some minutes after their list on record has changed, by themselves or by "
-              "you. Several changes in a row make one message. It names no room. This goes on in later rounds, until you end it."),
+    says = [_("Whoever has a mail address gets a message some minutes after their list on record has changed, or they have "
+              "withdrawn, by themselves or by you. Several changes in a row make one message. It names no room. This goes on in "
+              "later rounds, until you end it."),
             _("Lists that are on record already bring no message. If the office goes back to a copy of the same round, everybody "
-              "gets one whose list is another one then."),
+              "gets one whose list is another one then, or whose withdrawal no longer counts."),
             " ".join(subjects(state)), *who_else({**state, "sent": []})]
     return put_question(office_now(), Question(_("Send receipts of lists?"), list(filter(None, says)), _("Yes: send receipts"),
                                                RECEIPTS, saw=state["mark"]))
@@ -256,7 +257,7 @@ def steer_receipts() -> None:
 def ask_again(kind: str) -> str:
     """Asks before everybody can get a message of this kind once more."""
     place, state = address_of_kind(kind), ask("mail")["kinds"][kind]
-    says = [ngettext("{count} have got this message. If you go on, they can get another one: a second reminder, for example. "
+    says = [ngettext("{count} person has got this message. If you go on, they can get another one: a second reminder, for example. "
                      "Nothing is sent yet: write the text first.",
                      "{count} have got this message. If you go on, they can get another one: a second reminder, for example. "
                      "Nothing is sent yet: write the text first.",

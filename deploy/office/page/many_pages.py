@@ -26,11 +26,13 @@ class Bundle(NamedTuple):
 
 
 class Many(NamedTuple):
-    """Lines for many people that were tried and wait for the clerk's yes."""
+    """Lines for many people that were tried and wait for the clerk's yes. If those alone are meant who have no list on record,
+    `marks` has what was on record of each."""
 
     act: str
     idents: list[str]
     bundle: Bundle
+    marks: dict[str, str] | None = None
 
 
 class Proposed(NamedTuple):
@@ -74,10 +76,24 @@ def acts_for(office: Office) -> dict[str, str]:
     return {act: _(text) for act, (phases, text, __) in ACTS.items() if office.phase in phases}
 
 
-def show_many(office: Office, acts: dict[str, str], text: str, faults: list[str], job: Many | None = None, act: str = "") -> str:
-    """The form; or, if the identifiers were tried, whom they name, and the question."""
+def show_many(office: Office, acts: dict[str, str], text: str, faults: list[str], job: Many | None = None, act: str = "",
+              unlisted: bool = False) -> str:
+    """The form; or, if the identifiers were tried, whom they name, and the question. `unlisted` if those alone are meant who have
+    no list on record."""
     held, yes = (memory.hold(clerk(), job), _(ACTS[job.act][2])) if job else ("", "")
-    return show("many", office=office, acts=acts, text=text, faults=faults, job=job, held=held, yes=yes, chosen=act)
+    return show("many", office=office, acts=acts, text=text, faults=faults, job=job, held=held, yes=yes, chosen=act,
+                unlisted=unlisted)
+
+
+def tell_listed(office: Office, idents: list[str]) -> None:
+    """Names those who are left out since they have handed in a list by now."""
+    if listed := [one for one in idents if office.choices.get(one)]:
+        tell("bad", _("Left out, since a list of theirs is on record now: {people}.", people=", ".join(listed)))
+
+
+def unlisted_of(office: Office, idents: list[str]) -> list[str]:
+    """Those of these people who have no list on record, or an empty one."""
+    return [one for one in idents if not office.choices.get(one)]
 
 
 @app.get("/office/many")
@@ -97,7 +113,7 @@ def many_held(name: str) -> str:
     """The form with identifiers that the page holds: they are proposed for new keys, or wait for a yes and are sent again."""
     office, found = office_now(), memory.held(clerk(), name)
     if isinstance(found, Many):
-        return show_many(office, acts_for(office), "\n".join(found.idents), [], act=found.act)
+        return show_many(office, acts_for(office), "\n".join(found.idents), [], act=found.act, unlisted=found.marks is not None)
     if not isinstance(found, Proposed):
         go_to("/office/many")
     return show_many(office, {KEYS: _(ACTS[KEYS][1])}, "\n".join(found.idents), [])
@@ -111,14 +127,18 @@ def look_at_many() -> str:
     idents = list(dict.fromkeys(filter(None, re.split(r"[\s,;]+", text.upper()))))
     if everybody:
         idents, text = list(office.people), ""
+    if unlisted := bool(field("unlisted")) and act == "withdraw":
+        tell_listed(office, idents)
+        idents = unlisted_of(office, idents)
     faults = wrong_with(office, act, idents, act in acts)
     job = None
     if not faults:
-        job = Many(act, idents, bundle_of(office, act, idents))
+        marks = {one: office.saw("all", one).mark for one in idents} if unlisted else None
+        job = Many(act, idents, bundle_of(office, act, idents), marks)
         last = attempt(*job.bundle.lines)[-1] if job.bundle.lines else None
         if last and last.status:
             faults, job = [str(plain.meaning(last.text))], None
-    return show_many(office, acts, text, faults[:20], job, act)
+    return show_many(office, acts, text, faults[:20], job, act, unlisted)
 
 
 def wrong_with(office: Office, act: str, idents: list[str], can_be_done: bool) -> list[str]:
@@ -150,6 +170,7 @@ def do_many() -> None:
     if job.act in AWAY:
         must_be_sure(f"/office/many/{name}")
     memory.let_go(clerk(), name)
+    job = without_listed(job) if job.marks else job
     if job.act == KEYS:
         make_keys(job)
     came = carry_out(job.bundle) if job.bundle.lines else Came(len(job.idents), "")
@@ -158,6 +179,19 @@ def do_many() -> None:
         go_to("/office/register" if came.people else sent_again(job))
     tell("good", ngettext("Done for one person.", "Done for {count} people.", len(job.idents)))
     go_to("/office/register")
+
+
+def without_listed(job: Many) -> Many:
+    """The same without those who have handed in a list since. If something else was changed of the others, all stay, and the keeper
+    says so."""
+    office, marks = office_now(), job.marks or {}
+    rest = unlisted_of(office, job.idents)
+    if rest == job.idents or any(office.saw("all", one).mark != marks[one] for one in rest):
+        return job
+    tell_listed(office, job.idents)
+    if not rest:
+        go_to("/office/second")
+    return job._replace(idents=rest, bundle=bundle_of(office, job.act, rest))
 
 
 def sent_again(job: Many) -> str:

@@ -80,17 +80,24 @@ def why_no_list(codes: list[str]) -> str:
     return _("{room} stands twice on this list.", room=masked(twice)) if twice else ""
 
 
+def wishes_entered() -> str:
+    """The rooms that a clerk has entered as they stand on paper, with one space between two."""
+    return " ".join(re.findall(r"[^\s,;]+", field("text").upper()))
+
+
+def tell_entered(wishes: str) -> None:
+    """Says what a clerk has entered that leads to nothing: the form does not have it any more."""
+    tell("bad", _("You had entered: {wishes}.", wishes=masked(wishes)) if wishes else _("You had entered: an empty list."))
+
+
 @app.post("/office/person/<ident>/whatif")
 def what_if(ident: str) -> None:
     """Asks which room another list would have given."""
-    place = person_of(office_now(), ident)
-    wishes = text_of("text").upper()
-    if why := why_no_list(wishes.split()):
-        tell("bad", why)
-        go_to(place)
+    place, wishes = person_of(office_now(), ident), wishes_entered()
     answer = attempt(f"whatif {ident} {wishes}".strip())[0]
     if answer.status:
-        tell("bad", str(plain.meaning(answer.text)))
+        tell("bad", why_no_list(wishes.split()) or str(plain.meaning(answer.text)))
+        tell_entered(wishes)
         go_to(place)
     listed, room = wishes or _("(empty)"), answer.text.split()[-1]  # it answers `would get ROOM`, or `would get none`
     tell("good", _("By the list {wishes} this person would get none.", wishes=listed) if room == NONE else
@@ -108,12 +115,12 @@ def move_in(ident: str) -> None:
 @app.post("/office/person/<ident>/choose")
 def choose(ident: str) -> None:
     """Puts a person's list on record. If that is not done, the clerk reads both lists: the page shows the other one."""
-    wishes = " ".join(re.split(r"[\s,;]+", field("text").strip(" ,;").upper()))  # as they stand on paper
+    wishes = wishes_entered()
     why = why_no_list(wishes.split())
     if why:
         tell("bad", _("Nothing was changed. {why}", why=why))
     if why or not change("do", lines=[f"choose {ident} {wishes}".strip()], saw=saw("list", ident)):
-        tell("bad", _("You had entered: {wishes}.", wishes=masked(wishes)) if wishes else _("You had entered: an empty list."))
+        tell_entered(wishes)
     go_to(person_of(office_now(), ident))
 
 

@@ -203,6 +203,10 @@ REFUSALS = {
 }
 
 TOO_LONG = N_("This list is longer than 262,144 bytes. Nothing came in. Split it in two, with a label each.")
+# Of lists that have no label: a second one takes the place of the first, or comes in beside it.
+DESCRIPTIONS_TOO_LONG = N_("This list is longer than 262,144 bytes. Nothing was changed. A second list would take the place of "
+                           "this one, so shorten its texts.")
+ADDRESSES_TOO_LONG = N_("This list is longer than 1,000,000 bytes. Nothing came in. Split it in two.")
 LABEL_LIKE_A_KEY = N_("A label with 16 letters and digits in a row may be a key, and the journal takes no keys. Write "
                       "another label.")
 # What may stand in the columns, with examples, as the page of lists has it.
@@ -276,6 +280,8 @@ def done(text: str) -> str:
         return _("The list is on record: {rooms}.", rooms=" ".join(words[1:]))
     if words[0] == "added" and number.isdigit():
         return ngettext("The list is in, with {count} line.", "The list is in, with {count} lines.", int(number))
+    if words[0] == "settled" and number.isdigit():
+        return ngettext("The round is settled, with {count} move.", "The round is settled, with {count} moves.", int(number))
     texts = {
         "ok": N_("Done."),
         "shut": N_("The room is out of use."),
@@ -288,7 +294,6 @@ def done(text: str) -> str:
         "drawn": N_("The order of {number} participants is drawn."),
         "ran": N_("The rooms are given to {number} participants."),
         "published": N_("The results of {number} participants are published."),
-        "settled": N_("The round is settled, with {number} moves."),
     }
     return _(texts[words[0]], number=number) if words[0] in texts else text.strip()
 

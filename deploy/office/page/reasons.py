@@ -28,6 +28,7 @@ CORRECTED = {"name": N_("name of {what} corrected"), "key": N_("new key for {wha
              "name and key": N_("name and key of {what} corrected")}
 ASKED_FOR = re.compile(r"asked for by (.*)")
 BEFORE = re.compile(r"before (.*), by ([^,]*)")
+RESTORED = re.compile(r"before rooms-restore (.*)")
 DATED = re.compile(r"the date that (.*) set")  # by which the keeper has closed the round
 COUNTED = re.compile(r"([a-z]+) \((\d+)\)")
 
@@ -36,6 +37,8 @@ def of_copy(why: str) -> str:
     """Why a copy was made, by what the keeper says."""
     if asked := ASKED_FOR.fullmatch(why):
         return _("Asked for by {who}", who=asked[1])
+    if restored := RESTORED.fullmatch(why):
+        return _("Before: rooms-restore from {folder}, by the administrator", folder=restored[1])
     if before := BEFORE.fullmatch(why):
         return _("Before: {what}, by {who}", what=of_lines(before[1]), who=told_who(before[2]))
     return why or _("Put there by hand")

@@ -91,8 +91,9 @@ def warnings(office: Office, step: str) -> list[str]:
         says.append(_("From round {number}, which was given up: {missing}. The overview leads to it.",
                       number=given_up.number, missing=missing))
     if step == "close" and office.without_list:
-        says.append(_("{count} of {all} participants have no list on record, or an empty one.",
-                      count=len(office.without_list), all=len(office.participants)))
+        says.append(ngettext("{count} of {all} participants has no list on record, or an empty one.",
+                             "{count} of {all} participants have no list on record, or an empty one.", len(office.without_list),
+                             all=len(office.participants)))
     if step in ("open", "close") and not office.participants:
         says.append(_(plain.NOBODY[step]))
     if step in ("publish", "settle") and explaining.faults_of(office):

@@ -19,7 +19,7 @@ ROWS = {
     "people": [["24001", "Ann Ash", "", "N-101"], ["24002", "Bo Li", "", ""]],
     "grades": [["24001", "0"], ["24002", "1"]],
     "choices": [["24001", "N-102 S-201"], ["24002", "N-101"]],
-    plain.DESCRIPTIONS: [["N-101", N_("North"), "1", "14 m²", "412.50 €", N_("Balcony to the garden")],
+    plain.DESCRIPTIONS: [["N-101", N_("North"), "1", "14 m²", N_("412.50 €"), N_("Balcony to the garden")],
                          ["N-102", N_("North"), "1", "18 m²", "455 €", ""],
                          ["S-201", N_("South"), "2", "12 m²", "380 €", N_("Quiet")]],
 }

@@ -16,7 +16,7 @@ class Second(NamedTuple):
     without: int
     free: int
     asked: int           # people without a room who have a list on record
-    tenants: list[str]   # who has a room, and no list on record
+    tenants: list[str]   # who has a room, and no list on record or an empty one
 
 
 class Said(NamedTuple):

@@ -105,11 +105,13 @@ def waiting_slips(name: str) -> str:
     """The slips that were made last, once."""
     waiting = memory.held(clerk(), name)
     if not isinstance(waiting, Waiting):
-        tell("bad", _("The page no longer has these slips. No key was changed now. If a slip is lost, make a new key."))
+        tell("bad", _("The page no longer has these slips. If a key was made just now, it works, and its slip is lost: make a new "
+                      "key."))
         go_to("/office/register")
+    office = office_now()  # first: if the keeper does not answer, the slips are shown when it does
     keys = waiting.take()
     if not keys:
         tell("bad", _("These slips were shown already, and the page no longer has them. Their keys work. If a slip was not "
                       "printed, make a new key."))
         go_to(waiting.onward)
-    return show("key", office=office_now(), keys=keys, onward=waiting.onward, back="")
+    return show("key", office=office, keys=keys, onward=waiting.onward, back="")

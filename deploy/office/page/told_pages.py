@@ -88,14 +88,15 @@ def lines_of(name: str) -> str:
 
 @app.post(f"{PLACE}/words")
 def tell_words() -> str:
-    """Puts the notice and the contact on the residents' page. What cannot be put there stays in the form."""
+    """Puts the notice and the contact on the residents' page. What cannot be put there stays in the form, with the mark of what
+    its clerk saw: so a second press does not replace what another clerk has written meanwhile, either."""
     known = languages_of(told_now()[0]["notice"])
     notice, contact = {language: lines_of(f"notice-{language}") for language in known}, text_of("contact")
     if tell_keeper("tell-words", _("The notice and the contact are on the residents' page."), notice=notice, contact=contact,
                    saw=field("saw")):
         go_to(PLACE)
     return show("told_words", office=office_now(), notice=notice, contact=contact, noticed=known,
-                marks=told_now()[1], most_notice=LONGEST_NOTICE, most_contact=LONGEST_CONTACT)
+                marks={"words": field("saw")}, most_notice=LONGEST_NOTICE, most_contact=LONGEST_CONTACT)
 
 
 # --- descriptions
@@ -104,7 +105,7 @@ def tell_words() -> str:
 def look_at_rooms() -> str:
     """Reads a list of descriptions. Nothing is on the residents' page before the clerk says so."""
     office, body = office_now(), list_sent()
-    if why := why_not_read(body):
+    if why := why_not_read(body, plain.DESCRIPTIONS_TOO_LONG):
         tell("bad", why)
         go_to(PLACE)
     try:
@@ -112,7 +113,7 @@ def look_at_rooms() -> str:
     except NotUnderstood as fault:
         return show("told_faults", office=office, whole=fault.meaning, faults=list[Fault]())
     if len(read.body) > LONGEST_LIST:
-        tell("bad", _(plain.TOO_LONG))
+        tell("bad", _(plain.DESCRIPTIONS_TOO_LONG))
         go_to(PLACE)
     said = told_rooms.described(read.table)
     if said.faults or not said.rooms:
@@ -134,7 +135,7 @@ def bring_rooms() -> None:
         tell("bad", _("The page no longer holds this list. Nothing was changed now: send it again."))
         go_to(PLACE)
     count = how_many_seen(office_now(), job.rooms)
-    if tell_keeper("tell-rooms", ngettext("The descriptions of {count} rooms are on the residents' page.",
+    if tell_keeper("tell-rooms", ngettext("The description of {count} room is on the residents' page.",
                                           "The descriptions of {count} rooms are on the residents' page.", count),
                    rooms=job.rooms, saw=job.mark):
         memory.let_go(clerk(), name)
@@ -146,7 +147,7 @@ def ask_drop_rooms() -> str:
     """Asks before all descriptions go."""
     office, (told, marks) = office_now(), told_now()
     count = how_many_seen(office, told["rooms"])
-    says = [ngettext("The residents' page no longer says anything of {count} rooms. Pictures stay.",
+    says = [ngettext("The residents' page no longer says anything of {count} room. Pictures stay.",
                      "The residents' page no longer says anything of {count} rooms. Pictures stay.", count),
             _("You cannot take it back here: to have the descriptions again, send your list again.")]
     return put_question(office, Question(_("Take all descriptions away?"), says, _("Yes: take them away"), PLACE,

@@ -5,6 +5,7 @@ from typing import Any, NamedTuple
 
 from languages import N_, _
 from lines import CODE, name_shows_a_key
+from naming import Names
 from told import AMOUNT, FIELDS
 
 import plain
@@ -19,7 +20,6 @@ NUMBER = re.compile(r"(?<![\d.,])(?:\d{1,3}(?:[ .,'’]\d{3})+|\d+)(?:[.,]\d{1,2
 ENDS_IN_CENTS = re.compile(r"[.,](\d{1,2})$")
 # What a clerk reads of the fields of a description.
 NAMES = {"house": N_("House"), "floor": N_("Floor"), "size": N_("Size"), "rent": N_("Rent"), "text": N_("Text")}
-LEAST_WORDS = 2  # of a name: one word alone may be the name of a house
 
 Rooms = dict[str, dict[str, Any]]
 
@@ -107,11 +107,7 @@ def described(table: CsvList) -> Described:
 
 def beside(office: Office, now: Rooms, rooms: Rooms) -> Beside:
     """A list of descriptions beside the register and those of now."""
-    names = [one.name.casefold() for one in office.people.values() if len(one.name.split()) >= LEAST_WORDS]
-    named = []
-    for code, said in rooms.items():
-        text = " ".join(str(said.get(name, "")) for name in FIELDS).casefold()
-        if any(name in text for name in names):
-            named.append(code)
+    names = Names(one.name for one in office.people.values())
     return Beside([code for code in rooms if code not in office.rooms], [code for code in office.rooms if code not in rooms],
-                  [code for code in now if code not in rooms], named)
+                  [code for code in now if code not in rooms],
+                  [code for code, said in rooms.items() if names.are_said_of(said)])
