@@ -23,7 +23,7 @@ const PHASES: [(Phase, usize); 6] = [
 const ALL: &str = "idle open closed drawn ran published";
 
 // Lines, each with the names of the phases that allow it.
-const ASKED: [(&str, &str); 26] = [
+const ASKED: [(&str, &str); 31] = [
     ("room H200", "idle open"),
     ("person E200 key0000000000200 Ann Ash", "idle open"),
     ("home E90 H90", "idle"),
@@ -37,6 +37,11 @@ const ASKED: [(&str, &str); 26] = [
     ("grade E92 3", "idle open"),
     ("grade E3 0", "idle open"),
     ("going E5", "open"),
+    ("name E6 Nell Noon", ALL),
+    ("name E93 Ned Noon", ALL),
+    ("key E8 key0000000000208", ALL),
+    ("key E8 key0000000000008", ALL),
+    ("blank people", ALL),
     ("close", "open"),
     ("run", "drawn"),
     ("publish", "ran"),

@@ -1,6 +1,7 @@
 -- Lemmas on commands: where the changes of each lead.
 pub mod AddPerson
 pub mod AddRoom
+pub mod Blank
 pub mod Cancel
 pub mod Changes
 pub mod CloseRound
@@ -18,6 +19,8 @@ pub mod Run
 pub mod SetChoices
 pub mod SetGrade
 pub mod SetHome
+pub mod SetKey
+pub mod SetName
 pub mod Shut
 pub mod Withdraw
 pub mod Words

@@ -2,6 +2,7 @@
 use Rattle.std.specs.Prelude.{List, Option}
 pub mod AddPerson
 pub mod AddRoom
+pub mod Blank
 pub mod Cancel
 pub mod CloseRound
 pub mod Decision
@@ -17,6 +18,8 @@ pub mod Run
 pub mod SetChoices
 pub mod SetGrade
 pub mod SetHome
+pub mod SetKey
+pub mod SetName
 pub mod Settle
 pub mod Shut
 pub mod Withdraw
@@ -29,6 +32,7 @@ use Rattle.office_core.specs.declared.command.Command.{Command}
 use Rattle.office_core.specs.declared.command.Command.TheVariants as command
 use Rattle.office_core.specs.Command.AddPerson as add_person
 use Rattle.office_core.specs.Command.AddRoom as add_room
+use Rattle.office_core.specs.Command.Blank as blank
 use Rattle.office_core.specs.Command.Cancel as cancel
 use Rattle.office_core.specs.Command.CloseRound as close_round
 use Rattle.office_core.specs.Command.Draw as draw
@@ -43,6 +47,8 @@ use Rattle.office_core.specs.Command.Run as run
 use Rattle.office_core.specs.Command.SetChoices as set_choices
 use Rattle.office_core.specs.Command.SetGrade as set_grade
 use Rattle.office_core.specs.Command.SetHome as set_home
+use Rattle.office_core.specs.Command.SetKey as set_key
+use Rattle.office_core.specs.Command.SetName as set_name
 use Rattle.office_core.specs.Command.Settle as settle
 use Rattle.office_core.specs.Command.Shut as shut
 use Rattle.office_core.specs.Command.Withdraw as withdraw
@@ -69,6 +75,9 @@ checks office command.Cancel = cancel.checks office
 checks office (command.Import label kind bytes) = import_list.checks office label kind bytes
 checks office (command.SetGrade person grade) = set_grade.checks office person
 checks office (command.Going person) = going.checks office person
+checks office (command.SetName person name) = set_name.checks office person
+checks office (command.SetKey person key) = set_key.checks office person key
+checks office (command.Blank label) = blank.checks office label
 
 -- the first refusal that applies to the command, or `None` if the office accepts the command
 abbrev pub accepts : Office → Command → Option Refusal
@@ -95,6 +104,9 @@ next office command.Cancel = cancel.next office
 next office (command.Import label kind bytes) = import_list.next office label kind bytes
 next office (command.SetGrade person grade) = set_grade.next office person grade
 next office (command.Going person) = going.next office person
+next office (command.SetName person name) = set_name.next office person name
+next office (command.SetKey person key) = set_key.next office person key
+next office (command.Blank label) = blank.next office label
 
 -- the reply to an accepted command
 abbrev pub reply_to : Office → Command → Reply
@@ -117,6 +129,9 @@ reply_to office command.Cancel = cancel.reply_to office
 reply_to office (command.Import label kind bytes) = import_list.reply_to office label kind bytes
 reply_to office (command.SetGrade person grade) = set_grade.reply_to office person
 reply_to office (command.Going person) = going.reply_to office person
+reply_to office (command.SetName person name) = set_name.reply_to office person
+reply_to office (command.SetKey person key) = set_key.reply_to office person
+reply_to office (command.Blank label) = blank.reply_to office label
 
 -- the changes that carry an accepted command out, in order
 abbrev pub changes_of : Office → Command → List Change
@@ -140,3 +155,6 @@ changes_of office command.Cancel = cancel.changes_of office
 changes_of office (command.Import label kind bytes) = import_list.changes_of office label kind bytes
 changes_of office (command.SetGrade person grade) = set_grade.changes_of office person grade
 changes_of office (command.Going person) = going.changes_of office person
+changes_of office (command.SetName person name) = set_name.changes_of office person name
+changes_of office (command.SetKey person key) = set_key.changes_of office person key
+changes_of office (command.Blank label) = blank.changes_of office label

@@ -11,7 +11,7 @@ use Rattle.office_core.specs.declared.refusal.Refusal.TheVariants.{NoHome, Withd
 use Rattle.office_core.specs.declared.refusal.Refusal.TheVariants.{WrongWordCount, LimitReached}
 use Rattle.office_core.specs.declared.refusal.Refusal.TheVariants.{ListDiffers, BadRecord, NotInRound}
 use Rattle.office_core.specs.declared.refusal.Refusal.TheVariants.{NoSuchRound, NotShut}
-use Rattle.office_core.specs.declared.refusal.Refusal.TheVariants.{OutOfMemory, Going}
+use Rattle.office_core.specs.declared.refusal.Refusal.TheVariants.{OutOfMemory, Going, UnknownLabel}
 
 -- the number of a refusal
 abbrev pub number_of : Refusal → ℕ
@@ -35,6 +35,7 @@ number_of NoSuchRound = 17
 number_of NotShut = 18
 number_of OutOfMemory = 19
 number_of Going = 24
+number_of UnknownLabel = 25
 
 -- the name of a refusal
 abbrev pub name_of : Refusal → List ℕ
@@ -58,3 +59,4 @@ name_of NoSuchRound = codes "NoSuchRound"
 name_of NotShut = codes "NotShut"
 name_of OutOfMemory = codes "OutOfMemory"
 name_of Going = codes "Going"
+name_of UnknownLabel = codes "UnknownLabel"

@@ -1,6 +1,7 @@
 //! Commands of the office.
 pub mod add_person;
 pub mod add_room;
+pub mod blank;
 pub mod cancel;
 pub mod close_round;
 pub mod decide;
@@ -17,6 +18,8 @@ pub mod run;
 pub mod set_choices;
 pub mod set_grade;
 pub mod set_home;
+pub mod set_key;
+pub mod set_name;
 pub mod settle;
 pub mod shut;
 pub mod withdraw;
@@ -98,5 +101,19 @@ pub enum Command {
     /// Records that a person leaves the college after the round. The round trades their room as a vacant one.
     Going {
         person: PersonId,
+    },
+    /// Replaces a person's name alone.
+    SetName {
+        person: PersonId,
+        name: Name,
+    },
+    /// Replaces a person's key alone.
+    SetKey {
+        person: PersonId,
+        key: Key,
+    },
+    /// Overwrites the bytes of an imported list. Its label stays in use.
+    Blank {
+        label: Label,
     },
 }

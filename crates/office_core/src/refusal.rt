@@ -51,6 +51,8 @@ pub enum Refusal {
     OutOfMemory,
     /// The person leaves the college after the round.
     Going,
+    /// No list is stored under this label.
+    UnknownLabel,
 }
 
 impl Refusal {
@@ -79,6 +81,7 @@ impl Refusal {
             Refusal::NotShut => 18,
             Refusal::OutOfMemory => 19,
             Refusal::Going => 24,
+            Refusal::UnknownLabel => 25,
         }
     }
 
@@ -107,6 +110,7 @@ impl Refusal {
             Refusal::NotShut => "NotShut",
             Refusal::OutOfMemory => "OutOfMemory",
             Refusal::Going => "Going",
+            Refusal::UnknownLabel => "UnknownLabel",
         }
     }
 }

@@ -73,8 +73,8 @@ pub enum Reply {
     },
     /// The round is cancelled.
     Cancelled,
-    /// The list is imported, and `count` is the number of its records. If the same list was imported under this label
-    /// before, nothing is added, and `count` is the number that was stored with the label.
+    /// The list is imported, and `count` is the number of its records. If the same list is stored under this label
+    /// already, nothing is added, and `count` is the number that was stored with the label.
     Added {
         count: u16,
     },

@@ -3,3 +3,4 @@ pub mod Calls
 pub mod Carried
 pub mod Changes
 pub mod Entries
+pub mod TableEntries

@@ -1,5 +1,6 @@
 -- Lemmas on offices: people, homes, rooms, moves, lists.
 pub mod Apply
+pub mod Details
 pub mod Dropping
 pub mod Empty
 pub mod Grades

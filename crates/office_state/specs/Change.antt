@@ -10,11 +10,11 @@ use Rattle.office_state.specs.Office.{knows_room, knows_person, has_withdrawn, i
 use Rattle.office_state.specs.declared.office.Office.{Office}
 use Rattle.office_state.specs.declared.change.Change.{Change}
 use Rattle.office_state.specs.declared.change.Change.TheVariants.{PutRoom, PutPerson, DropPerson}
-use Rattle.office_state.specs.declared.change.Change.TheVariants.{PutHome, PutWithdrawn}
+use Rattle.office_state.specs.declared.change.Change.TheVariants.{PutHome, PutNameAndKey, PutWithdrawn}
 use Rattle.office_state.specs.declared.change.Change.TheVariants.{PutChoices, PutWord, PutResult}
 use Rattle.office_state.specs.declared.change.Change.TheVariants.{AddMove}
 use Rattle.office_state.specs.declared.change.Change.TheVariants.{PutRound, ClearRound}
-use Rattle.office_state.specs.declared.change.Change.TheVariants.{KeepList, PutGrade, PutGoing}
+use Rattle.office_state.specs.declared.change.Change.TheVariants.{KeepList, PutBytes, PutGrade, PutGoing}
 
 -- the office after setting or clearing a person's home; the same office if the person is unknown
 abbrev pub with_home : Office → Text → Option Text → Office
@@ -22,6 +22,24 @@ with_home office person home = elim (map.get office.people person) [
   | None ↦ office
   | Some kept ↦
       record office { people = map.insert office.people person (record kept { home = home }) }
+]
+
+-- the office after replacing a person's name and key; the same office if the person is unknown
+abbrev pub with_name_and_key : Office → Text → Text → Text → Office
+with_name_and_key office person name key = elim (map.get office.people person) [
+  | None ↦ office
+  | Some kept ↦
+      record office {
+        people = map.insert office.people person (record kept { name = name; key = key });
+      }
+]
+
+-- the office after replacing the bytes of an imported list; the same office if there is no list with this label
+abbrev pub with_bytes : Office → Text → List ℕ → Office
+with_bytes office label bytes = elim (map.get office.lists label) [
+  | None ↦ office
+  | Some kept ↦
+      record office { lists = map.insert office.lists label (record kept { bytes = bytes }) }
 ]
 
 -- the office without a person and their grade
@@ -63,6 +81,7 @@ applied office (PutPerson person name key home) =
 applied office (DropPerson person) =
     if knows_person office person then without_person office person else office
 applied office (PutHome person home) = with_home office person home
+applied office (PutNameAndKey person name key) = with_name_and_key office person name key
 applied office (PutWithdrawn person) =
     record office { withdrawn = map.insert office.withdrawn person tt }
 applied office (PutChoices person choices) =
@@ -78,17 +97,20 @@ applied office (KeepList label kind bytes count) =
       lists = map.insert office.lists label
           (record { kind = kind; bytes = bytes; count = count });
     }
+applied office (PutBytes label bytes) = with_bytes office label bytes
 applied office (PutGrade person grade) =
     record office { grades = with_grade office.grades person grade }
 applied office (PutGoing person) = record office { going = map.insert office.going person tt }
 
 -- whether the change may allocate. These changes do not: `DropPerson`, `PutRound`, `ClearRound`, `PutChoices` of an
--- empty list, `PutGrade` of grade 0, and `PutHome` of an unknown person.
+-- empty list, `PutGrade` of grade 0, `PutHome` and `PutNameAndKey` of an unknown person, and `PutBytes` of an unknown
+-- label.
 abbrev pub change_allocates : Office → Change → Bool
 change_allocates office (PutRoom room shut) = true
 change_allocates office (PutPerson person name key home) = true
 change_allocates office (DropPerson person) = false
 change_allocates office (PutHome person home) = knows_person office person
+change_allocates office (PutNameAndKey person name key) = knows_person office person
 change_allocates office (PutWithdrawn person) = true
 change_allocates office (PutChoices person choices) = not (is_empty choices)
 change_allocates office (PutWord person word) = true
@@ -97,6 +119,7 @@ change_allocates office (AddMove move) = true
 change_allocates office (PutRound number phase) = false
 change_allocates office ClearRound = false
 change_allocates office (KeepList label kind bytes count) = true
+change_allocates office (PutBytes label bytes) = map.contains_key office.lists label
 change_allocates office (PutGrade person grade) = not (eqb grade 0)
 change_allocates office (PutGoing person) = true
 

@@ -29,6 +29,12 @@ pub enum Change {
         person: PersonId,
         home: Option<RoomCode>,
     },
+    /// Replaces the name and the key of a person, who keeps their home. Does nothing if the person is unknown.
+    PutNameAndKey {
+        person: PersonId,
+        name: Name,
+        key: Key,
+    },
     /// Records that a person has withdrawn from the round.
     PutWithdrawn {
         person: PersonId,
@@ -63,6 +69,12 @@ pub enum Change {
         kind: ListKind,
         bytes: Listing<u8>,
         count: u16,
+    },
+    /// Replaces the bytes of an imported list, which keeps its kind and its count. Does nothing if there is no list with
+    /// this label.
+    PutBytes {
+        label: Label,
+        bytes: Listing<u8>,
     },
     /// Sets a person's grade. Grade 0 is not stored: it removes the person's recorded grade.
     PutGrade {

@@ -10,7 +10,7 @@ use std::alloc::Global;
 use std::process::Abort;
 
 // Queries that count rows, each with its count after the changes.
-const STORED: [(&str, i64); 13] = [
+const STORED: [(&str, i64); 14] = [
     (
         "SELECT count(*) FROM room WHERE code = 'H1' AND shut = 1",
         1,
@@ -20,13 +20,17 @@ const STORED: [(&str, i64); 13] = [
         1,
     ),
     ("SELECT count(*) FROM person", 1),
+    (
+        "SELECT count(*) FROM person WHERE name = 'Tom Tan' AND passkey = 'key00000000000t4'",
+        1,
+    ),
     ("SELECT count(*) FROM choice", 0),
     ("SELECT count(*) FROM word", 0),
     ("SELECT count(*) FROM result", 0),
     ("SELECT count(*) FROM going", 0),
     ("SELECT count(*) FROM list", 1),
     (
-        "SELECT count(*) FROM list WHERE label = 'h-1' AND kind = 'rooms' AND body = x'726F6F6D0A48310A'",
+        "SELECT count(*) FROM list WHERE label = 'h-1' AND kind = 'rooms' AND body = x'626C616E6B6564' AND added = 1",
         1,
     ),
     ("SELECT count(*) FROM grade", 1),
@@ -117,6 +121,15 @@ fn round_under_way(rt: &impl Abort, alloc: Global) -> Vec<Change> {
             kind: ListKind::Rooms,
             bytes: Listing::new(Vec::from_slice(alloc, b"room\nH1\n").expect(rt, "memory")),
             count: 1,
+        },
+        Change::PutBytes {
+            label: text(rt, alloc, "h-1"),
+            bytes: Listing::new(Vec::from_slice(alloc, b"blanked").expect(rt, "memory")),
+        },
+        Change::PutNameAndKey {
+            person: text(rt, alloc, "T1"),
+            name: text(rt, alloc, "Tom Tan"),
+            key: text(rt, alloc, "key00000000000t4"),
         },
         Change::PutRound {
             number: 1,

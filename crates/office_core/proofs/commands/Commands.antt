@@ -13,6 +13,7 @@ use Rattle.office_core.specs.declared.command.decision.Decision.{Decision}
 use Rattle.office_core.specs.declared.refusal.Refusal.{Refusal}
 use Rattle.office_core.proofs.commands.AddPerson.{add_person-leads}
 use Rattle.office_core.proofs.commands.AddRoom.{add_room-leads}
+use Rattle.office_core.proofs.commands.Blank.{blank-leads}
 use Rattle.office_core.proofs.commands.Cancel.{cancel-leads}
 use Rattle.office_core.proofs.commands.CloseRound.{close_round-leads}
 use Rattle.office_core.proofs.commands.Draw.{draw-leads}
@@ -28,6 +29,8 @@ use Rattle.office_core.proofs.commands.Reopen.{reopen-leads}
 use Rattle.office_core.proofs.commands.SetChoices.{set_choices-leads}
 use Rattle.office_core.proofs.commands.SetGrade.{set_grade-leads}
 use Rattle.office_core.proofs.commands.SetHome.{set_home-leads}
+use Rattle.office_core.proofs.commands.SetKey.{set_key-leads}
+use Rattle.office_core.proofs.commands.SetName.{set_name-leads}
 use Rattle.office_core.proofs.commands.Shut.{shut-leads}
 use Rattle.office_core.proofs.commands.Withdraw.{withdraw-leads}
 
@@ -55,6 +58,9 @@ accepted_command_leads office (command.Import label kind bytes) f l h =
     import-leads office label kind bytes l h
 accepted_command_leads office (command.SetGrade person grade) f l h = set_grade-leads office person grade l h
 accepted_command_leads office (command.Going person) f l h = going-leads office person l h
+accepted_command_leads office (command.SetName person name) f l h = set_name-leads office person name l h
+accepted_command_leads office (command.SetKey person key) f l h = set_key-leads office person key l h
+accepted_command_leads office (command.Blank label) f l h = blank-leads office label l h
 
 pub decision_leads : (office : Office) (given : Command) (result : Result Decision Refusal)
     → IsLawful office → OnOk result (IsFormed given)

@@ -1,7 +1,8 @@
 -- Once there are results, an accepted command that does not end the round keeps them.
-use Rattle.std.proofs.Common.{◌≡◌, Bool, true, false, not, List, [], ◌∷◌, Some, None, refl, ap}
+use Rattle.std.proofs.Common.{◌≡◌, Bool, true, false, not, List, [], ◌∷◌, Some, None, refl, ap, ◌∙◌, sym}
 use Rattle.std.specs.Prelude.{if◌then◌else◌}
 use Rattle.std.specs.FinMap as map
+use Rattle.room_types.specs.Texts.{Text, TextMap}
 use Rattle.room_types.specs.declared.kinds.ListKind.{ListKind}
 use Rattle.room_types.specs.declared.kinds.ListKind.TheVariants.{Rooms, People, Choices, Grades}
 use Rattle.room_types.specs.declared.phase.Phase.{Phase}
@@ -9,8 +10,12 @@ use Rattle.room_types.specs.declared.phase.Phase.TheVariants.{Idle, Opened, Clos
 use Rattle.room_types.specs.declared.phase.Phase.TheVariants.{Published}
 use Rattle.office_state.specs.Office.Phases.{is_idle, is_open, is_closed, is_drawn, is_preparing}
 use Rattle.office_state.specs.Office.Phases.{has_results}
+use Rattle.office_state.specs.Change.{with_name_and_key}
 use Rattle.office_state.specs.declared.office.Office.{Office}
-use Rattle.office_core.specs.Laws.{ends_round, KeepsResults}
+use Rattle.office_state.specs.declared.office.stored_import.StoredImport.{StoredImport}
+use Rattle.office_state.proofs.offices.Details.{renamed_stays}
+use Rattle.office_core.specs.Laws.{ends_round, replaces_details, KeepsResults}
+use Rattle.office_core.specs.Command.Blank.{blanked}
 use Rattle.office_core.specs.Refusal.Checks.{Check, first_refusal}
 use Rattle.office_core.specs.Command.{accepts, checks, next}
 use Rattle.office_core.specs.Command.Import.{checks_where, new_label_checks, may_import, next_where}
@@ -58,8 +63,42 @@ may_import-past People phase p = p.preparing
 may_import-past Choices phase p = p.opened
 may_import-past Grades phase p = p.preparing
 
+-- which lists are kept does not count in the round
+relisted : (replaces : Bool) (office : Office) (lists : TextMap StoredImport)
+    → has_results office.phase ≡ true
+    → KeepsResults replaces office (record office { lists = lists })
+relisted replaces office lists there = record {
+  entries = record {
+    rooms = refl;
+    homes = λ person. refl;
+    choices = refl;
+    withdrawn = refl;
+    words = refl;
+    grades = refl;
+    going = refl;
+  };
+  number = refl;
+  results = refl;
+  still = there;
+  people = λ same. refl;
+}
+
+-- nor do names and keys
+renamed : (office : Office) (person name key : Text) → has_results office.phase ≡ true
+    → KeepsResults true office (with_name_and_key office person name key)
+renamed office person name key there =
+    let stays = renamed_stays office person name key in
+    record {
+      entries = stays.0;
+      number = sym stays.1;
+      results = sym stays.2;
+      still = ap has_results stays.3 ∙ there;
+      people = λ same. absurd (cc);
+    }
+
 pub results_kept : (office : Office) (c : Command) → has_results office.phase ≡ true
-    → accepts office c ≡ None → ends_round c ≡ false → KeepsResults office (next office c)
+    → accepts office c ≡ None → ends_round c ≡ false
+    → KeepsResults (replaces_details c) office (next office c)
 results_kept office (command.AddRoom room) there ok goes_on =
     absurd (stops (is_preparing office.phase) (past office.phase there).preparing
     (passes (checks office (command.AddRoom room)) ok))
@@ -102,7 +141,7 @@ results_kept office command.Run there ok goes_on =
 results_kept office command.Publish there ok goes_on = record {
   entries = record {
     rooms = refl;
-    people = refl;
+    homes = λ person. refl;
     choices = refl;
     withdrawn = refl;
     words = refl;
@@ -112,17 +151,18 @@ results_kept office command.Publish there ok goes_on = record {
   number = refl;
   results = refl;
   still = refl;
+  people = λ same. refl;
 }
 results_kept office command.Settle there ok goes_on = absurd (cc)
 results_kept office command.Cancel there ok goes_on = absurd (cc)
 results_kept office (command.Import label kind bytes) there ok goes_on =
     elim (map.get office.lists label) as
     (λ o. first_refusal (checks_where o office kind bytes) ≡ None
-    → KeepsResults office (next_where o office label kind bytes)) [
+    → KeepsResults false office (next_where o office label kind bytes)) [
       | Some list ↦ λ again. record {
         entries = record {
           rooms = refl;
-          people = refl;
+          homes = λ person. refl;
           choices = refl;
           withdrawn = refl;
           words = refl;
@@ -132,6 +172,7 @@ results_kept office (command.Import label kind bytes) there ok goes_on =
         number = refl;
         results = refl;
         still = there;
+        people = λ same. refl;
       }
       | None ↦ λ first. absurd (stops (may_import kind office.phase)
           (may_import-past kind office.phase (past office.phase there))
@@ -143,3 +184,33 @@ results_kept office (command.SetGrade person grade) there ok goes_on =
 results_kept office (command.Going person) there ok goes_on =
     absurd (stops (is_open office.phase) (past office.phase there).opened
     (passes (checks office (command.Going person)) ok))
+results_kept office (command.SetName person name) there ok goes_on =
+    elim (map.get office.people person) as
+    (λ o. KeepsResults true office (elim o as (λ _. Office) [
+      | None ↦ office
+      | Some kept ↦ with_name_and_key office person name kept.key
+    ])) [
+      | None ↦ relisted true office office.lists there
+      | Some kept ↦ renamed office person name kept.key there
+    ]
+results_kept office (command.SetKey person key) there ok goes_on =
+    elim (map.get office.people person) as
+    (λ o. KeepsResults true office (elim o as (λ _. Office) [
+      | None ↦ office
+      | Some kept ↦ with_name_and_key office person kept.name key
+    ])) [
+      | None ↦ relisted true office office.lists there
+      | Some kept ↦ renamed office person kept.name key there
+    ]
+results_kept office (command.Blank label) there ok goes_on =
+    elim (map.get office.lists label) as
+    (λ o. KeepsResults false office (elim o as (λ _. Office) [
+      | None ↦ office
+      | Some kept ↦ record office {
+        lists = map.insert office.lists label (record kept { bytes = blanked });
+      }
+    ])) [
+      | None ↦ relisted false office office.lists there
+      | Some kept ↦
+          relisted false office (map.insert office.lists label (record kept { bytes = blanked })) there
+    ]

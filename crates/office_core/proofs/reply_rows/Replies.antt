@@ -101,6 +101,9 @@ reply_ascends office (command.Import label kind bytes) =
     added_ascends (maps.get office.lists label) bytes
 reply_ascends office (command.SetGrade person grade) = tt
 reply_ascends office (command.Going person) = tt
+reply_ascends office (command.SetName person name) = tt
+reply_ascends office (command.SetKey person key) = tt
+reply_ascends office (command.Blank label) = tt
 
 pub answer_ascends : (office : Office) (asked : Query) (result : Result Reply Refusal)
     → IsAnswered (returned office asked) result → IfOk result RowsAscend

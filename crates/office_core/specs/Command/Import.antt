@@ -1,5 +1,6 @@
 -- Imports a list under a label. Each record is one command, and either all of them take effect or none does. If the
--- label is known, the same list gets the reply of the first import and has no effect, and any other list is refused.
+-- label is known, the list that is stored under it gets the reply of the first import and has no effect, and any other
+-- list is refused. Once the list has been blanked, the bytes that replaced it are what is stored.
 use Rattle.std.specs.Prelude.{ℕ, ◌+◌, Bool, true, false, not, ◌&&◌, nat_le, nat_lt, List, [], ◌∷◌}
 use Rattle.std.specs.Prelude.{◌++◌, length, map as map_list, Option, None, Some}
 use Rattle.std.specs.Option.{option_map_or}

@@ -10,6 +10,7 @@ ghost use Rattle.office_core.specs.Replies.{RowsAscend};
 use crate::command::Command;
 use crate::command::add_person::add_person;
 use crate::command::add_room::add_room;
+use crate::command::blank::blank;
 use crate::command::cancel::cancel;
 use crate::command::close_round::close_round;
 use crate::command::decision::Decision;
@@ -25,6 +26,8 @@ use crate::command::run::run;
 use crate::command::set_choices::set_choices;
 use crate::command::set_grade::set_grade;
 use crate::command::set_home::set_home;
+use crate::command::set_key::set_key;
+use crate::command::set_name::set_name;
 use crate::command::settle::settle;
 use crate::command::shut::shut;
 use crate::command::withdraw::withdraw;
@@ -37,8 +40,9 @@ use std::alloc::Global;
 ///
 /// # Errors
 ///
-/// The first refusal that applies. For every command except `Import`, the office first checks the phase (`BadPhase`).
-/// Then it makes the other checks that the command's own function lists. For `Import`, it checks the label first.
+/// The first refusal that applies. For most commands, the office first checks the phase (`BadPhase`). Then it makes the
+/// other checks that the command's own function lists. For `Import`, it checks the label first. `SetName`, `SetKey` and
+/// `Blank` are allowed in every phase.
 ///
 /// `OutOfMemory` if one of these tasks runs out of memory:
 ///
@@ -91,5 +95,8 @@ fn dispatch(alloc: Global, office: &Office, command: &Command) -> Result<Decisio
         Command::Import { label, kind, bytes } => import(alloc, office, label, *kind, bytes),
         Command::SetGrade { person, grade } => set_grade(alloc, office, person, *grade),
         Command::Going { person } => going(alloc, office, person),
+        Command::SetName { person, name } => set_name(alloc, office, person, name),
+        Command::SetKey { person, key } => set_key(alloc, office, person, key),
+        Command::Blank { label } => blank(alloc, office, label),
     }
 }

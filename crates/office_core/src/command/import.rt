@@ -1,4 +1,4 @@
-//! Imports a list under a label. Importing the same list again under the same label has no effect.
+//! Imports a list under a label. Importing the list again that is stored under the label has no effect.
 ghost use Rattle.std.specs.Prelude.{◌≡◌, ◌≤◌, IfOk, IfErr, None, length, []};
 ghost use Rattle.office_lists.specs.Records.{record_limit};
 ghost use Rattle.office_core.specs.Command.Decision.{IsDecided};

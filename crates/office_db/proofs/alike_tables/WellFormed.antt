@@ -18,16 +18,20 @@ use Rattle.office_state.specs.declared.office.person.Person.{Person}
 use Rattle.office_schema.specs.cells.Cells.{IsTextOf, IsOptionalTextOf, text_or_null}
 use Rattle.office_schema.specs.cells.Columns.{room_columns, person_columns, round_shown, choice_columns, word_columns}
 use Rattle.office_schema.specs.cells.Columns.{result_columns, move_columns, list_columns, grade_columns, going_columns}
-use Rattle.office_schema.specs.cells.Forms.{IsRoomRow, IsPersonRow, IsRoundRow, IsChoiceRow, IsWordRow, IsResultRow, IsMoveRow}
+use Rattle.office_schema.specs.cells.Forms.{IsRoomRow, IsPersonRow, IsRoundRow, IsChoiceRow}
+use Rattle.office_schema.specs.cells.Forms.{IsWordRow, IsResultRow, IsMoveRow}
 use Rattle.office_schema.specs.cells.Forms.{IsListRow, IsGradeRow, IsGoingRow}
 use Rattle.office_schema.specs.cells.WellFormed.{IsWellFormed}
 use Rattle.office_schema.specs.rows.Tables.{Tables}
 use Rattle.office_schema.specs.declared.rows.records.ChoiceRecord.{ChoiceRecord}
 use Rattle.office_schema.specs.declared.rows.records.PersonRecord.{PersonRecord}
-use Rattle.office_schema.specs.tables.Edits.{with_room, with_shut, with_person, without_person, with_home, with_withdrawn}
-use Rattle.office_schema.specs.tables.Edits.{without_withdrawn, with_round, with_choice, without_choices_of, without_round_tables}
+use Rattle.office_schema.specs.tables.Edits.{with_room, with_shut, with_person, without_person}
+use Rattle.office_schema.specs.tables.Edits.{with_home, with_name_and_key, with_withdrawn}
+use Rattle.office_schema.specs.tables.Edits.{without_withdrawn, with_round, with_choice}
+use Rattle.office_schema.specs.tables.Edits.{without_choices_of, without_round_tables}
 use Rattle.office_schema.specs.tables.Edits.{with_word, with_result}
-use Rattle.office_schema.specs.tables.Edits.{with_move, with_import, with_grade, without_grade_of, with_going}
+use Rattle.office_schema.specs.tables.Edits.{with_move, with_import, with_body}
+use Rattle.office_schema.specs.tables.Edits.{with_grade, without_grade_of, with_going}
 use Rattle.office_schema.specs.rows.SameRows.{AreSameRows}
 
 module _ {X : Type 0} (columns : X → Row) (IsRow : Row → Type 0) where
@@ -138,6 +142,15 @@ module _ (t : Tables) (h : IsWellFormed t) where
       (formed_changed person_columns IsPersonRow (λ (r : PersonRecord). text_eq r.id id)
       (λ r. record r { person = record r.person { home = home } })
       (λ r was. (was.0, was.1, was.2, lives, was.4)) t.people h.people)
+
+  pub name_and_key_well_formed : (id name key : Text) → IsTextOf is_name (value.Text name)
+      → IsTextOf is_key (value.Text key) → IsWellFormed (with_name_and_key id name key t)
+  unfolding with_name_and_key
+  name_and_key_well_formed id name key is_its_name is_its_key =
+      people_well_formed _
+      (formed_changed person_columns IsPersonRow (λ (r : PersonRecord). text_eq r.id id)
+      (λ r. record r { person = record r.person { name = name; key = key } })
+      (λ r was. (was.0, is_its_name, is_its_key, was.3, was.4)) t.people h.people)
 
   pub withdrawn_well_formed : (id : Text) → IsWellFormed (with_withdrawn id t)
   unfolding with_withdrawn
@@ -260,6 +273,23 @@ module _ (t : Tables) (h : IsWellFormed t) where
     moves = h.moves;
     lists = All-cons IsListRow _ _
         (is_its_label, (kept.kind, refl), (kept.bytes, refl), (kept.count, refl, low)) h.lists;
+    grades = h.grades;
+    going = h.going;
+  }
+
+  pub body_well_formed : (label : Text) (bytes : List ℕ) → IsWellFormed (with_body label bytes t)
+  unfolding with_body
+  body_well_formed label bytes = record {
+    rooms = h.rooms;
+    people = h.people;
+    rounds = h.rounds;
+    choices = h.choices;
+    words = h.words;
+    results = h.results;
+    moves = h.moves;
+    lists = formed_changed list_columns IsListRow (λ r. text_eq r.0 label)
+        (λ r. (r.0, record r.1 { bytes = bytes }))
+        (λ r was. (was.0, was.1, (bytes, refl), was.3)) t.lists h.lists;
     grades = h.grades;
     going = h.going;
   }

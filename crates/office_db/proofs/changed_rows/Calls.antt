@@ -8,18 +8,22 @@ use Rattle.room_types.specs.declared.kinds.ListKind.{ListKind}
 use Rattle.room_types.specs.declared.moves.Move.{Move}
 use Rattle.room_types.specs.declared.phase.Phase.{Phase}
 use Rattle.office_state.specs.Office.{knows_room}
-use Rattle.office_state.specs.declared.change.Change.TheVariants.{PutRoom, PutPerson, DropPerson, PutHome, PutWithdrawn}
+use Rattle.office_state.specs.declared.change.Change.TheVariants.{PutRoom, PutPerson, DropPerson}
+use Rattle.office_state.specs.declared.change.Change.TheVariants.{PutHome, PutNameAndKey, PutWithdrawn}
 use Rattle.office_state.specs.declared.change.Change.TheVariants.{PutChoices, PutWord, PutResult, AddMove}
-use Rattle.office_state.specs.declared.change.Change.TheVariants.{PutRound, ClearRound, KeepList, PutGrade, PutGoing}
+use Rattle.office_state.specs.declared.change.Change.TheVariants.{PutRound, ClearRound, KeepList}
+use Rattle.office_state.specs.declared.change.Change.TheVariants.{PutBytes, PutGrade, PutGoing}
 use Rattle.office_state.specs.declared.office.Office.{Office}
 use Rattle.office_state.specs.declared.office.stored_import.StoredImport.{StoredImport}
 use Rattle.office_state.specs.declared.office.person.Person.{Person}
 use Rattle.office_schema.specs.cells.Cells.{IsTextOf, IsOptionalTextOf, text_or_null}
 use Rattle.office_schema.specs.cells.Columns.{move_columns}
 use Rattle.office_schema.specs.cells.Forms.{IsMoveRow}
-use Rattle.office_schema.specs.tables.Edits.{with_room, with_shut, with_person, without_person, with_home, with_withdrawn}
+use Rattle.office_schema.specs.tables.Edits.{with_room, with_shut, with_person, without_person}
+use Rattle.office_schema.specs.tables.Edits.{with_home, with_name_and_key, with_withdrawn}
 use Rattle.office_schema.specs.tables.Edits.{without_withdrawn, with_round, without_choices_of, without_round_tables}
-use Rattle.office_schema.specs.tables.Edits.{with_word, with_result, with_move, with_import, with_grade, without_grade_of, with_going}
+use Rattle.office_schema.specs.tables.Edits.{with_word, with_result, with_move, with_import}
+use Rattle.office_schema.specs.tables.Edits.{with_body, with_grade, without_grade_of, with_going}
 use Rattle.office_schema.specs.tables.Makes.{Makes}
 use Rattle.office_schema.specs.tables.Steps.{StaysInside}
 use Rattle.office_db.specs.changes.StoresChanges.{Turns, StoresChange, StoresAlways}
@@ -28,20 +32,20 @@ use Rattle.office_db.specs.changes.Inner.Grading.{with_grade_recorded}
 use Rattle.office_db.proofs.changed_rows.Carried.{stores, turns, turns_then}
 use Rattle.office_db.proofs.changed_rows.Changes.{room_added, room_shut}
 use Rattle.office_db.proofs.changed_rows.Changes.{person_added, person_gone}
-use Rattle.office_db.proofs.changed_rows.Changes.{home_put, withdrawn_put}
+use Rattle.office_db.proofs.changed_rows.Changes.{home_put, name_and_key_put, withdrawn_put}
 use Rattle.office_db.proofs.changed_rows.Changes.{choices_put, word_added}
 use Rattle.office_db.proofs.changed_rows.Changes.{result_added, move_added}
-use Rattle.office_db.proofs.changed_rows.Changes.{list_kept, round_put}
+use Rattle.office_db.proofs.changed_rows.Changes.{list_kept, bytes_put, round_put}
 use Rattle.office_db.proofs.changed_rows.Changes.{round_cleared, grade_put}
 use Rattle.office_db.proofs.changed_rows.Changes.{going_put}
 use Rattle.office_db.proofs.alike_tables.WellFormed.{room_well_formed, shut_well_formed}
 use Rattle.office_db.proofs.alike_tables.WellFormed.{person_well_formed, without_person_well_formed}
-use Rattle.office_db.proofs.alike_tables.WellFormed.{home_well_formed, withdrawn_well_formed}
+use Rattle.office_db.proofs.alike_tables.WellFormed.{home_well_formed, name_and_key_well_formed, withdrawn_well_formed}
 use Rattle.office_db.proofs.alike_tables.WellFormed.{without_withdrawn_well_formed}
 use Rattle.office_db.proofs.alike_tables.WellFormed.{without_choices_of_well_formed}
 use Rattle.office_db.proofs.alike_tables.WellFormed.{without_round_tables_well_formed, word_well_formed}
 use Rattle.office_db.proofs.alike_tables.WellFormed.{result_well_formed, move_well_formed}
-use Rattle.office_db.proofs.alike_tables.WellFormed.{kept_well_formed, round_well_formed}
+use Rattle.office_db.proofs.alike_tables.WellFormed.{kept_well_formed, body_well_formed, round_well_formed}
 use Rattle.office_db.proofs.alike_tables.WellFormed.{grade_well_formed, without_grade_of_well_formed}
 use Rattle.office_db.proofs.alike_tables.WellFormed.{going_well_formed}
 
@@ -83,6 +87,14 @@ module _ (old new : State) where
       stores first old new _ (with_home person home) (λ office fits. home_put office person home)
       (turns old new _ (λ t h. home_well_formed t h person home cell) m)
 
+  pub stores_name_and_key : (person name key : Text) → IsTextOf is_name (value.Text name)
+      → IsTextOf is_key (value.Text key) → Makes old new (with_name_and_key person name key)
+      → StoresAlways old new (PutNameAndKey person name key)
+  stores_name_and_key person name key is_its_name is_its_key m first =
+      stores first old new _ (with_name_and_key person name key)
+      (λ office fits. name_and_key_put office person name key)
+      (turns old new _ (λ t h. name_and_key_well_formed t h person name key is_its_name is_its_key) m)
+
   pub stores_withdrawn : (person : Text) → Makes old new (with_withdrawn person)
       → StoresAlways old new (PutWithdrawn person)
   stores_withdrawn person m first =
@@ -119,6 +131,12 @@ module _ (old new : State) where
       stores first old new _ (with_import label kept)
       (λ office fits. list_kept office label kind bytes count fits)
       (turns old new _ (λ t h. kept_well_formed t h label kept is_its_label low) m)
+
+  pub stores_bytes : (label : Text) (bytes : List ℕ) → Makes old new (with_body label bytes)
+      → StoresAlways old new (PutBytes label bytes)
+  stores_bytes label bytes m first =
+      stores first old new _ (with_body label bytes) (λ office fits. bytes_put office label bytes)
+      (turns old new _ (λ t h. body_well_formed t h label bytes) m)
 
   pub stores_round : (number : ℕ) (phase : Phase) → number < 2 ^ 16 → Makes old new (with_round number phase)
       → StoresAlways old new (PutRound number phase)

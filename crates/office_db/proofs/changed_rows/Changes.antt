@@ -1,5 +1,5 @@
 -- The rows of an office after each change, from the effects of its statements on the rows before.
-use Rattle.std.proofs.Common.{◌≡◌, ℕ, zero, suc, ◌+◌, Bool, true, false, List, [], ◌∷◌, ◌++◌, map, map-id}
+use Rattle.std.proofs.Common.{◌≡◌, ℕ, zero, suc, ◌+◌, Bool, true, false, List, [], ◌∷◌, ◌++◌, map}
 use Rattle.std.proofs.Common.{Option, Some, None, cond}
 use Rattle.std.proofs.Common.{refl, sym, ap, ◌∙◌, subst, IsPermutation}
 use Rattle.std.specs.List.{AllByRecursion, flat_map}
@@ -10,23 +10,25 @@ use Rattle.std.specs.FinMap as maps
 use Rattle.std.specs.FinMap.{get-insert, get-empty}
 use Rattle.std.proofs.lemmas.List.Sorted.{IsPermutation-sym, IsPermutation-middle}
 use Rattle.std.proofs.lemmas.Map.Text.{is_eq-slice_cmp}
-use Rattle.sqlite_keyed.specs.Lists.{update_where, delete_where}
 use Rattle.sqlite_keyed.proofs.ListLemmas.{map-map, map_same, IsPermutation-same}
 use Rattle.room_types.specs.Texts.{Text, TextMap, text_cmp, text_eq}
 use Rattle.room_types.specs.declared.kinds.ListKind.{ListKind}
 use Rattle.room_types.specs.declared.moves.Move.{Move}
 use Rattle.room_types.specs.declared.phase.Phase.{Phase}
 use Rattle.room_types.proofs.maps.Trees.{entries-empty}
-use Rattle.room_types.proofs.options.Options.{none_if_not_some, some_of}
+use Rattle.room_types.proofs.options.Options.{none_if_not_some}
 use Rattle.office_state.specs.Change as changes
 use Rattle.office_state.specs.Change.{applied}
 use Rattle.office_state.specs.Office.Moves.{moves_of}
 use Rattle.office_state.specs.Office.{knows_room, knows_person, has_withdrawn, is_going}
-use Rattle.office_state.specs.declared.change.Change.TheVariants.{PutRoom, PutPerson, DropPerson, PutHome, PutWithdrawn}
+use Rattle.office_state.specs.declared.change.Change.TheVariants.{PutRoom, PutPerson, DropPerson}
+use Rattle.office_state.specs.declared.change.Change.TheVariants.{PutHome, PutNameAndKey, PutWithdrawn}
 use Rattle.office_state.specs.declared.change.Change.TheVariants.{PutChoices, PutWord, PutResult, AddMove}
-use Rattle.office_state.specs.declared.change.Change.TheVariants.{PutRound, ClearRound, KeepList, PutGrade, PutGoing}
+use Rattle.office_state.specs.declared.change.Change.TheVariants.{PutRound, ClearRound, KeepList}
+use Rattle.office_state.specs.declared.change.Change.TheVariants.{PutBytes, PutGrade, PutGoing}
 use Rattle.office_state.specs.declared.office.Office.{Office}
 use Rattle.office_state.specs.declared.office.person.Person.{Person}
+use Rattle.office_state.specs.declared.office.stored_import.StoredImport.{StoredImport}
 use Rattle.office_state.proofs.offices.Dropping.{person_dropped}
 use Rattle.office_schema.specs.rows.Rows.{person_row, person_rows, choices_from, list_rows}
 use Rattle.office_schema.specs.rows.SameRows.{AreSameRows}
@@ -36,9 +38,12 @@ use Rattle.office_schema.specs.declared.rows.records.PersonRecord.{PersonRecord}
 use Rattle.office_schema.proofs.rows_read.Moving.{rows_more}
 use Rattle.office_db.specs.changes.Inner.Choosing.{with_choices}
 use Rattle.office_db.specs.changes.Inner.Grading.{with_grade_recorded}
-use Rattle.office_schema.specs.tables.Edits.{with_room, with_shut, with_person, without_person, with_home, with_withdrawn}
-use Rattle.office_schema.specs.tables.Edits.{without_withdrawn, with_round, with_choice, without_choices_of, without_round_tables}
-use Rattle.office_schema.specs.tables.Edits.{with_word, with_result, with_move, with_import, with_grade, without_grade_of}
+use Rattle.office_schema.specs.tables.Edits.{with_room, with_shut, with_person, without_person}
+use Rattle.office_schema.specs.tables.Edits.{with_home, with_name_and_key, with_withdrawn}
+use Rattle.office_schema.specs.tables.Edits.{without_withdrawn, with_round, with_choice}
+use Rattle.office_schema.specs.tables.Edits.{without_choices_of, without_round_tables}
+use Rattle.office_schema.specs.tables.Edits.{with_word, with_result, with_move, with_import}
+use Rattle.office_schema.specs.tables.Edits.{with_body, with_grade, without_grade_of}
 use Rattle.office_schema.specs.tables.Edits.{with_going, taking_part}
 use Rattle.office_db.proofs.alike_tables.Alike.{alike-refl, rooms_alike}
 use Rattle.office_db.proofs.alike_tables.Alike.{people_alike, choices_alike}
@@ -47,50 +52,10 @@ use Rattle.office_db.proofs.alike_tables.Alike.{results_alike, moves_alike}
 use Rattle.office_db.proofs.alike_tables.Alike.{lists_alike, grades_alike}
 use Rattle.office_db.proofs.alike_tables.Alike.{going_alike, alike-trans}
 use Rattle.office_db.proofs.changed_rows.Entries.{rows_put, rows_gone, row_gone}
-use Rattle.office_db.proofs.changed_rows.Entries.{row_added, row_put}
+use Rattle.office_db.proofs.changed_rows.Entries.{row_added}
 use Rattle.office_db.proofs.changed_rows.Entries.{row_unknown, row_changed}
-
--- The test of a statement picks the rows of one key.
-tells : (a b : Text) → text_eq a b ≡ eq_by_cmp text_cmp a b
-tells a b = sym (is_eq-slice_cmp a b)
-
--- ---- tables whose rows are the entries themselves
-
-module _ {X : Type 0} (m : TextMap X) (k : Text) where
-  abbrev is_its : Text × X → Bool
-  is_its r = text_eq r.0 k
-
-  entry_added : (v : X) → maps.contains_key m k ≡ false
-      → IsPermutation (maps.entries (maps.insert m k v)) ((k, v) ∷ maps.entries m)
-  entry_added v new =
-      subst (λ l. IsPermutation l ((k, v) ∷ maps.entries m)) (map-id (maps.entries (maps.insert m k v)))
-      (subst (λ l. IsPermutation (map (λ e. e) (maps.entries (maps.insert m k v))) ((k, v) ∷ l))
-      (map-id (maps.entries m))
-      (row_added (λ e. e) (λ r. r.0) (λ e. refl) k is_its (λ r. tells r.0 k) m v
-      (none_if_not_some (maps.get m k) new)))
-
-  entry_changed : (v : X) → maps.contains_key m k ≡ true
-      → maps.entries (maps.insert m k v) ≡ update_where is_its (λ r. (r.0, v)) (maps.entries m)
-  entry_changed v known =
-      let kept = some_of (maps.get m k) known in
-      sym (map-id (maps.entries (maps.insert m k v)))
-      ∙ row_changed (λ e. e) (λ r. r.0) (λ e. refl) k is_its (λ r. tells r.0 k)
-      (λ r. (r.0, v)) m v kept.0 kept.1 refl
-      ∙ ap (update_where is_its (λ r. (r.0, v))) (map-id (maps.entries m))
-
-  entry_gone : maps.entries (maps.remove m k) ≡ delete_where is_its (maps.entries m)
-  entry_gone =
-      sym (map-id (maps.entries (maps.remove m k)))
-      ∙ row_gone (λ e. e) (λ r. r.0) (λ e. refl) k is_its (λ r. tells r.0 k) m
-      ∙ ap (delete_where is_its) (map-id (maps.entries m))
-
-  entry_put : (v : X)
-      → IsPermutation (maps.entries (maps.insert m k v)) ((k, v) ∷ delete_where is_its (maps.entries m))
-  entry_put v =
-      subst (λ l. IsPermutation l ((k, v) ∷ delete_where is_its (maps.entries m))) (map-id (maps.entries (maps.insert m k v)))
-      (subst (λ l. IsPermutation (map (λ e. e) (maps.entries (maps.insert m k v))) ((k, v) ∷ delete_where is_its l))
-      (map-id (maps.entries m))
-      (row_put (λ e. e) (λ r. r.0) (λ e. refl) k is_its (λ r. tells r.0 k) m v))
+use Rattle.office_db.proofs.changed_rows.TableEntries.{tells, entry_added, entry_changed, entry_changed_by}
+use Rattle.office_db.proofs.changed_rows.TableEntries.{entry_unknown, entry_gone, entry_put}
 
 -- ---- rooms
 
@@ -175,6 +140,31 @@ module _ (office : Office) (person : Text) where
             (row_changed shown (λ (r : PersonRecord). r.id) (λ e. refl) person is_that
             (λ r. tells r.id person) f office.people
             (record kept { home = home }) kept known refl))
+      ] refl
+
+  pub name_and_key_put : (name key : Text)
+      → AreSameRows (rows_of (applied office (PutNameAndKey person name key)))
+      (with_name_and_key person name key (rows_of office))
+  unfolding rows_at with_name_and_key
+  name_and_key_put name key =
+      let f : PersonRecord → PersonRecord =
+      λ r. record r { person = record r.person { name = name; key = key } } in
+      elim (maps.get office.people person) as (λ o. maps.get office.people person ≡ o
+      → AreSameRows (rows_of (elim o as (λ _. Office) [
+        | None ↦ office
+        | Some kept ↦ record office {
+          people = maps.insert office.people person (record kept { name = name; key = key });
+        }
+      ])) (with_name_and_key person name key (rows_of office))) [
+        | None ↦ λ unknown.
+            people_alike (rows_of office) _ _ (IsPermutation-same _ _
+            (row_unknown shown (λ (r : PersonRecord). r.id) (λ e. refl) person is_that
+            (λ r. tells r.id person) f office.people unknown))
+        | Some kept ↦ λ known.
+            people_alike (rows_of office) _ _ (IsPermutation-same _ _
+            (row_changed shown (λ (r : PersonRecord). r.id) (λ e. refl) person is_that
+            (λ r. tells r.id person) f office.people
+            (record kept { name = name; key = key }) kept known refl))
       ] refl
 
   -- the row of a person, once somebody has withdrawn
@@ -279,6 +269,28 @@ unfolding rows_at with_import
 list_kept office label kind bytes count new =
     lists_alike (rows_of office) _ _
     (entry_added office.lists label (record { kind = kind; bytes = bytes; count = count }) new)
+
+-- The bytes of an imported list are replaced.
+pub bytes_put : (office : Office) (label : Text) (bytes : List ℕ)
+    → AreSameRows (rows_of (applied office (PutBytes label bytes)))
+    (with_body label bytes (rows_of office))
+unfolding rows_at with_body
+bytes_put office label bytes =
+    let f : Text × StoredImport → Text × StoredImport = λ r. (r.0, record r.1 { bytes = bytes }) in
+    elim (maps.get office.lists label) as (λ o. maps.get office.lists label ≡ o
+    → AreSameRows (rows_of (elim o as (λ _. Office) [
+      | None ↦ office
+      | Some kept ↦ record office {
+        lists = maps.insert office.lists label (record kept { bytes = bytes });
+      }
+    ])) (with_body label bytes (rows_of office))) [
+      | None ↦ λ unknown.
+          lists_alike (rows_of office) _ _
+          (IsPermutation-same _ _ (entry_unknown office.lists label f unknown))
+      | Some kept ↦ λ known.
+          lists_alike (rows_of office) _ _ (IsPermutation-same _ _
+          (entry_changed_by office.lists label f (record kept { bytes = bytes }) kept known refl))
+    ] refl
 
 -- ---- grades and leavers
 

@@ -1,14 +1,17 @@
 //! Storing people.
 ghost use Rattle.std.specs.Prelude.{◌≡◌, OnOk};
 ghost use Rattle.sqlite.specs.Held.{state};
-ghost use Rattle.office_state.specs.declared.change.Change.TheVariants.{PutPerson, DropPerson, PutHome, PutWithdrawn};
+ghost use Rattle.office_state.specs.declared.change.Change.TheVariants.{PutPerson, DropPerson, PutHome};
+ghost use Rattle.office_state.specs.declared.change.Change.TheVariants.{PutNameAndKey, PutWithdrawn};
 ghost use Rattle.office_schema.specs.tables.Crashes.{WasOpen};
 ghost use Rattle.office_schema.specs.tables.Steps.{StaysInside};
 ghost use Rattle.office_db.specs.changes.StoresChanges.{StoresAlways};
 
 use crate::changes::lemmas::{lemma_optional_text, lemma_text};
 use office_schema::tables::grades::drop_grade;
-use office_schema::tables::people::{add_person, drop_person, set_home, set_withdrawn};
+use office_schema::tables::people::{
+    add_person, drop_person, set_home, set_name_and_key, set_withdrawn,
+};
 use room_types::{Key, Name, PersonId, RoomCode};
 use sqlite::{Alter, Error, Transaction};
 
@@ -68,6 +71,26 @@ pub(crate) fn put_home<S: Alter>(
 {
     lemma_optional_text(home);
     set_home(tx, person, home)
+}
+
+/// Replaces a person's name and key. Does nothing if the person is unknown.
+pub(crate) fn put_name_and_key<S: Alter>(
+    tx: &mut Transaction<'_, S>,
+    person: &PersonId,
+    name: &Name,
+    key: &Key,
+) -> Result<(), Error>
+    ensures same_reference { tx.new.conn.ghost_name ≡ tx.old.conn.ghost_name }
+    ensures made { OnOk result
+        (StoresAlways (state S.Store tx.old.conn.now) (state S.Store tx.new.conn.now)
+        (PutNameAndKey person.now name.now key.now)) }
+    ensures was_open { OnOk result
+        (WasOpen (state S.Store tx.old.conn.now) (state S.Store tx.new.conn.now)) }
+    ensures inside { StaysInside (state S.Store tx.old.conn.now) (state S.Store tx.new.conn.now) }
+{
+    lemma_text(name);
+    lemma_text(key);
+    set_name_and_key(tx, person, name, key)
 }
 
 /// Marks a person as withdrawn from the round. Does nothing if the person is unknown.

@@ -9,9 +9,11 @@ ghost use Rattle.office_db.specs.changes.StoresChanges.{CommitsChanges, StoresCh
 
 use crate::changes::choices::put_choices;
 use crate::changes::grades::{put_going, put_grade};
-use crate::changes::imports::keep_list;
+use crate::changes::imports::{keep_list, put_bytes};
 use crate::changes::lemmas::lemma_text;
-use crate::changes::people::{put_home, put_person, put_withdrawn, remove_person};
+use crate::changes::people::{
+    put_home, put_name_and_key, put_person, put_withdrawn, remove_person,
+};
 use crate::changes::results::{put_result, record_move};
 use crate::changes::round::{clear_round, put_round};
 use crate::changes::words::put_word;
@@ -106,6 +108,7 @@ fn apply_change<S: Alter>(
         } => put_person(tx, person, name, key, home),
         Change::DropPerson { person } => remove_person(tx, person),
         Change::PutHome { person, home } => put_home(tx, person, home),
+        Change::PutNameAndKey { person, name, key } => put_name_and_key(tx, person, name, key),
         Change::PutWithdrawn { person } => put_withdrawn(tx, person),
         Change::PutChoices { person, choices } => put_choices(tx, person, choices),
         Change::PutWord { person, word } => put_word(alloc, tx, person, *word),
@@ -119,6 +122,7 @@ fn apply_change<S: Alter>(
             bytes,
             count,
         } => keep_list(tx, label, *kind, bytes, *count),
+        Change::PutBytes { label, bytes } => put_bytes(tx, label, bytes),
         Change::PutGrade { person, grade } => put_grade(tx, person, *grade),
         Change::PutGoing { person } => put_going(tx, person),
     }

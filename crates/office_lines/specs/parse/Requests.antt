@@ -1,10 +1,10 @@
 -- How the words of a line are parsed into a request.
 use Rattle.std.specs.Prelude.{Bool, false, ◌&&◌, List, [], ◌∷◌, length, ◌==◌, nat_le, Option, Some, None, is_some, option_and_then, option_map}
 use Rattle.room_types.specs.Grades.{grade_of}
-use Rattle.room_types.specs.Grammars.{is_key, is_name, is_person_id, is_room_code}
+use Rattle.room_types.specs.Grammars.{is_key, is_label, is_name, is_person_id, is_room_code}
 use Rattle.room_types.specs.Texts.{Text}
 use Rattle.room_types.specs.Words.{word_of}
-use Rattle.office_core.specs.declared.command.Command.TheVariants.{AddPerson, AddRoom, Cancel, CloseRound, Draw, Going, Leave, OpenRound, Publish, Remove, Reopen, Run, SetChoices, SetGrade, SetHome, Settle, Shut, Withdraw}
+use Rattle.office_core.specs.declared.command.Command.TheVariants.{AddPerson, AddRoom, Blank, Cancel, CloseRound, Draw, Going, Leave, OpenRound, Publish, Remove, Reopen, Run, SetChoices, SetGrade, SetHome, SetKey, SetName, Settle, Shut, Withdraw}
 use Rattle.office_core.specs.declared.query.Query.TheVariants.{Me, Moves, Order, People, Results, Rooms, Round, WhatIf}
 use Rattle.office_lines.specs.parse.Verbs.{verb_of}
 use Rattle.office_lines.specs.declared.parse.requests.Verb.{Verb}
@@ -42,6 +42,20 @@ remove words = option_map (λ person. Office (Remove person)) (only is_person_id
 abbrev pub set_grade : List Text → Option Request
 set_grade (person ∷ grade ∷ []) = option_and_then (λ id. option_map (λ value. Office (SetGrade id value)) (grade_of grade)) (in_grammar is_person_id person)
 set_grade _ = None
+
+-- `name ID NAME..`; the words after the identifier are the name
+abbrev pub set_name : List Text → Option Request
+set_name (person ∷ name) = option_and_then (λ id. option_map (λ n. Office (SetName id n)) (in_grammar is_name (joined name))) (in_grammar is_person_id person)
+set_name [] = None
+
+-- `key ID KEY`
+abbrev pub set_key : List Text → Option Request
+set_key (person ∷ key ∷ []) = option_and_then (λ id. option_map (λ k. Office (SetKey id k)) (in_grammar is_key key)) (in_grammar is_person_id person)
+set_key _ = None
+
+-- `blank LABEL`
+abbrev pub blank : List Text → Option Request
+blank words = option_map (λ label. Office (Blank label)) (only is_label words)
 
 -- `shut CODE`
 abbrev pub shut : List Text → Option Request
@@ -95,6 +109,9 @@ request_after_word verb.Home rest = set_home rest
 request_after_word verb.Leave rest = leave rest
 request_after_word verb.Remove rest = remove rest
 request_after_word verb.Grade rest = set_grade rest
+request_after_word verb.Name rest = set_name rest
+request_after_word verb.Key rest = set_key rest
+request_after_word verb.Blank rest = blank rest
 request_after_word verb.Shut rest = shut rest
 request_after_word verb.Reopen rest = reopen rest
 request_after_word verb.Open rest = without_arguments (Office OpenRound) rest
@@ -135,6 +152,9 @@ copies verb.Home rest = length rest == 2 && first_in is_person_id rest
 copies verb.Leave rest = is_some (leave rest)
 copies verb.Remove rest = is_some (remove rest)
 copies verb.Grade rest = length rest == 2 && first_in is_person_id rest
+copies verb.Name rest = nat_le 2 (length rest) && first_in is_person_id rest
+copies verb.Key rest = length rest == 2 && first_in is_person_id rest
+copies verb.Blank rest = is_some (blank rest)
 copies verb.Shut rest = is_some (shut rest)
 copies verb.Reopen rest = is_some (reopen rest)
 copies verb.Open rest = false

@@ -14,6 +14,9 @@ verb_of word =
     else if bytes_eq word (codes "leave") then Some verb.Leave
     else if bytes_eq word (codes "remove") then Some verb.Remove
     else if bytes_eq word (codes "grade") then Some verb.Grade
+    else if bytes_eq word (codes "name") then Some verb.Name
+    else if bytes_eq word (codes "key") then Some verb.Key
+    else if bytes_eq word (codes "blank") then Some verb.Blank
     else if bytes_eq word (codes "shut") then Some verb.Shut
     else if bytes_eq word (codes "reopen") then Some verb.Reopen
     else if bytes_eq word (codes "open") then Some verb.Open

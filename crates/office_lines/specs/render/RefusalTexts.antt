@@ -8,7 +8,7 @@ use Rattle.office_lists.specs.declared.fault.Cause.TheVariants.{Header, NotText,
 use Rattle.office_core.specs.Refusal.{name_of, number_of}
 use Rattle.office_core.specs.declared.refusal.Refusal.{Refusal}
 use Rattle.office_lines.specs.render.OutputLines.{line_of}
-use Rattle.office_core.specs.declared.refusal.Refusal.TheVariants.{BadPhase, UnknownPerson, UnknownRoom, DuplicateRoom, DuplicatePerson, KeyInUse, RoomShut, RoomTaken, HasHome, NoHome, Withdrawn, WrongWordCount, LimitReached, ListDiffers, BadRecord, NotInRound, NoSuchRound, NotShut, OutOfMemory, Going}
+use Rattle.office_core.specs.declared.refusal.Refusal.TheVariants.{BadPhase, UnknownPerson, UnknownRoom, DuplicateRoom, DuplicatePerson, KeyInUse, RoomShut, RoomTaken, HasHome, NoHome, Withdrawn, WrongWordCount, LimitReached, ListDiffers, BadRecord, NotInRound, NoSuchRound, NotShut, OutOfMemory, Going, UnknownLabel}
 
 -- the text of a cause, which says what is wrong with a record of an imported list
 abbrev pub cause_text : Cause → Text
@@ -41,6 +41,7 @@ refusal_values NoSuchRound = []
 refusal_values NotShut = []
 refusal_values OutOfMemory = []
 refusal_values Going = []
+refusal_values UnknownLabel = []
 
 -- the line of a refusal: `refused`, then the refusal's number, name and values
 abbrev pub refusal_text : Refusal → Text

@@ -1,7 +1,7 @@
 //! Parses the words of a line into a request. The first word, its verb, names the kind of request.
 ghost use Rattle.std.specs.Prelude.{◌≡◌, false, map};
 ghost use Rattle.office_lines.specs.parse.Understanding.{Understands, OutOfMemoryOnlyIf};
-ghost use Rattle.office_lines.specs.parse.Requests.{add_person, add_room, without_arguments, ask_me, ask_moves, ask_what_if, draw, going, leave, remove, reopen, request_after_word, request_of, set_choices, set_grade, set_home, shut, withdraw};
+ghost use Rattle.office_lines.specs.parse.Requests.{add_person, add_room, without_arguments, ask_me, ask_moves, ask_what_if, blank, draw, going, leave, remove, reopen, request_after_word, request_of, set_choices, set_grade, set_home, set_key, set_name, shut, withdraw};
 ghost use Rattle.office_lines.specs.parse.Requests.{copies, allocates};
 ghost use Rattle.office_lines.specs.parse.Verbs.{verb_of};
 ghost use Rattle.office_lines.specs.declared.parse.requests.Verb.TheVariants as verb;
@@ -24,6 +24,9 @@ pub enum Verb {
     Leave,
     Remove,
     Grade,
+    Name,
+    Key,
+    Blank,
     Shut,
     Reopen,
     Open,
@@ -57,6 +60,9 @@ pub fn verb_of(word: &str) -> Option<Verb>
         "leave" => Some(Verb::Leave),
         "remove" => Some(Verb::Remove),
         "grade" => Some(Verb::Grade),
+        "name" => Some(Verb::Name),
+        "key" => Some(Verb::Key),
+        "blank" => Some(Verb::Blank),
         "shut" => Some(Verb::Shut),
         "reopen" => Some(Verb::Reopen),
         "open" => Some(Verb::Open),
@@ -114,6 +120,9 @@ fn request_after_word(alloc: Global, verb: Verb, rest: &[&str]) -> Result<Reques
         Verb::Leave => parse_leave(alloc, rest),
         Verb::Remove => parse_remove(alloc, rest),
         Verb::Grade => parse_set_grade(alloc, rest),
+        Verb::Name => parse_set_name(alloc, rest),
+        Verb::Key => parse_set_key(alloc, rest),
+        Verb::Blank => parse_blank(alloc, rest),
         Verb::Shut => parse_shut(alloc, rest),
         Verb::Reopen => parse_reopen(alloc, rest),
         Verb::Open => without_arguments(rest, Request::Office(Command::OpenRound)),
@@ -214,6 +223,46 @@ fn parse_set_grade(alloc: Global, words: &[&str]) -> Result<Request, WordFault>
         }
         _ => Err(WordFault::NotUnderstood),
     }
+}
+
+// The words after the identifier, joined by one space, are the name.
+fn parse_set_name(alloc: Global, words: &[&str]) -> Result<Request, WordFault>
+    ensures understands { Understands (set_name (map (λ word. word.now) words.now)) result }
+    ensures memory { OutOfMemoryOnlyIf (copies verb.Name (map (λ word. word.now) words.now))
+        result }
+{
+    match words {
+        [person, name @ ..] if !name.is_empty() => {
+            let person = value_of(alloc, person)?;
+            let name = name_of(alloc, name)?;
+            Ok(Request::Office(Command::SetName { person, name }))
+        }
+        _ => Err(WordFault::NotUnderstood),
+    }
+}
+
+fn parse_set_key(alloc: Global, words: &[&str]) -> Result<Request, WordFault>
+    ensures understands { Understands (set_key (map (λ word. word.now) words.now)) result }
+    ensures memory { OutOfMemoryOnlyIf (copies verb.Key (map (λ word. word.now) words.now))
+        result }
+{
+    match words {
+        [person, key] => {
+            let person = value_of(alloc, person)?;
+            let key = value_of(alloc, key)?;
+            Ok(Request::Office(Command::SetKey { person, key }))
+        }
+        _ => Err(WordFault::NotUnderstood),
+    }
+}
+
+fn parse_blank(alloc: Global, words: &[&str]) -> Result<Request, WordFault>
+    ensures understands { Understands (blank (map (λ word. word.now) words.now)) result }
+    ensures memory { OutOfMemoryOnlyIf (copies verb.Blank (map (λ word. word.now) words.now))
+        result }
+{
+    let label = only_value(alloc, words)?;
+    Ok(Request::Office(Command::Blank { label }))
 }
 
 fn parse_shut(alloc: Global, words: &[&str]) -> Result<Request, WordFault>

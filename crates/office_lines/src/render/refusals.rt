@@ -50,7 +50,8 @@ fn push_values(text: &mut String, refusal: &Refusal) -> Result<(), AllocError>
         | Refusal::NoSuchRound
         | Refusal::NotShut
         | Refusal::OutOfMemory
-        | Refusal::Going => Ok(()),
+        | Refusal::Going
+        | Refusal::UnknownLabel => Ok(()),
     }
 }
 

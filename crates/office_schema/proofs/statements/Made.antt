@@ -23,7 +23,8 @@ use Rattle.office_schema.specs.tables.Inner.Texts as text
 use Rattle.office_schema.specs.tables.Inner.Texts.{by_parameter}
 use Rattle.office_schema.proofs.statements.Meanings as meaning
 use Rattle.office_schema.proofs.statements.Making.{inserted, inserted_anew, deleted, updated}
-use Rattle.office_schema.proofs.statements.OneTable.{rooms, people, rounds, choices, words, results, moves, lists, grades, going}
+use Rattle.office_schema.proofs.statements.OneTable.{rooms, people, rounds, choices, words}
+use Rattle.office_schema.proofs.statements.OneTable.{results, moves, lists, grades, going}
 use Rattle.office_schema.proofs.statements.Values.{cast-Int, cast-Null, cast-text_or_null, cast-wave_value, same_text}
 
 module _ (old new : State) where
@@ -56,6 +57,12 @@ module _ (old new : State) where
   makes_home id home = updated people old new text.set_home_text (Text id ∷ text_or_null home ∷ []) (by_parameter 1 0 ∷ []) (col 1 0 ∷ col 1 0 ∷ col 1 1 ∷ col 1 2 ∷ col 1 3 ∷ col 0 1 ∷ col 1 5 ∷ []) (λ r. refl)
       (λ r. text_eq r.id id) (λ e. same_text e.1.id id) (λ r. record r { person = record r.person { home = home } })
       (λ e. ap₂ (λ a (p : Value × Value). a ∷ Text e.1.id ∷ Text e.1.person.name ∷ Text e.1.person.key ∷ p.0 ∷ p.1 ∷ []) (cast-Int e.0) (ap₂ (λ a b. (a, b)) (cast-text_or_null home) (cast-Int _))) meaning.set_home_is
+
+  pub makes_name_and_key : (id name key : Bytes) → Runs text.set_name_and_key_text (Text id ∷ Text name ∷ Text key ∷ []) → Makes old new (edit.with_name_and_key id name key)
+  unfolding edit.with_name_and_key
+  makes_name_and_key id name key = updated people old new text.set_name_and_key_text (Text id ∷ Text name ∷ Text key ∷ []) (by_parameter 1 0 ∷ []) (col 1 0 ∷ col 1 0 ∷ col 1 1 ∷ col 0 1 ∷ col 0 2 ∷ col 1 4 ∷ col 1 5 ∷ []) (λ r. refl)
+      (λ r. text_eq r.id id) (λ e. same_text e.1.id id) (λ r. record r { person = record r.person { name = name; key = key } })
+      (λ e. ap₂ (λ a (p : Value × Value). a ∷ Text e.1.id ∷ Text name ∷ Text key ∷ p.0 ∷ p.1 ∷ []) (cast-Int e.0) (ap₂ (λ a b. (a, b)) (cast-text_or_null e.1.person.home) (cast-Int _))) meaning.set_name_and_key_is
 
   pub makes_withdrawn : (id : Bytes) → Runs text.set_withdrawn_text (Text id ∷ []) → Makes old new (edit.with_withdrawn id)
   unfolding edit.with_withdrawn
@@ -132,3 +139,9 @@ module _ (old new : State) where
   makes_list label kept = inserted_anew lists old new text.add_list_text (Text label ∷ Text (kind_text kept.kind) ∷ Blob kept.bytes ∷ Int (pos kept.count) ∷ []) (lit Null ∷ col 0 0 ∷ col 0 1 ∷ col 0 2 ∷ col 0 3 ∷ []) 5 meaning.add_list_is
       (Null ∷ Text label ∷ Text (kind_text kept.kind) ∷ Blob kept.bytes ∷ Int (pos kept.count) ∷ []) refl (label, kept)
       (ap₂ (λ a b. a ∷ Text label ∷ Text (kind_text kept.kind) ∷ Blob kept.bytes ∷ b ∷ []) cast-Null (cast-Int (pos kept.count)))
+
+  pub makes_body : (label : Bytes) (bytes : List ℕ) → Runs text.set_body_text (Text label ∷ Blob bytes ∷ []) → Makes old new (edit.with_body label bytes)
+  unfolding edit.with_body
+  makes_body label bytes = updated lists old new text.set_body_text (Text label ∷ Blob bytes ∷ []) (by_parameter 1 0 ∷ []) (col 1 0 ∷ col 1 0 ∷ col 1 1 ∷ col 1 2 ∷ col 0 1 ∷ col 1 4 ∷ []) (λ r. refl)
+      (λ r. text_eq r.0 label) (λ e. same_text e.1.0 label) (λ r. (r.0, record r.1 { bytes = bytes }))
+      (λ e. ap₂ (λ a b. a ∷ Text e.1.0 ∷ Text (kind_text e.1.1.kind) ∷ Blob bytes ∷ b ∷ []) (cast-Int e.0) (cast-Int (pos e.1.1.count))) meaning.set_body_is

@@ -38,6 +38,10 @@ pub set_home_is : Means text.set_home_text (Update 1 (alone (over 2 (by_paramete
 unfolding understood everything
 set_home_is = record { is = refl; plain = (refl, refl) }
 
+pub set_name_and_key_is : Means text.set_name_and_key_text (Update 1 (alone (over 2 (by_parameter 1 0 ∷ []) (col 1 0 ∷ col 1 0 ∷ col 1 1 ∷ col 0 1 ∷ col 0 2 ∷ col 1 4 ∷ col 1 5 ∷ []) [])))
+unfolding understood everything
+set_name_and_key_is = record { is = refl; plain = (refl, refl) }
+
 pub set_withdrawn_is : Means text.set_withdrawn_text (Update 1 (alone (over 2 (by_parameter 1 0 ∷ []) (col 1 0 ∷ col 1 0 ∷ col 1 1 ∷ col 1 2 ∷ col 1 3 ∷ col 1 4 ∷ lit (Int (pos 1)) ∷ []) [])))
 unfolding understood everything
 set_withdrawn_is = record { is = refl; plain = (refl, refl) }
@@ -93,3 +97,7 @@ add_move_is = record { is = refl; plain = (refl, refl) }
 pub add_list_is : Means text.add_list_text (Insert 4 (Values (lit Null ∷ col 0 0 ∷ col 0 1 ∷ col 0 2 ∷ col 0 3 ∷ []) 5))
 unfolding understood everything
 add_list_is = record { is = refl; plain = (refl, refl) }
+
+pub set_body_is : Means text.set_body_text (Update 4 (alone (over 9 (by_parameter 1 0 ∷ []) (col 1 0 ∷ col 1 0 ∷ col 1 1 ∷ col 1 2 ∷ col 0 1 ∷ col 1 4 ∷ []) [])))
+unfolding understood everything
+set_body_is = record { is = refl; plain = (refl, refl) }

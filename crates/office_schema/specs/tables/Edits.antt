@@ -1,5 +1,5 @@
 -- The effect of each statement on the rows.
-use Rattle.std.specs.Prelude.{ℕ, Bool, true, false, [], ◌∷◌, map, Option}
+use Rattle.std.specs.Prelude.{ℕ, Bool, true, false, List, [], ◌∷◌, map, Option}
 use Rattle.room_types.specs.Texts.{Text, text_eq}
 use Rattle.room_types.specs.declared.moves.Move.{Move}
 use Rattle.room_types.specs.declared.phase.Phase.{Phase}
@@ -38,6 +38,13 @@ unfoldable pub with_home : Text → Option Text → Tables → Tables
 with_home id home tables = record tables {
   people = update_where (λ r. text_eq r.id id)
       (λ r. record r { person = record r.person { home = home } }) tables.people;
+}
+
+-- replaces the person's name and key, if the person is known
+unfoldable pub with_name_and_key : Text → Text → Text → Tables → Tables
+with_name_and_key id name key tables = record tables {
+  people = update_where (λ r. text_eq r.id id)
+      (λ r. record r { person = record r.person { name = name; key = key } }) tables.people;
 }
 
 -- sets the person's `withdrawn` flag, if the person is known
@@ -116,3 +123,10 @@ with_move move tables = record tables { moves = move ∷ tables.moves }
 
 unfoldable pub with_import : Text → StoredImport → Tables → Tables
 with_import label kept tables = record tables { lists = (label, kept) ∷ tables.lists }
+
+-- replaces the bytes of a list, if there is one with this label
+unfoldable pub with_body : Text → List ℕ → Tables → Tables
+with_body label bytes tables = record tables {
+  lists = update_where (λ r. text_eq r.0 label) (λ r. (r.0, record r.1 { bytes = bytes }))
+      tables.lists;
+}

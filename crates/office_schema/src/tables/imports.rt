@@ -3,7 +3,7 @@ ghost use Rattle.std.specs.Prelude.{◌≡◌, OnOk, OnErr};
 ghost use Rattle.sqlite.specs.Held.{state};
 ghost use Rattle.office_state.specs.declared.office.stored_import.StoredImport.{StoredImport};
 ghost use Rattle.office_schema.specs.tables.Crashes.{WasOpen};
-ghost use Rattle.office_schema.specs.tables.Edits.{with_import};
+ghost use Rattle.office_schema.specs.tables.Edits.{with_body, with_import};
 ghost use Rattle.office_schema.specs.tables.Makes.{Makes};
 ghost use Rattle.office_schema.specs.tables.Steps.{IsUndone, StaysInside};
 
@@ -39,5 +39,28 @@ pub fn add_list<S: Alter>(
             bytes.as_slice(),
             u32::from(count)
         ],
+    )
+}
+
+/// Replaces the bytes of an imported list. Does nothing if there is no list with this label.
+pub fn set_body<S: Alter>(
+    tx: &mut Transaction<'_, S>,
+    label: &Label,
+    bytes: &Listing<u8>,
+) -> Result<(), Error>
+    ensures same_reference { tx.new.conn.ghost_name ≡ tx.old.conn.ghost_name }
+    ensures made { OnOk result
+        (Makes (state S.Store tx.old.conn.now) (state S.Store tx.new.conn.now)
+        (with_body label.now bytes.now)) }
+    ensures undone { OnErr result
+        (IsUndone (state S.Store tx.old.conn.now) (state S.Store tx.new.conn.now)) }
+    ensures was_open { OnOk result
+        (WasOpen (state S.Store tx.old.conn.now) (state S.Store tx.new.conn.now)) }
+    ensures inside { StaysInside (state S.Store tx.old.conn.now) (state S.Store tx.new.conn.now) }
+{
+    run(
+        tx,
+        "UPDATE list SET body = ?2 WHERE label = ?1",
+        params![label.as_str(), bytes.as_slice()],
     )
 }

@@ -2,7 +2,8 @@
 ghost use Rattle.std.specs.Prelude.{◌≡◌, OnOk, OnErr};
 ghost use Rattle.sqlite.specs.Held.{state};
 ghost use Rattle.office_schema.specs.tables.Crashes.{WasOpen};
-ghost use Rattle.office_schema.specs.tables.Edits.{with_person, without_person, with_home, with_withdrawn, without_withdrawn};
+ghost use Rattle.office_schema.specs.tables.Edits.{with_person, without_person, with_home};
+ghost use Rattle.office_schema.specs.tables.Edits.{with_name_and_key, with_withdrawn, without_withdrawn};
 ghost use Rattle.office_schema.specs.tables.Makes.{Makes};
 ghost use Rattle.office_schema.specs.tables.Steps.{IsUndone, StaysInside};
 
@@ -73,6 +74,30 @@ pub fn set_home<S: Alter>(
         tx,
         "UPDATE person SET home = ?2 WHERE id = ?1",
         params![id.as_str(), code_or_null(home)],
+    )
+}
+
+/// Replaces a person's name and key. Does nothing if the person is unknown. Fails if somebody else has the key.
+pub fn set_name_and_key<S: Alter>(
+    tx: &mut Transaction<'_, S>,
+    id: &PersonId,
+    name: &Name,
+    key: &Key,
+) -> Result<(), Error>
+    ensures same_reference { tx.new.conn.ghost_name ≡ tx.old.conn.ghost_name }
+    ensures made { OnOk result
+        (Makes (state S.Store tx.old.conn.now) (state S.Store tx.new.conn.now)
+        (with_name_and_key id.now name.now key.now)) }
+    ensures undone { OnErr result
+        (IsUndone (state S.Store tx.old.conn.now) (state S.Store tx.new.conn.now)) }
+    ensures was_open { OnOk result
+        (WasOpen (state S.Store tx.old.conn.now) (state S.Store tx.new.conn.now)) }
+    ensures inside { StaysInside (state S.Store tx.old.conn.now) (state S.Store tx.new.conn.now) }
+{
+    run(
+        tx,
+        "UPDATE person SET name = ?2, passkey = ?3 WHERE id = ?1",
+        params![id.as_str(), name.as_str(), key.as_str()],
     )
 }
 

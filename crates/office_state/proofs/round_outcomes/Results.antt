@@ -21,7 +21,6 @@ use Rattle.office_state.specs.Office.{participants}
 use Rattle.office_state.specs.Round.{is_participant, round_people, round_rooms, round_market}
 use Rattle.office_state.specs.Round.{round_room, result_of}
 use Rattle.office_state.specs.Round.{round_results, number_in}
-use Rattle.office_state.specs.Round.Laws.{HaveSameEntries, HaveSameRound}
 use Rattle.office_state.specs.declared.office.Assigned.{Assigned}
 use Rattle.office_state.specs.declared.office.Office.{Office}
 use Rattle.office_state.proofs.round_problems.Names.{number_in-below}
@@ -128,36 +127,3 @@ results-same office results people rooms given ok is_people is_rooms is_given re
           ∙ ap (λ b. cond b (Some (by_number number)) None) part
     ] refl (participant_number office person)
     ∙ sym (get-round_results office person))
-
--- ---- what does not change the round
-
--- one office, with the entries that determine the round taken from the other
-blend : (one other : Office) → HaveSameEntries one other
-    → one ≡ record one {
-      rooms = other.rooms;
-      people = other.people;
-      choices = other.choices;
-      withdrawn = other.withdrawn;
-      words = other.words;
-      grades = other.grades;
-      going = other.going;
-    }
-blend one other same =
-    λ i. record one {
-      rooms = same.rooms i;
-      people = same.people i;
-      choices = same.choices i;
-      withdrawn = same.withdrawn i;
-      words = same.words i;
-      grades = same.grades i;
-      going = same.going i;
-    }
-
-pub same_entries_same_round : (one other : Office) → HaveSameEntries one other → HaveSameRound one other
-unfolding round_people round_rooms round_market result_of round_results
-same_entries_same_round one other same = record {
-  people = ap round_people (blend one other same);
-  rooms = ap round_rooms (blend one other same);
-  market = ap round_market (blend one other same);
-  results = ap round_results (blend one other same);
-}

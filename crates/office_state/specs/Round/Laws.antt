@@ -1,6 +1,6 @@
 -- Properties of the round's problem and of its results.
 use Rattle.std.specs.Prelude.{◌≡◌, ◌≤◌, Bool, true, List, length, Option, Some, is_some, map as map_list}
-use Rattle.std.specs.Option.{option_and_then}
+use Rattle.std.specs.Option.{option_and_then, option_map}
 use Rattle.std.specs.FinMap as map
 use Rattle.draw_order.specs.Draw.{PlainTicket, plain_order}
 use Rattle.room_types.specs.Texts.{Text, TextMap}
@@ -70,11 +70,15 @@ pub record IsWellTraded (office : Office) (gets : Text → Option Text) : Type 0
   pub efficient : IsEfficientFor office gets
   pub apart : HasNoBetterTradeFor office gets
 
--- two offices have the same rooms, people, grades, lists, withdrawals and words, and the same people
--- leave the college
+-- the home on record of a person, who may have none; nothing if the person is unknown
+abbrev pub recorded_home : Office → Text → Option (Option Text)
+recorded_home office person = option_map (λ p. p.home) (map.get office.people person)
+
+-- two offices have the same rooms, people, homes, grades, lists, withdrawals and words, and the same people leave the
+-- college. Names and keys may differ.
 pub record HaveSameEntries (one other : Office) : Type 0 where
   pub rooms : one.rooms ≡ other.rooms
-  pub people : one.people ≡ other.people
+  pub homes : (person : Text) → recorded_home one person ≡ recorded_home other person
   pub choices : one.choices ≡ other.choices
   pub withdrawn : one.withdrawn ≡ other.withdrawn
   pub words : one.words ≡ other.words

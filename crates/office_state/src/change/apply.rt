@@ -1,7 +1,9 @@
 //! Applies changes to an office.
 ghost use Rattle.std.specs.Prelude.{◌≡◌, ◌≢◌, OnOk, OnErr, true, false};
+ghost use Rattle.std.specs.FinMap as map;
 ghost use Rattle.office_state.specs.Change.{applied, change_allocates};
-ghost use Rattle.office_state.specs.Change.{with_grade, with_home, with_list, without_round};
+ghost use Rattle.office_state.specs.Change.{with_bytes, with_grade, with_home, with_list};
+ghost use Rattle.office_state.specs.Change.{with_name_and_key, without_round};
 ghost use Rattle.office_state.specs.Empty.{is_empty};
 ghost use Rattle.office_state.specs.Office.{knows_person};
 
@@ -15,8 +17,8 @@ use room_types::{
 };
 
 /// Applies a change. These changes do not allocate: `DropPerson`, `PutRound`, `ClearRound`, `PutChoices` of an empty
-/// list, `PutGrade` of grade 0, and `PutHome` of an unknown person. `PutHome` and `DropPerson` of an unknown person
-/// change nothing.
+/// list, `PutGrade` of grade 0, `PutHome` and `PutNameAndKey` of an unknown person, and `PutBytes` of an unknown label.
+/// `PutHome`, `PutNameAndKey` and `DropPerson` of an unknown person, and `PutBytes` of an unknown label, change nothing.
 ///
 /// # Errors
 ///
@@ -39,6 +41,9 @@ pub fn apply(office: &mut Office, change: &Change) -> Result<(), OutOfMemory>
             Ok(())
         }
         Change::PutHome { person, home } => put_home(office, person, home),
+        Change::PutNameAndKey { person, name, key } => {
+            put_name_and_key(office, person, name, key)
+        }
         Change::PutWithdrawn { person } => office.withdrawn.insert(person.copy()?, ()),
         Change::PutChoices { person, choices } => put_choices(office, person, choices),
         Change::PutWord { person, word } => office.words.insert(person.copy()?, *word),
@@ -59,6 +64,7 @@ pub fn apply(office: &mut Office, change: &Change) -> Result<(), OutOfMemory>
             bytes,
             count,
         } => keep_list(office, label, *kind, bytes, *count),
+        Change::PutBytes { label, bytes } => put_bytes(office, label, bytes),
         Change::PutGrade { person, grade } => put_grade(office, person, *grade),
         Change::PutGoing { person } => office.going.insert(person.copy()?, ()),
     }
@@ -106,6 +112,28 @@ fn put_home(
     };
     let moved = kept.copy_with_home(home)?;
     office.people.insert(person.copy()?, moved)
+}
+
+fn put_name_and_key(
+    office: &mut Office,
+    person: &PersonId,
+    name: &Name,
+    key: &Key,
+) -> Result<(), OutOfMemory>
+    ensures ok { OnOk result
+        (office.new ≡ with_name_and_key office.old person.now name.now key.now) }
+    ensures err { OnErr result (office.new ≡ office.old) }
+    ensures memory { OnErr result (knows_person office.old person.now ≡ true) }
+{
+    let Some(kept) = office.people.get(person) else {
+        return Ok(());
+    };
+    let renamed = Person {
+        name: name.copy()?,
+        key: key.copy()?,
+        home: copy_optional(&kept.home)?,
+    };
+    office.people.insert(person.copy()?, renamed)
 }
 
 fn put_choices(office: &mut Office, person: &PersonId, choices: &Choices) -> Result<(), OutOfMemory>
@@ -166,6 +194,22 @@ fn keep_list(
         count,
     };
     office.lists.insert(label.copy()?, kept)
+}
+
+fn put_bytes(office: &mut Office, label: &Label, bytes: &Listing<u8>) -> Result<(), OutOfMemory>
+    ensures ok { OnOk result (office.new ≡ with_bytes office.old label.now bytes.now) }
+    ensures err { OnErr result (office.new ≡ office.old) }
+    ensures memory { OnErr result (map.contains_key office.old.lists label.now ≡ true) }
+{
+    let Some(kept) = office.lists.get(label) else {
+        return Ok(());
+    };
+    let replaced = StoredImport {
+        kind: kept.kind,
+        bytes: bytes.copy()?,
+        count: kept.count,
+    };
+    office.lists.insert(label.copy()?, replaced)
 }
 
 fn clear_round(office: &mut Office)

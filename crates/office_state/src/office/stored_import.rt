@@ -4,11 +4,12 @@ ghost use Rattle.std.specs.Prelude.{◌≡◌, ◌<◌, IfOk, OnErr, length};
 use room_types::{ExactClone, ListKind, Listing};
 use std::alloc::AllocError;
 
-/// A list that was imported under a label. The office stores it to recognize when the same import is repeated.
+/// A list that was imported under a label. The office stores it to recognize when the same import is repeated. `Blank`
+/// replaces its bytes.
 #[derive(Drop)]
 pub struct StoredImport {
     pub kind: ListKind,
-    /// The bytes that were imported.
+    /// The bytes that were imported, or those that have replaced them.
     pub bytes: Listing<u8>,
     /// The number of records that the import added.
     pub count: u16,

@@ -72,9 +72,9 @@ pub fn participant_results()
         with_all map.empty (map.entries (round_results office)) ≡ round_results office }
 {}
 
-/// Two offices have the same round if they have the same rooms, people, lists, withdrawals, words and grades, and the
-/// same people leave the college. So a round's people, rooms, problem and results do not depend on the office's
-/// phase, round number, recorded results, moves and imports.
+/// Two offices have the same round if they have the same rooms, people, homes, lists, withdrawals, words and grades, and
+/// the same people leave the college. So a round's people, rooms, problem and results do not depend on names and keys,
+/// nor on the office's phase, round number, recorded results, moves and imports.
 pub fn same_round()
     ensures { (one other : Office) → HaveSameEntries one other → HaveSameRound one other }
 {}

@@ -31,6 +31,9 @@ drop_person_text = codes "DELETE FROM person WHERE id = ?1"
 abbrev pub set_home_text : List ℕ
 set_home_text = codes "UPDATE person SET home = ?2 WHERE id = ?1"
 
+abbrev pub set_name_and_key_text : List ℕ
+set_name_and_key_text = codes "UPDATE person SET name = ?2, passkey = ?3 WHERE id = ?1"
+
 abbrev pub set_withdrawn_text : List ℕ
 set_withdrawn_text = codes "UPDATE person SET withdrawn = 1 WHERE id = ?1"
 
@@ -94,6 +97,9 @@ add_move_text =
 
 abbrev pub add_list_text : List ℕ
 add_list_text = codes "INSERT INTO list(label, kind, body, added) VALUES (?1, ?2, ?3, ?4)"
+
+abbrev pub set_body_text : List ℕ
+set_body_text = codes "UPDATE list SET body = ?2 WHERE label = ?1"
 
 -- the statement that drops the table at this place
 abbrev pub drop_text : Layout → ℕ → List ℕ

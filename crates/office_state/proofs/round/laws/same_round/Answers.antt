@@ -1,4 +1,4 @@
-use Rattle.office_state.proofs.round_outcomes.Results.{same_entries_same_round}
+use Rattle.office_state.proofs.round_outcomes.Entries.{same_entries_same_round}
 use Rattle.office_state.proofs.round.laws.same_round.Goals as goal
 
 pub returns : goal.returns
