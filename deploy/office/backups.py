@@ -12,7 +12,6 @@ import datetime
 import json
 import re
 import shutil
-import sqlite3
 import tempfile
 import time
 from collections.abc import Callable, Iterator
@@ -209,22 +208,3 @@ def too_old(names: list[str], nights: list[str], days: int) -> set[str]:
     if any(times.made_at(name) < last - DOUBT for name in sorted(nights or names)[-2:]):
         return set()
     return {name for name in names if times.made_at(name) < last}
-
-
-def blank(labels: list[str], file: Path) -> None:
-    """Empties the kept bytes of lists, in a copy of the office.
-
-    The program keeps the bytes of each imported list, to recognise the list: names, keys and homes of people who may
-    have left. This puts the word `blanked` in their place, and writes the copy anew, so that nothing of them is left
-    between its rows. The cost: the program no longer recognises the list. The label stays taken, and the program
-    answers each further import under it `refused 14 ListDiffers`, even one of the imported list. The bytes are not
-    left empty, since the program would then answer an empty list as it answered the imported one.
-    """
-    with contextlib.closing(sqlite3.connect(file)) as database:
-        database.execute("PRAGMA secure_delete = ON")
-        with database:
-            for label in labels:
-                if database.execute("UPDATE list SET body = ? WHERE label = ?", (b"blanked", label)).rowcount != 1:
-                    raise Fault(_("no list has come in under the label {label}", label=repr(label)))
-        database.execute("VACUUM")
-        database.execute("PRAGMA wal_checkpoint(TRUNCATE)")

@@ -18,15 +18,22 @@ def may_have_a_key(words: list[str]) -> bool:
     match words:
         case ["do", *line]:
             line = " ".join(line).split()
-            return shows_a_key(" ".join(line)) or line[:1] in (["person"], ["me"])
+            if line[:1] == ["name"]:
+                return name_may_have_a_key(line[1:])
+            return shows_a_key(" ".join(line)) or line[:1] in (["person"], ["key"], ["me"])
         case ["back", _]:
             return False
-        case ["name", person, *name]:
-            return shows_a_key(person) or name_shows_a_key(" ".join(name))
+        case ["name", *words]:
+            return name_may_have_a_key(words)
         case ["import", kind, label, _]:
             return shows_a_key(f"import {kind} {label}")
         case _:
             return shows_a_key(" ".join(words))
+
+
+def name_may_have_a_key(words: list[str]) -> bool:
+    """The same of an identifier and a name. Long words of letters alone are names."""
+    return shows_a_key(" ".join(words[:1])) or name_shows_a_key(" ".join(words[1:]))
 
 
 def apart(words: list[str]) -> tuple[list[str], list[str]]:

@@ -7,9 +7,10 @@ from typing import Any
 
 from beside_register import BesideRegister
 from branches import Branches
+from correcting import refusal
 from office import Office
 from parting import Parting
-from program import Answer, correct, is_of_earlier_version
+from program import Answer, is_of_earlier_version, is_refused
 from register import people_in
 from rows import keys_in, rows_of
 from seen import Rows
@@ -42,8 +43,10 @@ class GoingBack:
             self.then = rows_of(copy)
             self.found = self.compared(now)
             if stay := self.stay():
-                correct({person: {"key": keys[person]} for person in stay}, copy)
-                answer = program.look(copy)
+                lines = [f"key {person} {keys[person]}" for person in stay]
+                answers = program.tell_all(lines, copy)
+                if is_refused(answers):
+                    raise refusal(lines, answers)
         return [answer]
 
     def compared(self, now: Rows | None) -> dict[str, Any]:

@@ -36,6 +36,8 @@ NOT_KNOWN = N_("not known: the keeper ended before it had noted the answer. Look
 EARLIER = N_("not known: the keeper was ended meanwhile. Look whether the line took effect.")
 OWN_TEXTS = (NOT_NOTED, CUT_OFF, NOT_KNOWN, EARLIER)
 KEY = N_("(key)")  # in the place of what may be a key
+# What stands in the place of all that these lines say of a person behind the identifier.
+HIDDEN = {"person": f"{KEY} (name)", "name": "(name)", "key": KEY}
 # A person's list, in a line or in its answer, and the number of its rooms in its place.
 WISHES = re.compile(r"(choose \S+|chosen)((?: (?!\()\S+)*)")
 COUNTED = re.compile(rb"\(\d+ rooms?\)")
@@ -65,12 +67,12 @@ def without_wishes(line: str) -> str:
 
 
 def masked_line(line: str) -> str:
-    """A line as the journal has it: of a new person the identifier alone, since a name would outlive `remove` here."""
+    """A line as the journal has it: of a person's name and key nothing, since a name would outlive `remove` here."""
     words = line.split()
     if words[:1] == ["draw"]:
         return f"draw ({len(words) - 1} words)"
-    if words[:1] == ["person"]:
-        return masked(" ".join([*words[:2], f"{KEY} (name)"]))
+    if words[:1] and words[0] in HIDDEN:
+        return masked(" ".join([*words[:2], HIDDEN[words[0]]]))
     return masked(without_wishes(" ".join(words)))
 
 

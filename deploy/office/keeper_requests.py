@@ -5,19 +5,17 @@
 | view | | the rows (rows.py); server: whether it runs; status, ended: of those that ended by themselves; until; disk (disk.py) |
 | watch | | faults: what is wrong with the server, the disk and the copies; age: of the newest copy, in seconds |
 | try | lines, again | answers: of a copy, which is thrown away |
-| do | lines, again, seen, saw | answers, done, took, copy; made: how many of the lines are in effect; unkept: faults of figures |
+| do | lines, again, seen, saw | answers, done, took, copy; made: how many of the lines are in effect; unkept: faults of figures, |
+| | | or why something that is to be erased may still be in the file |
 | draw | seed, seen | as `do` |
 | import | kind, label, body, only_try, again, seen, saw | as `do`; known: whether its label was taken; `body` in base 64 |
 | export | kind | answers |
 | figures | | rounds: number, day and tables of each published round (figures_counted.py); damaged: the file, if it is damaged |
 | record | | body: the public record of the round |
 | seeds | | found: the seeds that were noted in this round; drawn: that of the draw; since (all by `Seeds` in seeds.py) |
-| blank | label, seen | blanked: the label |
-| correct | person, name or key or both, seen, saw | corrected: the person; copy |
-| keys | keys: by person, seen, saw | corrected: how many; copy |
+| blank, correct, keys, forget | | correcting.py has these |
 | about | person | lists, moves, copies, journal: what names the person (about.py); mail; language; account: theirs; |
 | | | texts: places that have their name (naming.py), looked, fault; backups: folder, most, days |
-| forget | person, seen, saw | as `do`: the person is removed, and the lists that name them are blanked |
 | note, journal | line; last | nothing; journal: the last entries; whole: whether no entry is too old to be had |
 | blank-journal | | blanked: how many lines of the journal had wishes, or an answer that may have had names |
 | told | | told: what residents read of rooms (told.py); marks: of its parts |
@@ -40,12 +38,12 @@ import importlib
 from collections.abc import Callable
 from pathlib import Path
 
-from about import about, kept_in
+from about import about
 from accounts import Accounts, ClerkRequests
-from backups import blank
 from beside_register import BesideRegister
 from branches import Branches
 from copy_requests import CopyRequests
+from correcting import Corrections
 from dates import Dates
 from disk import short_of_room
 from figures_kept import Before
@@ -57,11 +55,11 @@ from job import Job, again_in, body_of, identifier_in, lines_of, saw_in, seen_in
 from journal import masked, masked_line, masked_note, spoken_of
 from languages import ENGLISH, _, speaking
 from languages_kept import LanguageRequests
-from lines import BY_SEED, gone_by, name_shows_a_key, named, only_reads, verb_of
+from lines import BY_SEED, erases, gone_by, named, only_reads, verb_of
 from mail import Post
 from office import Office
-from program import NOT_UNDERSTOOD, Answer, correct, is_refused
-from register import homes_in, takes_part
+from program import NOT_UNDERSTOOD, Answer, is_refused
+from register import takes_part
 from rows import identifiers_in, rows_of
 from seeds import noted_seeds
 from seen import Rows
@@ -82,12 +80,6 @@ def short_of(lines: list[str]) -> str:
 def has_label(rows: Rows, label: str) -> bool:
     """Whether a list was imported under this label."""
     return any(label == taken for taken, *_ in rows["lists"])
-
-
-def told_of(change: Change) -> Job:
-    """What is answered of a change."""
-    return {"answers": change.answers, "done": not is_refused(change.answers), "made": change.made, "took": change.took,
-            "copy": change.copy}
 
 
 def known_of(rows: Rows) -> Known:
@@ -112,9 +104,9 @@ class Requests:
         self.known: dict[str, Callable[[Job], Job]] = {
             "view": self.view, "watch": lambda _job: watch(self.office, self.worker), "try": self.try_out,
             "do": self.do_lines, "draw": self.draw, "import": self.bring_in, "export": self.export,
-            "record": self.record, "seeds": self.seeds, "blank": self.blank, "note": self.note,
-            "journal": self.show_journal, "blank-journal": self.blank_journal, "correct": self.correct,
-            "keys": self.new_keys, "forget": self.forget, "about": self.about,
+            "record": self.record, "seeds": self.seeds, "note": self.note, "journal": self.show_journal,
+            "blank-journal": self.blank_journal, "about": self.about,
+            **Corrections(office, worker, self.beside).requests(),
             **CopyRequests(office, worker, self.dates, self.beside).requests(),
             **office.told.requests(), "set-until": self.dates.set,
             **self.post.requests(),
@@ -207,7 +199,6 @@ class Requests:
             return {"answers": answers, "done": not is_refused(answers)}
         kind = "lines" if len(lines) > 1 else verb_of(lines[0])
         before, removed = Before(self.copies.file), named(lines, "remove")
-        reply: Job = {}
 
         def look(line: str, file: Path) -> None:
             before.look(line, file)
@@ -216,21 +207,21 @@ class Requests:
 
         change = self.change_of(job, (short_of(lines), spoken_of(lines)), kind,
                                 lambda file: self.told(job, lines, file, look))
-        change.lines, change.come, change.gone = lines, named(lines, "person"), gone_by(lines)
+        change.lines, change.come, change.gone, change.erases = lines, named(lines, "person"), gone_by(lines), erases(lines)
         try:
             self.worker.change(change)
         finally:  # what stands is followed, whatever has become of the lines after it
             if stands := lines[:change.made]:
-                self.follow(stands, before, reply)
+                self.follow(stands, before, change)
                 self.beside.let_go(gone_by(stands))
-        return {**told_of(change), **reply}
+        return change.told()
 
-    def follow(self, lines: list[str], before: Before, reply: Job) -> None:
-        """Brings figures and receipts up to lines that were carried out."""
+    def follow(self, lines: list[str], before: Before, change: Change) -> None:
+        """Brings figures and receipts up to lines that a change has carried out."""
         if "open" in map(verb_of, lines):
             self.post.opened()
-        if unkept := self.office.figures.follow(lines, before, self.worker.view.rows):
-            reply["unkept"] = unkept
+        unkept = self.office.figures.follow(lines, before, self.worker.view.rows)
+        change.left = " ".join(filter(None, (change.left, unkept)))
 
     def draw(self, job: Job) -> Job:
         """The draw by a seed."""
@@ -238,7 +229,7 @@ class Requests:
         line = " ".join(["draw", *self.program.words(seed, count)])
         spoken = f"{BY_SEED} {seed} --count {count})"
         change = self.change_of(job, ("draw", spoken), "draw", lambda file: [self.program.tell(line, file)])
-        return told_of(self.worker.change(change))
+        return self.worker.change(change).told()
 
     def bring_in(self, job: Job) -> Job:
         """A list. With `only_try` it is tried alone, and so is one under a label that is taken: it changes nothing."""
@@ -259,80 +250,13 @@ class Requests:
                 return {**only(answer), "known": known}
         change = self.change_of(job, (short, f"{short} ({len(body)} bytes)"), "import", carry_out)
         change.come = come
-        return told_of(self.worker.change(change))
+        return self.worker.change(change).told()
 
-    def change_of(self, job: Job, names: tuple[str, str], kind: str, carry_out: CarryOut, whole: bool = False) -> Change:
+    def change_of(self, job: Job, names: tuple[str, str], kind: str, carry_out: CarryOut) -> Change:
         """A change for the worker. The names are those of the copy before it and in the journal."""
         short, spoken = names
-        return Change(job["who"], spoken, carry_out, whole=whole, kind=kind, before=short, seen=seen_in(job), saw=saw_in(job),
+        return Change(job["who"], spoken, carry_out, kind=kind, before=short, seen=seen_in(job), saw=saw_in(job),
                       register=self.beside.prepare)
-
-    # --- what is kept of people
-
-    def blank(self, job: Job) -> Job:
-        """Empties the kept bytes of a list (`blank` in backups.py says what it costs). Kept copies still have them."""
-        label = text(job, "label")
-
-        def carry_out(copy: Path) -> list[Answer]:
-            blank([label], copy)
-            return [self.program.look(copy)]
-        spoken = masked(f"blank {label}")
-        change = self.worker.change(Change(job["who"], spoken, carry_out, whole=True, seen=seen_in(job)))
-        if is_refused(change.answers):
-            said = change.answers[-1].text.strip()
-            raise Fault(_("the program does not take the office afterwards ({said}). Nothing was changed.", said=said))
-        return {"blanked": label}
-
-    def forget(self, job: Job) -> Job:
-        """Removes a person, and blanks each kept list that names them: all of it, or nothing."""
-        person = identifier_in(job)
-
-        def carry_out(copy: Path) -> list[Answer]:
-            homes = homes_in(rows_of(copy))
-            lines = [f"leave {person}"] if homes.get(person) else []
-            lines += [f"remove {person}"] if person in homes else []
-            answers = self.program.tell_all(lines, copy) if lines else []
-            if lines and is_refused(answers):
-                return answers
-            blank(sorted({record[0] for record in kept_in(copy, person)["lists"]}), copy)
-            return [*answers, self.program.look(copy)]
-        line = f"forget {person}"
-        reply = told_of(self.worker.change(self.change_of(job, (line, line), "forget", carry_out, whole=True)))
-        if reply["done"]:
-            self.beside.let_go([person])  # who may be out of the register already
-        return reply
-
-    def correct(self, job: Job) -> Job:
-        """Another name or key for a person (`correct` in program.py). The journal has neither."""
-        person = text(job, "person")
-        values = {name: text(job, name) for name in ("name", "key") if name in job}
-        if not values:
-            raise Fault("not understood: neither name nor key")
-        if name_shows_a_key(values.get("name", "")):
-            raise Fault(_("the name has a word that may be a key. Nothing was changed."))
-        spoken = masked(f"correct {person}: {' and '.join(values)}")
-        return {"corrected": person, "copy": self.correct_all(job, {person: values}, spoken, spoken)}
-
-    def new_keys(self, job: Job) -> Job:
-        """Other keys for many people, all or none, after one copy of the office. The journal has the people alone."""
-        keys = job["keys"]
-        if not isinstance(keys, dict) or not keys or not all(isinstance(key, str) for key in keys.values()):
-            raise Fault("not understood: keys are no texts by person")
-        short = f"new keys ({len(keys)})"
-        copy = self.correct_all(job, {person: {"key": key} for person, key in keys.items()},
-                                masked(f"{short}: {' '.join(keys)}"), short)
-        return {"corrected": len(keys), "copy": copy}
-
-    def correct_all(self, job: Job, people: dict[str, dict[str, str]], spoken: str, short: str) -> str | None:
-        """Corrects people. `spoken` is what the journal says, `short` the copy that is kept before. Gives its name."""
-        def carry_out(copy: Path) -> list[Answer]:
-            correct(people, copy)
-            return [self.program.look(copy)]
-        change = self.worker.change(self.change_of(job, (short, spoken), "correct", carry_out, whole=True))
-        if is_refused(change.answers):
-            said = change.answers[-1].text.strip()
-            raise Fault(_("the program does not take this name or key ({said}). Nothing was changed.", said=said))
-        return change.copy
 
     # --- the journal
 

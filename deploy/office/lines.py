@@ -22,7 +22,8 @@ NOT_TAKEN = (REFUSED, NOT_UNDERSTOOD)
 # What only reads is asked of a copy. Every other line may change the office.
 READS = frozenset({"rooms", "people", "round", "order", "results", "moves", "whatif", "me"})
 
-# Lines that no other line takes back, with the reason. `choose` is one if it replaces a list (`reason_to_copy`).
+# Lines that no other line takes back, with the reason. `choose` is one if it replaces a list (`reason_to_copy`). Before `blank`
+# nothing is copied, unless it comes with other lines: a copy would keep what it erases.
 LASTING = {
     "close": "the round does not become open again",
     "cancel": "all lists and withdrawals are forgotten",
@@ -35,6 +36,8 @@ LASTING = {
     "going": "that somebody leaves the college cannot be undone within the round",
     "leave": "the office forgets where the person lived",
     "remove": "the person's key is nowhere else",
+    "name": "the name that it replaces is nowhere else",
+    "key": "the key that it replaces is nowhere else",
 }
 # The steps of a round.
 STEPS = frozenset({"open", "close", "cancel", "draw", "run", "publish", "settle"})
@@ -55,6 +58,11 @@ def verb_of(line: str) -> str:
 def only_reads(lines: list[str]) -> bool:
     """Whether none of these lines can change the office."""
     return all(verb_of(line) in READS for line in lines)
+
+
+def erases(lines: list[str]) -> bool:
+    """Whether nothing of what these lines overwrite may stay in the office's file."""
+    return "blank" in map(verb_of, lines)
 
 
 def named(lines: list[str], verb: str) -> set[str]:
@@ -88,7 +96,7 @@ def name_shows_a_key(name: str) -> bool:
 
 def reason_to_copy(lines: list[str], choices: dict[str, Any]) -> str:
     """Why the office is copied before these lines, or nothing. `choices` has the lists that people have handed in."""
-    if len(lines) > 1:
+    if len(lines) > 1 and any(verb_of(line) != "blank" for line in lines):
         return MANY
     words = lines[0].split() if lines else []
     if words[:1] == ["choose"] and len(words) > 1 and words[1] in choices:

@@ -4,7 +4,6 @@ Every account of the machine can read the command lines of all processes. So lin
 (line_run.py), and no word that may be a key is a word of a command line, but for the seed of a draw.
 """
 
-import contextlib
 import os
 import sqlite3
 import subprocess
@@ -31,6 +30,7 @@ class Answer(NamedTuple):
     status: int
 
 
+NAME_BEGINS = {"person": 3, "name": 2}  # with which word, counted from 0, the name of a person begins in a line
 NOT_UNDERSTOOD = Answer("not understood\n", 2)
 EARLIER = ("refused 22 OtherVersion 1", "refused 22 OtherVersion 2")  # of files that it can migrate
 
@@ -65,32 +65,13 @@ def bound(*words: str) -> list[str]:
 
 
 def is_taken(line: str) -> bool:
-    """Whether the program may get a line: it is one line of UTF-8, and no new person's name may be a key."""
+    """Whether the program may get a line: it is one line of UTF-8, and no name in it may be a key."""
     try:
         line.encode("utf-8", "surrogateescape")
     except UnicodeEncodeError:
         return False
-    return "\n" not in line and not (verb_of(line) == "person" and name_shows_a_key(" ".join(line.split()[3:])))
-
-
-def correct(people: dict[str, dict[str, str]], copy: Path) -> None:
-    """Gives people another `name`, or another `key`, or both, in a copy, in any phase of a round: all of them, or none.
-
-    The program has no line for it. The laws of the rows say of a name and a key what form they have, and that no two
-    people have one key. So the program has to take the copy as an office afterwards.
-    """
-    with contextlib.ExitStack() as ending:
-        database = ending.enter_context(contextlib.closing(sqlite3.connect(copy)))
-        ending.enter_context(database)
-        for person, values in people.items():
-            try:
-                changed = database.execute(
-                    "UPDATE person SET name = coalesce(?, name), passkey = coalesce(?, passkey) WHERE id = ?",
-                    (values.get("name"), values.get("key"), person))
-            except sqlite3.IntegrityError as fault:
-                raise Fault(_("another person has this key. Nothing was changed.")) from fault
-            if changed.rowcount != 1:
-                raise Fault(_("nobody has the identifier {person}. Nothing was changed.", person=repr(person)))
+    begins = NAME_BEGINS.get(verb_of(line))
+    return "\n" not in line and not (begins and name_shows_a_key(" ".join(line.split()[begins:])))
 
 
 class Program:

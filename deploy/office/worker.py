@@ -17,6 +17,7 @@ from pathlib import Path
 from typing import Any
 
 import times
+from anew import Anew
 from backups import BACK
 from copies import make_whole
 from journal import spoken_of
@@ -25,7 +26,7 @@ from lines import NOT_TAKEN, reason_to_copy
 from office import Office
 from program import Answer, Unanswered, is_refused
 from register import people_in
-from rows import View, identifiers_in
+from rows import View
 from seen import Rows, Saw, why_stale
 from settings import Fault
 
@@ -44,15 +45,17 @@ class Change:  # pylint: disable=too-many-instance-attributes  # what is asked f
     who: str
     line: str                                   # as the journal has it
     carry_out: CarryOut                         # on a copy, or on the office's file
-    whole: bool = False                         # on a copy, which then replaces the file: all takes effect or nothing
+    whole: bool = False                         # on a copy, which then replaces the file: a way back
     kind: str = ""                              # the kind of the copy that is kept before, or none; lines may need none
     before: str = ""                            # what the reason of this copy says that it was kept before
     damaged: bool = False                       # even if the office is damaged
     register: Register | None = None            # learns who comes into the register and who leaves, before they do
+    erases: bool = False                        # nothing of what it overwrites may stay in the office's file
     before_put: Callable[[], None] | None = None  # done just before the copy takes the office's place, when nothing is in the way
     lines: list[str] = field(default_factory=list)  # that it carries out one after the other
-    come: set[str] = field(default_factory=set)  # who comes into the register by it, if it is not whole; some may be there
-    gone: set[str] = field(default_factory=set)  # who is out of the register after it, if it is not whole
+    speak: Callable[[list[str]], str] = field(default=spoken_of)  # some of these lines, as the journal has them
+    come: set[str] = field(default_factory=set)  # who comes into the register by it; some may be there
+    gone: set[str] = field(default_factory=set)  # who is out of the register after it
     seen: str | None = None                     # the state in which its sender saw the round
     saw: Saw | None = None                      # what its sender saw of people
     why_not: Callable[[], str] | None = None    # why it is not made although all this is as it was, or nothing
@@ -60,6 +63,7 @@ class Change:  # pylint: disable=too-many-instance-attributes  # what is asked f
     copy: str | None = None                     # the name of the copy that was kept before
     answers: list[Answer] = field(default_factory=list)
     made: int = 0                               # how many of its lines are in effect
+    left: str = ""                              # what of it is left to be done, and why; nothing if all is done
     took: int = 0                               # milliseconds
     fault: str = ""
     wanted: threading.Lock = field(default_factory=threading.Lock)  # taken to make the change, or to give it up
@@ -69,6 +73,16 @@ class Change:  # pylint: disable=too-many-instance-attributes  # what is asked f
     def why(self) -> str:
         """Why the copy is kept. The office's page reads it (reasons.py)."""
         return f"before {self.before}, by {self.who}"
+
+    @property
+    def unkept(self) -> dict[str, str]:
+        """What of it is left to be done, for its sender; nothing if all is done."""
+        return {"unkept": self.left} if self.left else {}
+
+    def told(self) -> dict[str, Any]:
+        """What its sender is told."""
+        return {"answers": self.answers, "done": not is_refused(self.answers), "made": self.made, "took": self.took,
+                "copy": self.copy, **self.unkept}
 
     def end(self, fault: str) -> None:
         """Ends a change that is not made."""
@@ -119,6 +133,7 @@ class Worker:  # pylint: disable=too-many-instance-attributes  # the parts of th
         self.due: float | None = None        # when the server is to be started again
         self.pause, self.over = FIRST_PAUSE, False
         self.back = office.backups.before_back()  # by its name the last way back is known
+        self.anew = Anew(office)
 
     # --- asked by other threads
 
@@ -156,6 +171,8 @@ class Worker:  # pylint: disable=too-many-instance-attributes  # the parts of th
 
     def keep(self) -> None:
         """Keeps the server running, and carries out changes, until the worker is ended."""
+        if why := self.anew.finish():
+            print(why, flush=True)
         self.start()
         while not self.over:
             item = self.next_work()
@@ -237,7 +254,7 @@ class Worker:  # pylint: disable=too-many-instance-attributes  # the parts of th
                 else:
                     self.prepare(change)
                     holding.close()
-                    change.answers = change.carry_out(self.copies.file)
+                    change.answers = self.in_place(change)
             except (Fault, OSError, sqlite3.Error) as fault:
                 change.answers = fault.answers if isinstance(fault, Unanswered) else []
                 self.note_end(change, number, began, Answer(f"fault: {in_english(fault)}", 3),
@@ -251,10 +268,21 @@ class Worker:  # pylint: disable=too-many-instance-attributes  # the parts of th
         return bool(change.kind) and (not change.lines or bool(reason_to_copy(change.lines, lists)))
 
     def prepare(self, change: Change) -> None:
-        """Has what is beside the register follow a change of it that is carried out in place."""
+        """Notes who comes and who goes by a change, for what is beside the register, and that the file is to be written anew."""
         if change.register and (change.come or change.gone):
             now = people_in(self.view.rows(still=True))
             change.register(change.come - now, change.gone & now)
+        if change.erases:
+            self.anew.begin()
+
+    def in_place(self, change: Change) -> list[Answer]:
+        """Carries out a change in the office's file. What it has overwritten goes out of the file afterwards, also if the program
+        did not come to the end."""
+        try:
+            return change.carry_out(self.copies.file)
+        finally:
+            if change.erases:
+                change.left = self.anew.finish()
 
     def note_end(self, change: Change, number: str, began: float, last: Answer, known: bool = True) -> None:
         """Notes in the journal how a change ended. Of several lines that were not all carried out it has those that were as
@@ -263,9 +291,9 @@ class Worker:  # pylint: disable=too-many-instance-attributes  # the parts of th
         change.made = 0 if change.whole else sum(answer.status == 0 for answer in change.answers)
         other = {}
         if known and len(change.lines) > 1 and last.status != 0:
-            other = {"who": change.who, "line": spoken_of(change.lines[change.made:change.made + 1])}
+            other = {"who": change.who, "line": change.speak(change.lines[change.made:change.made + 1])}
             if change.made:
-                stands = spoken_of(change.lines[:change.made])
+                stands = change.speak(change.lines[:change.made])
                 self.journal.end(number, change.answers[change.made - 1].text, 0, change.took, line=stands)
                 number = self.journal.number()
         self.journal.end(number, last.text, last.status, change.took, **other)
@@ -273,16 +301,12 @@ class Worker:  # pylint: disable=too-many-instance-attributes  # the parts of th
     def replaced(self, change: Change, held: int) -> list[Answer]:
         """Carries out a change on a copy, which then takes the office's place, if the program takes it as an office."""
         with self.copies.copied(still=True) as copy:
-            before = identifiers_in(copy) if change.register else set()
             answers = change.carry_out(copy)
             if is_refused(answers):
                 return answers
             looked = self.program.look(copy)
             if looked.status != 0 or not make_whole(copy):
                 raise Fault(_("the office that comes of this is none ({said}). Nothing was changed.", said=looked.text.strip()))
-            if change.register:
-                after = identifiers_in(copy)
-                change.register(after - before, before - after)
             self.place.put(copy, held, change.before_put)
             return answers
 

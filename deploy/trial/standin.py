@@ -66,6 +66,32 @@ def add_person(database, person, key, *name):
     return "ok"
 
 
+def set_name(database, person, *name):
+    """`name ID NAME..`."""
+    if not name:
+        raise TypeError
+    if not database.execute("UPDATE person SET name = ? WHERE id = ?", (" ".join(name), person)).rowcount:
+        raise Refused("2 UnknownPerson")
+    return "ok"
+
+
+def set_key(database, person, key):
+    """`key ID KEY`."""
+    if not one_of(database, "SELECT 1 FROM person WHERE id = ?", person):
+        raise Refused("2 UnknownPerson")
+    if one_of(database, "SELECT 1 FROM person WHERE passkey = ? AND id <> ?", key, person):
+        raise Refused("6 KeyInUse")
+    database.execute("UPDATE person SET passkey = ? WHERE id = ?", (key, person))
+    return "ok"
+
+
+def blank(database, label):
+    """`blank LABEL`."""
+    if not database.execute("UPDATE list SET body = CAST('blanked' AS BLOB) WHERE label = ?", (label,)).rowcount:
+        raise Refused("25 UnknownLabel")
+    return "ok"
+
+
 def leave(database, person):
     """`leave ID`."""
     if not one_of(database, "SELECT home FROM person WHERE id = ?", person):
@@ -118,6 +144,9 @@ def table(query):
 LINES = {
     "room": add_room,
     "person": add_person,
+    "name": set_name,
+    "key": set_key,
+    "blank": blank,
     "leave": leave,
     "choose": choose,
     "me": me_of,

@@ -11,7 +11,7 @@ from naming import CONTACT, DESCRIPTION, MAIL, NOTICE, PICTURE
 import explaining
 import plain
 import reasons
-from app import app, ask, drawn_order, field, go_to, office_now, saw, show, tell, tell_fault, text_of
+from app import app, ask, drawn_order, field, go_to, office_now, saw, show, tell, tell_fault, tell_unkept, text_of
 from columns import kind_name
 from keeper_client import KeeperFault, answers_of
 from kept_beside import erased
@@ -176,8 +176,10 @@ def forget(ident: str) -> None:
     except KeeperFault as fault:
         tell_fault(fault)
         go_to(place)
+    why = plain.meaning(answers_of(reply)[-1].text)
     if reply["done"]:
         tell("good", _("{person} is forgotten, as far as this can be done at once. This page says what is left.", person=ident))
     else:
-        tell("bad", _("Nothing was changed. {why}", why=plain.meaning(answers_of(reply)[-1].text)))
+        tell("bad", plain.done_in_part(why) if reply["made"] else _("Nothing was changed. {why}", why=why))
+    tell_unkept(reply)
     go_to(place)

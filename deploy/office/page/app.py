@@ -246,15 +246,19 @@ def change(question: str, **fields: Any) -> bool:
         # If the file, the disk or the memory failed, the change may have been made: then `meaning` says to look.
         why = plain.meaning(last.text)
         if reply.get("made"):
-            tell("bad", _("Only a part of this was carried out, since the office was changed meanwhile. Then it was refused: "
-                          "{why} Look before you go on.", why=why))
+            tell("bad", plain.done_in_part(why))
         else:
             tell("bad", str(why) if last.status == UNAVAILABLE else _("Nothing was changed. {why}", why=why))
         return False
     tell("good", plain.done(last.text))
-    if reply.get("unkept"):
-        tell("bad", reply["unkept"])
+    tell_unkept(reply)
     return True
+
+
+def tell_unkept(reply: dict[str, Any]) -> None:
+    """Tells the clerk what is left to be done of something that the keeper has done."""
+    if reply.get("unkept"):
+        tell("bad", plain.begun(reply["unkept"]))
 
 
 # --- a form that is sent twice

@@ -16,11 +16,11 @@ import list_slips
 import mail_lists
 import plain
 import understanding
-from app import (app, ask, attempt, change, clerk, field, go_to, list_sent, memory, office_now, show, tell, text_of, ticked,
-                 why_not_read)
+from app import (app, ask, attempt, change, clerk, field, go_to, list_sent, memory, office_now, show, tell, tell_fault,
+                 tell_unkept, text_of, ticked, why_not_read)
 from columns import kind_name
 from csv_list import CsvList
-from keeper_client import Answer, WasAnothers, answers_of
+from keeper_client import Answer, KeeperFault, WasAnothers, answers_of
 from known_people import Beside
 from many_pages import KEYS, MOST_AT_ONCE, acts_for
 from list_faults import Findings
@@ -378,6 +378,11 @@ def ask_blank(label: str) -> str:
 @app.post("/office/blank/<label>")
 def blank(label: str) -> None:
     """Deletes the bytes of a kept list."""
-    ask("blank", label=label, seen=field("seen"))
+    try:
+        reply = ask("blank", label=label, seen=field("seen"))
+    except KeeperFault as fault:
+        tell_fault(fault)
+        go_to("/office/lists")
     tell("good", _("The list {label} is blank.", label=label))
+    tell_unkept(reply)
     go_to("/office/lists")

@@ -4,13 +4,13 @@ import re
 import secrets
 from typing import Any, NamedTuple, NoReturn
 
-from journal import KEY, masked
+from journal import KEY, masked, masked_line
 from languages import N_, _, ngettext
 from seen import Saw
 
 import plain
 from app import app, ask, attempt, clerk, field, go_to, memory, office_now, show, tell, text_of, ticked
-from keeper_client import KeeperFault, answers_of
+from keeper_client import Answer, KeeperFault, answers_of
 from office_view import Office
 from questions import must_be_sure
 from slips import show_once
@@ -135,9 +135,9 @@ def look_at_many() -> str:
     if not faults:
         marks = {one: office.saw("all", one).mark for one in idents} if unlisted else None
         job = Many(act, idents, bundle_of(office, act, idents), marks)
-        last = attempt(*job.bundle.lines)[-1] if job.bundle.lines else None
-        if last and last.status:
-            faults, job = [str(plain.meaning(last.text))], None
+        answers = attempt(*job.bundle.lines) if job.bundle.lines else []
+        if answers and answers[-1].status:
+            faults, job = [refused_at(job.bundle.lines[len(answers) - 1], answers[-1])], None
     return show_many(office, acts, text, faults[:20], job, act, unlisted)
 
 
@@ -173,10 +173,10 @@ def do_many() -> None:
     job = without_listed(job) if job.marks else job
     if job.act == KEYS:
         make_keys(job)
-    came = carry_out(job.bundle) if job.bundle.lines else Came(len(job.idents), "")
+    came = carry_out(job.bundle) if job.bundle.lines else Came(len(job.idents), 0, "")
     if came.fault:
         tell("bad", ended_after(came, len(job.idents)))
-        go_to("/office/register" if came.people else sent_again(job))
+        go_to("/office/register" if came.lines else sent_again(job))
     tell("good", ngettext("Done for one person.", "Done for {count} people.", len(job.idents)))
     go_to("/office/register")
 
@@ -200,20 +200,28 @@ def sent_again(job: Many) -> str:
 
 
 def make_keys(job: Many) -> None:
-    """Makes all the new keys in one step, and leads to their slips, or to the form with the same people if none were made."""
+    """Makes the new keys in one step, and leads to the slips of those who got one, and to the form with the others."""
     office, keys = office_now(), {ident: secrets.token_hex(16) for ident in job.idents}
     try:
-        ask("keys", keys=keys, seen=field("seen"), saw=job.bundle.saw)
+        reply = ask("keys", keys=keys, seen=field("seen"), saw=job.bundle.saw)
     except KeeperFault as fault:
         tell("bad", _("This could not be done. {fault}", fault=plain.begun(str(fault))))
         go_to(sent_again(job))
-    show_once([(ident, office.people[ident].name, key) for ident, key in keys.items()], "/office/register")
+    made, onward = job.idents[:reply["corrected"]], "/office/register"
+    if "refused" in reply:
+        line, why = reply["refused"]
+        onward = sent_again(job._replace(idents=job.idents[len(made):]))
+        tell("bad", _("New keys were made for the first {people} of {count} people, who have slips here. The line {line} was not "
+                      "carried out: {why} The form behind the slips has the others.", people=len(made), count=len(job.idents),
+                      line=line, why=plain.begun(why)))
+    show_once([(ident, office.people[ident].name, keys[ident]) for ident in made], onward)
 
 
 class Came(NamedTuple):
-    """How many of the people a bundle was carried out for, and what ended it, or nothing."""
+    """For how many people a bundle was carried out, how many of its lines were, and what ended it, or nothing."""
 
     people: int
+    lines: int
     fault: str
 
 
@@ -222,14 +230,20 @@ def carry_out(bundle: Bundle) -> Came:
     try:
         reply = ask("do", lines=bundle.lines, seen=field("seen"), saw=bundle.saw)
     except KeeperFault as fault:
-        return Came(0, str(fault))
-    made, left = ({line.split()[1] for line in part} for part in (bundle.lines[:reply["made"]], bundle.lines[reply["made"]:]))
-    return Came(len(made - left), "" if reply["done"] else str(plain.meaning(answers_of(reply)[-1].text)))
+        return Came(0, 0, str(fault))
+    answers, count = answers_of(reply), reply["made"]
+    made, left = ({line.split()[1] for line in part} for part in (bundle.lines[:count], bundle.lines[count:]))
+    return Came(len(made - left), count, "" if reply["done"] else refused_at(bundle.lines[len(answers) - 1], answers[-1]))
+
+
+def refused_at(line: str, answer: Answer) -> str:
+    """What the clerk reads of a line of many that was refused."""
+    return _("The line {line} is refused: {why}", line=masked_line(line), why=plain.meaning(answer.text))
 
 
 def ended_after(came: Came, count: int) -> str:
     """What the clerk reads of a bundle that was not carried out for all."""
-    if not came.people:
+    if not came.lines:
         return _("This could not be done. {why}", why=plain.begun(came.fault))
-    return _("This was done for the first {people} of {count} people. Then the office refused it, since it was changed "
-             "meanwhile: {fault} Look how far it came before you go on.", people=came.people, count=count, fault=came.fault)
+    return _("This was done for the first {people} of {count} people. The office was changed meanwhile, and does not take the rest. "
+             "{fault} Look how far it came before you go on.", people=came.people, count=count, fault=came.fault)

@@ -200,6 +200,7 @@ REFUSALS = {
     22: Meaning(N_("The office's file has another version than the program, as after an upgrade."),
                 N_("Call the administrator, who brings the file to the version of the program.")),
     24: Meaning(N_("This person leaves the college at the end of the round."), N_("Take the line out of the list.")),
+    25: Meaning(N_("No list has come in under this label."), N_("The page Lists in has the labels.")),
 }
 
 TOO_LONG = N_("This list is longer than 262,144 bytes. Nothing came in. Split it in two, with a label each.")
@@ -296,6 +297,12 @@ def done(text: str) -> str:
         "published": N_("The results of {number} participants are published."),
     }
     return _(texts[words[0]], number=number) if words[0] in texts else text.strip()
+
+
+def done_in_part(why: Meaning) -> str:
+    """What a clerk reads of several lines of which the office has carried out the first ones, and why not the next one."""
+    return _("Only a part of this was carried out, since the office was changed meanwhile. Then it was refused: {why} Look before "
+             "you go on.", why=why)
 
 
 def meaning(text: str) -> Meaning:

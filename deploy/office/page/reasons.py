@@ -15,17 +15,17 @@ LINES = {
     "home": N_("{what} moved in"), "leave": N_("{what} left a room"), "remove": N_("{what} removed"),
     "grade": N_("grade of {what} set"), "choose": N_("list of {what} put on record"), "withdraw": N_("{what} withdrawn"),
     "going": N_("{what} noted as leaving the college"), "forget": N_("{what} forgotten"),
-    "back": N_("way back to the copy of {what}"),
+    "back": N_("way back to the copy of {what}"), "name": N_("name of {what} corrected"), "key": N_("new key for {what}"),
 }
 # What several lines of one verb did.
 MANY = {
     "room": N_("rooms added"), "reopen": N_("rooms brought back"), "shut": N_("rooms taken out of use"),
     "person": N_("people added"), "home": N_("people moved in"), "leave": N_("people left their rooms"),
     "remove": N_("people removed"), "grade": N_("grades set"), "choose": N_("lists put on record"),
-    "withdraw": N_("people withdrawn"), "going": N_("people noted as leaving the college"),
+    "withdraw": N_("people withdrawn"), "going": N_("people noted as leaving the college"), "name": N_("names corrected"),
+    "key": N_("new keys"), "blank": N_("lists blanked"),
 }
-CORRECTED = {"name": N_("name of {what} corrected"), "key": N_("new key for {what}"),
-             "name and key": N_("name and key of {what} corrected")}
+CORRECTED = {"name": LINES["name"], "key": LINES["key"], "name and key": N_("name and key of {what} corrected")}
 ASKED_FOR = re.compile(r"asked for by (.*)")
 BEFORE = re.compile(r"before (.*), by ([^,]*)")
 RESTORED = re.compile(r"before rooms-restore (.*)")

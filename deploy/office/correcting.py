@@ -1,0 +1,180 @@
+"""What can be asked of the keeper to correct what is on record of people, and to erase it: names, keys, and the bytes of lists.
+
+| ask | fields | answer |
+|---|---|---|
+| blank | label, seen | blanked: the label; unkept: why something of the list may still be in the file |
+| correct | person, name or key or both, seen, saw | corrected: the person; copy |
+| keys | keys: by person, seen, saw | corrected: for how many of them, in their order; copy; refused: the next line, without its |
+| | | key, and why it was not carried out |
+| forget | person, seen, saw | as `do`: the person is removed, and the lists that name them are blanked |
+
+For all of this the program has lines. A copy of the office is the first to answer them, and then the office, as it is with other
+lines: what is answered stands. A blanked list keeps its label, and has seven bytes. The program answers each further import under
+the label `refused 14 ListDiffers`, even one of the list that came in under it.
+"""
+
+import contextlib
+from collections.abc import Callable
+from pathlib import Path
+
+from about import kept_in
+from beside_register import BesideRegister
+from job import Job, identifier_in, saw_in, seen_in, text
+from journal import masked, masked_line
+from languages import _
+from lines import IDENTIFIER, LABEL, UNAVAILABLE, gone_by, name_shows_a_key
+from office import Office
+from program import NOT_UNDERSTOOD, Answer, is_refused
+from register import homes_in
+from rows import rows_of
+from settings import Fault
+from worker import Change, Worker
+
+# The parts of a correction in the order in which they are made. A key may be another person's by now; the program refuses a name
+# of nobody alone.
+PARTS = ("key", "name")
+
+
+def why_refused(line: str, answer: Answer) -> str:
+    """Why the program has not carried out a line `name`, `key` or `blank`, as a clerk reads it."""
+    verb, what = line.split(" ")[:2]
+    said, number = "; ".join(answer.text.splitlines()), answer.text.split()[1:2]
+    if answer.status == UNAVAILABLE:
+        return _("the disk or the memory did not serve ({why}). Look whether this took effect.", why=said)
+    if verb == "blank":
+        return _("no list has come in under the label {label}.", label=repr(what))
+    if number == ["2"]:
+        return _("nobody has the identifier {person}.", person=repr(what))
+    if number == ["6"]:
+        return _("another person has this key.")
+    return _("the program does not take this name or key ({said}).", said=said)
+
+
+def unchanged(why: str) -> Fault:
+    """The fault of something that was not done at all."""
+    return Fault(_("{why} Nothing was changed.", why=why))
+
+
+def refusal(lines: list[str], answers: list[Answer]) -> Fault:
+    """The fault of lines of which the program has not carried out the first one, or of which a copy did not take the last one that
+    it has answered."""
+    why = why_refused(lines[len(answers) - 1], answers[-1])
+    return Fault(why) if answers[-1].status == UNAVAILABLE else unchanged(why)
+
+
+def lines_for(person: str, values: dict[str, str]) -> list[str]:
+    """The lines that correct a person. The program would take away spaces that are too many, and so another value than it gets."""
+    lines = [f"{part} {person} {values[part]}" for part in PARTS if part in values]
+    if not IDENTIFIER.fullmatch(person):
+        raise unchanged(_("nobody has the identifier {person}.", person=repr(person)))
+    for line in lines:
+        if not all(line.split(" ")) or line.endswith("\r"):
+            raise unchanged(why_refused(line, NOT_UNDERSTOOD))
+    return lines
+
+
+class Corrections:
+    """Corrects and erases."""
+
+    def __init__(self, office: Office, worker: Worker, beside: BesideRegister) -> None:
+        self.program, self.copies, self.worker, self.beside = office.program, office.copies, worker, beside
+
+    def requests(self) -> dict[str, Callable[[Job], Job]]:
+        """What can be asked."""
+        return {"blank": self.blank, "correct": self.correct, "keys": self.new_keys, "forget": self.forget}
+
+    def blank(self, job: Job) -> Job:
+        """Blanks a list. No copy is kept before: it would keep what is to be erased, as older ones do."""
+        label = text(job, "label")
+        lines = [f"blank {label}"]
+        if not LABEL.fullmatch(label):
+            raise unchanged(_("no list has come in under the label {label}.", label=repr(label)))
+        change = self.worker.change(Change(job["who"], masked(lines[0]), lambda file: self.program.tell_all(lines, file),
+                                           lines=lines, erases=True, seen=seen_in(job)))
+        if is_refused(change.answers):
+            raise refusal(lines, change.answers)
+        return {"blanked": label, **change.unkept}
+
+    def correct(self, job: Job) -> Job:
+        """Gives a person another name or key. The journal has neither."""
+        person = text(job, "person")
+        values = {name: text(job, name) for name in ("name", "key") if name in job}
+        if not values:
+            raise Fault("not understood: neither name nor key")
+        if name_shows_a_key(values.get("name", "")):
+            raise Fault(_("the name has a word that may be a key. Nothing was changed."))
+        spoken = masked(f"correct {person}: {' and '.join(values)}")
+        lines = lines_for(person, values)
+        change = self.worker.change(self.correction(job, lines, spoken, spoken))
+        if is_refused(change.answers) and change.made:
+            raise Fault(_("{why} The new key works, and the name is as it was.",
+                          why=why_refused(lines[change.made], change.answers[-1])))
+        if is_refused(change.answers):
+            raise refusal(lines, change.answers)
+        return {"corrected": person, "copy": change.copy}
+
+    def new_keys(self, job: Job) -> Job:
+        """Gives many people other keys, after one copy of the office. The journal has the people alone. If the office does not take
+        the key of one of them, those before it stand. Their owners need slips, so that is no fault."""
+        keys = job["keys"]
+        if not isinstance(keys, dict) or not keys or not all(isinstance(key, str) for key in keys.values()):
+            raise Fault("not understood: keys are no texts by person")
+        lines = [line for person, key in keys.items() for line in lines_for(person, {"key": key})]
+        change, why = self.correction(job, lines, spoken_of_keys(lines), short_of_keys(lines)), ""
+        change.speak = spoken_of_keys
+        try:
+            if is_refused(self.worker.change(change).answers):
+                why = why_refused(lines[len(change.answers) - 1], change.answers[-1])
+        except Fault as fault:
+            if not change.made:
+                raise
+            why = str(fault)
+        if why and not change.made:
+            raise refusal(lines, change.answers)
+        reply = {"corrected": change.made, "copy": change.copy}
+        return {**reply, "refused": [masked_line(lines[change.made]), why]} if why else reply
+
+    def correction(self, job: Job, lines: list[str], spoken: str, short: str) -> Change:
+        """A change by these lines. `spoken` is what the journal says of all of them, `short` the copy that is kept before."""
+        return Change(job["who"], spoken, lambda file: self.program.tell_all(lines, file), kind="correct", before=short,
+                      lines=lines, seen=seen_in(job), saw=saw_in(job))
+
+    def forget(self, job: Job) -> Job:
+        """Removes a person, and blanks each kept list that names them. What was done of it stands, and a clerk who asks for it
+        again gets the rest."""
+        person, done = identifier_in(job), False
+        line = f"forget {person}"
+
+        def carry_out(file: Path) -> list[Answer]:
+            lines = self.lines_to_forget(person, file)
+            if file == self.copies.file:
+                change.lines = lines
+            return self.program.tell_all(lines or ["round"], file)
+
+        change = Change(job["who"], line, carry_out, kind="forget", before=line, register=self.beside.prepare, gone={person},
+                        erases=True, seen=seen_in(job), saw=saw_in(job))
+        try:
+            done = not is_refused(self.worker.change(change).answers)
+        finally:  # who is out of the register has nothing beside it, whatever has become of the lines after that
+            if done or gone_by(change.lines[:change.made]):
+                self.beside.let_go([person])
+        return change.told()
+
+    def lines_to_forget(self, person: str, file: Path) -> list[str]:
+        """The lines by which the office, or a copy of it, forgets a person: first those that may be refused."""
+        with contextlib.ExitStack() as reading:
+            copy = reading.enter_context(self.copies.copied()) if file == self.copies.file else file
+            homes = homes_in(rows_of(copy))
+            labels = sorted({record[0] for record in kept_in(copy, person)["lists"]})
+        return [*([f"leave {person}"] if homes.get(person) else []), *([f"remove {person}"] if person in homes else []),
+                *(f"blank {label}" for label in labels)]
+
+
+def short_of_keys(lines: list[str]) -> str:
+    """What is said of lines that make new keys: how many."""
+    return f"new keys ({len(lines)})"
+
+
+def spoken_of_keys(lines: list[str]) -> str:
+    """The same with whose keys they are, as the journal has it."""
+    return masked(f"{short_of_keys(lines)}: {' '.join(line.split(' ')[1] for line in lines)}")
