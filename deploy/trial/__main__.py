@@ -32,6 +32,7 @@ from demo import try_demo
 from crash_states import try_crash_states
 from draws import try_draws
 from earlier import try_earlier
+from erased import try_erased
 from flush import try_flush
 from full import try_full
 from guessing import try_guessing
@@ -45,6 +46,7 @@ from mail_parts import try_mail_parts
 from mail_runs import try_mail_runs
 from memory import try_memory
 from moving import try_moving
+from new_keys import try_new_keys
 from nights import try_nights
 from noted import try_noted
 from office_again import try_office_again
@@ -111,7 +113,7 @@ def all_parts(program, folder):
         try_office_receipts, try_mail_runs, try_burst, try_limits, try_ciphers, try_memory, try_port, try_stall, try_waits,
         try_unanswered, try_unread, try_office_tried, try_mail_changed, try_mail_gone, try_office_on_record,
         try_office_overview, try_office_words, try_office_languages, try_office_marked, try_certificate, try_authority,
-        try_signin_account, try_office_beside, try_office_identifiers, try_office_former,
+        try_signin_account, try_office_beside, try_office_identifiers, try_office_former, try_new_keys, try_erased,
     ]
     of_browser: list[Callable[..., None]] = [try_page, try_link, try_page_told, try_page_dates, try_signin_browser, try_office_page,
                                              try_office_mail_browser, try_office_wayback_browser, try_record_browser,
@@ -133,7 +135,7 @@ def gate_parts(program):
         try_office_figures, try_draws, try_refused, try_office_mail, try_office_receipts, try_mail_runs, try_burst, try_limits,
         try_ciphers, try_unanswered, try_unread, try_office_overview, try_office_words, try_office_languages, try_certificate,
         try_office_beside, try_office_identifiers, try_office_former, try_office_tried, try_mail_changed,
-        try_mail_gone, try_office_on_record,
+        try_mail_gone, try_office_on_record, try_new_keys, try_erased,
     ]
     of_office = [partial(one, program) for one in of_program]
     return [try_parts, try_branching, try_mail_parts, try_replacing, try_audit_told, *of_office]

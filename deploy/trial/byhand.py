@@ -1,5 +1,5 @@
-"""Lines by hand beside the keeper: `rooms do --db` over the keeper's own file, while the keeper carries out bundles in it, and
-corrects a name, which replaces the file, also if the keeper is killed.
+"""Lines by hand beside the keeper: `rooms do --db` over the keeper's own file, while the keeper carries out bundles in it, corrects
+a name, and blanks a list, which writes the file anew, also if the keeper is killed.
 
 If another program has the file, the program answers `unavailable`. What it accepts has to be in the office afterwards,
 and so has what the keeper accepts; and the file has to be whole. This run alone, also over standin.py: /usr/bin/python3
@@ -51,37 +51,57 @@ class Hands:
                 self.accepted[number].append(code)
 
 
+BLANKING = {"ask": "blank", "label": "rooms-1"}
+BLANKED = {"blanked": "rooms-1"}  # and nothing is left to be done
+LISTED = "room\nL-1\nL-2\n"
+
+
+def bring_list(stand):
+    """Has a list come in before the keeper starts."""
+    stand.folder.joinpath("list").write_text(LISTED, encoding="utf-8")
+    words = [stand.program, "import", "--db", stand.file, "rooms", "rooms-1", stand.folder / "list"]
+    said = subprocess.run(words, capture_output=True, text=True, check=False).stdout
+    check("a list comes in", said == "added 2\n" and is_in_file(stand), said)
+
+
+def is_in_file(stand):
+    """Whether the office's own files have the bytes of the list."""
+    return any(LISTED.encode() in one.read_bytes() for one in stand.data.glob("rooms.db*"))
+
+
 def correction(number):
     """Another name for somebody, as the keeper is asked for it."""
     return {"ask": "correct", "person": "P1", "name": f"Pia {number}"}
 
 
 def bundles(stand, count):
-    """Has the keeper carry out bundles of two rooms, and correct a name after each. Gives the rooms of those that it accepted."""
-    accepted = []
+    """Has the keeper carry out bundles of two rooms, and correct a name and blank a list after each. Gives the rooms of those that it
+    accepted, and how many times it has written the file anew."""
+    accepted, written = [], 0
     for number in range(count):
         codes = [f"K{number}-1", f"K{number}-2"]
         if stand.ask(ask="do", lines=[f"room {code}" for code in codes]).get("done"):
             accepted += codes
         stand.ask(**correction(number))
-    return accepted
+        written += stand.ask(**BLANKING) == BLANKED
+    return accepted, written
 
 
 def bundles_and_kills(stand, count):
     """The same, but the keeper is killed at some moment of each change after the first ones, and started again. The first say how
     long a change takes: with a slow program a fixed time would be over before any was answered."""
     began = time.monotonic()
-    accepted = bundles(stand, 1)
+    accepted, written = bundles(stand, 1)
     longest, drawn = 2 * (time.monotonic() - began), random.Random(count)
     for number in range(1, count):
         codes = [f"K{number}-1", f"K{number}-2"]
         if number % 2:
-            killed(stand, correction(number), longest * drawn.random())
+            written += killed(stand, BLANKING if number % 4 == 1 else correction(number), longest * drawn.random()) == BLANKED
             continue
         answer = killed(stand, {"ask": "do", "lines": [f"room {code}" for code in codes]}, longest * drawn.random())
         accepted += codes if answer.get("done") else []
         longest = max(0.2, longest * (0.9 if answer else 1.2))  # about half of them are answered
-    return accepted
+    return accepted, written
 
 
 def rooms_on_record(stand):
@@ -97,11 +117,13 @@ def try_hands(program, count, pause, many, clerk=bundles):
     # All at a time share the machine with the keeper's own lines: a slow program needs longer than elsewhere.
     with Stand(program, ROOMS_LINE_SECONDS="120") as stand:
         stand.fill([], ["P1"])
+        bring_list(stand)
         stand.start()
         began = time.monotonic()
         with Hands(stand, count, pause) as hands:
-            bundled = clerk(stand, many)
+            bundled, written = clerk(stand, many)
         took = time.monotonic() - began
+        answer = stand.ask(**BLANKING)
         stand.stop_keeper()
         found = rooms_on_record(stand)
         accepted = [code for codes in hands.accepted for code in codes]
@@ -110,12 +132,13 @@ def try_hands(program, count, pause, many, clerk=bundles):
             f"{count} at a time by hand, {1000 * pause:.0f} ms after each, beside {many} "
             f"{clerk.__name__.replace('_', ' ')} in {took:.0f} s: "
             f"{sum(hands.tried)} tried, {len(accepted)} accepted, {lost[0]} lost; "
-            f"{len(bundled) // 2} bundles accepted, {lost[1]} of their rooms lost"
+            f"{len(bundled) // 2} bundles accepted, {lost[1]} of their rooms lost; {written} times the file was written anew"
         )
-        check(what, accepted and bundled and lost == [0, 0], lost)
+        check(what, accepted and bundled and written and lost == [0, 0], lost)
         left = [one.name for one in stand.data.iterdir() if one.name not in KNOWN]
         check("the file is whole, and none is left over", found and "idle" in stand.tell("round") and not left, left)
-        check("and the file was replaced meanwhile", "  Pia " in stand.tell("people"), stand.tell("people"))
+        check("and a name was corrected meanwhile", "  Pia " in stand.tell("people"), stand.tell("people"))
+        check("and nothing of the blanked list is left in it", answer == BLANKED and not is_in_file(stand), answer)
 
 
 def try_byhand(program, many=BUNDLES):

@@ -117,10 +117,12 @@ def accepted(answer):
 
 def states_between(stand, job, name):
     """What the office is after each line of several but the last. The copy with this name was made before them."""
-    lines = job.get("lines", [])[:-1]
-    if lines:
+    asked = [told(line) for line in job.get("lines", [])[:-1]]
+    if "name" in job and "key" in job:  # of a correction of both, the key is the first line
+        asked = [{part: job[part] for part in ("ask", "person", "key")}]
+    if asked:
         stand.ask(ask="back", name=name)
-    return [content(stand) for line in lines if stand.ask(ask="do", lines=[line])]
+    return [content(stand) for one in asked if stand.ask(**one)]
 
 
 def kill_in(stand, job, kills):
@@ -173,6 +175,8 @@ def try_kills(program, kills=KILLS):
         name = stand.ask(ask="backup")["name"]
         stand.ask(ask="do", lines=["room BACK"])
         kill_in(stand, {"ask": "back", "name": name}, kills)
+        held = b"".join(one.read_bytes() for one in stand.data.glob("rooms.db*"))
+        check("nothing of a list that was blanked is in the office's file", b"A-0\nA-1\nA-2\n" not in held)
         left = [one.name for one in stand.data.iterdir() if one.name not in KNOWN]
         check("no file is left over", not left, left)
         parts = list((stand.data / "backups").glob(".part*"))

@@ -17,6 +17,7 @@ import time
 from pathlib import Path
 from unittest import mock
 
+from own_tables import try_own_tables
 from stand import OFFICE, check
 
 sys.path.append(str(OFFICE))
@@ -77,6 +78,9 @@ def hiding():
         (f"person R9 {KEY} Ann Li", "person R9 (key) (name)"),
         (f"  person   R9 {KEY.upper()} Ann", "person R9 (key) (name)"),
         (f"person {KEY} R9 Ann", "person (key) (key) (name)"),
+        ("name R9 Ann Li", "name R9 (name)"),
+        (f"key R9 {KEY} Ann", "key R9 (key)"),
+        (f"key {KEY} R9", "key (key) (key)"),
         (f"me {KEY}", "me (key)"),
         (f"home R9 {KEY}{KEY}{KEY}", "home R9 (key)"),
         (f"draw {'0123456789abcdef ' * 300}", "draw (300 words)"),
@@ -130,12 +134,14 @@ def copied_before():
         "going R1",
         "leave R1",
         "remove R1",
+        "name R1 Ann",
+        "key R1 k",
     ]
     check(
         "the office is copied before each line that cannot be taken back",
         all(reason_to_copy([one], {}) for one in lasting),
     )
-    others = ["room A-1", "person R1 k Ann", "home R1 A-1", "grade R1 2", "reopen A-1", "open", "choose R1 A-1"]
+    others = ["room A-1", "person R1 k Ann", "home R1 A-1", "grade R1 2", "reopen A-1", "open", "choose R1 A-1", "blank l-1"]
     check("and before no other", not any(reason_to_copy([one], {}) for one in others))
     check(
         "but before a list that replaces another one, and before several lines",
@@ -365,6 +371,7 @@ def news():
 def try_parts():
     """Tries them all."""
     os.umask(0o077)
+    try_own_tables()
     hiding()
     answering()
     many_lines()

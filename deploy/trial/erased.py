@@ -1,0 +1,196 @@
+"""What is blanked is in no file of the office afterwards, by whatever line: also if the keeper dies before the file is written anew,
+or if another program has the file open then.
+
+This run alone: /usr/bin/python3 deploy/trial/erased.py PROGRAM
+"""
+
+import base64
+import contextlib
+import shutil
+import sqlite3
+import sys
+import threading
+from pathlib import Path
+
+from beside import copies_of
+from between import Between
+from bundles import noted
+from kills import content, servers_of
+from office_forms import flat
+from office_requests import Page
+from stand import Stand, check, key_of, until
+
+# pylint: disable-next=wrong-import-order  # it is in the folder that the import of `beside` has added
+from anew import are_same, rewrite
+
+MARK = "rooms.db.anew"
+
+
+def secret_of(label):
+    """A name that one list alone has."""
+    return f"Zoe of {label}"
+
+
+def bring(stand, *labels):
+    """A list of people comes in under each of these labels. Each person has the label as identifier, in capitals."""
+    for label in labels:
+        people = "".join(f"{label.upper()}{number},{secret_of(label)},{key_of(f'{label}{number}')},\n" for number in range(200))
+        body = base64.b64encode(f"person,name,key,home\n{people}".encode()).decode()
+        answer = stand.ask(ask="import", kind="people", label=label, body=body)
+        check(f"the list {label} comes in", answer.get("done") and holds(stand, label), answer)
+
+
+def holds(stand, label):
+    """Whether the office's own files have the name of a list."""
+    return any(secret_of(label).encode() in one.read_bytes() for one in stand.data.glob("rooms.db*"))
+
+
+def go(stand, *labels):
+    """The people of these lists go out of the register. The lists stay."""
+    lines = [f"remove {label.upper()}{number}" for label in labels for number in range(200)]
+    check("they are removed", stand.ask(ask="do", lines=lines).get("made") == len(lines))
+
+
+def blanked_in(stand):
+    """The labels of the lists that are blank."""
+    return [label for label, _kind, _added, is_blank in stand.ask(ask="view")["lists"] if is_blank]
+
+
+def is_written_anew(stand):
+    """Whether nothing is left to be done."""
+    return not (stand.data / MARK).exists()
+
+
+def try_lines(stand):
+    """A line `blank` erases as the command does. Before it no copy is made, as a copy would keep the list."""
+    bring(stand, "a1", "a2", "a3", "a4")
+    go(stand, "a1", "a2", "a3", "a4")
+    before, rows = len(stand.ask(ask="backups")["backups"]), content(stand)
+    check("what was removed and what lists have is in the file", holds(stand, "a1") and holds(stand, "a4"))
+    told = stand.command("do", "blank", "a1")
+    check("a line blanks a list", told == (0, "ok\n", "") and not holds(stand, "a1") and blanked_in(stand) == ["a1"], told)
+    told = stand.command("lines", given="blank a2\nblank a3\n")
+    check("and so do several", told == (0, "ok\nok\n", "") and not holds(stand, "a2") and not holds(stand, "a3"), told)
+    check("after no copy", len(stand.ask(ask="backups")["backups"]) == before)
+    told = stand.command("lines", given="room B-1\nblank a4\n")
+    check("with other lines, after a copy", told[:2] == (0, "ok\nok\n") and "rooms-office back" in told[2] and not holds(stand, "a4"),
+          told)
+    now = content(stand)
+    rest = [{name: table for name, table in found.items() if name not in ("list", "room")} for found in (rows, now)]
+    check("and all other rows are as before", rest[0] == rest[1] and len(now["list"]) == 4 and is_written_anew(stand))
+    told = stand.command("do", "blank", "none")
+    check("a label of no list is refused", told[:2] == (1, "refused 25 UnknownLabel\n"), told)
+    for label in ("none", "No Label", "a\nb", ""):
+        answer = stand.ask(ask="blank", label=label)
+        check(f"and {label!r} by the command", answer == {"fault": f"no list has come in under the label {label!r}. Nothing was "
+                                                                   "changed."}, answer)
+
+
+def try_open(stand, page):
+    """Another program has the file open, so no other file can take its place: the clerk reads that something is left to be done."""
+    bring(stand, "b1", "b2")
+    go(stand, "b1", "b2")
+    with open(stand.file, "rb"):
+        answer = stand.ask(ask="blank", label="b1")
+        left = "may still be in free pages" in answer.get("unkept", "") and "another program has" in answer["unkept"]
+        check("the list is blank, and the keeper says what is left to be done", answer["blanked"] == "b1" and left, answer)
+        told = stand.command("blank", "b1")
+        check("and so does the clerk's command", told[:2] == (0, "blanked b1\n") and "may still be in free pages" in told[2], told)
+        page.form("/office/blank/b1", page="/office/blank/b1")
+        shown = flat(page.get("/office/lists")[2])
+        check("and the page", "The list b1 is blank." in shown and "What was erased may still be in free pages" in shown, shown)
+        check("which is so", holds(stand, "b1") and not is_written_anew(stand))
+        check("residents have their server", stand.until_listening(stand.server_port) is None and stand.server())
+    check("another line changes nothing of that", stand.office("room B-2") == "ok\n" and not is_written_anew(stand))
+    check("the next list that is blanked takes it along", "unkept" not in stand.ask(ask="blank", label="b2") and
+          not holds(stand, "b1") and not holds(stand, "b2") and is_written_anew(stand))
+
+
+def try_killed(stand, between):
+    """The keeper is killed after the program has blanked a list, and before the file is written anew. The next one does that."""
+    bring(stand, "c1", "c2")
+    go(stand, "c1", "c2")
+    between.before_next("kill -9 $KEEPER; sleep 60", after=1)
+    clerk = threading.Thread(target=ended, args=(stand,))
+    clerk.start()
+    stand.keeper.wait()
+    clerk.join()
+    until(lambda: not servers_of(stand), 30, "the end of what the keeper had started")
+    check("the file has what the list had", holds(stand, "c1") and not is_written_anew(stand))
+    stand.start()
+    check("the next keeper writes the file anew", blanked_in(stand)[-1] == "c1" and is_written_anew(stand))
+    go_on = stand.ask(ask="blank", label="c2")
+    check("and nothing is left of it", go_on == {"blanked": "c2"} and not holds(stand, "c1") and not holds(stand, "c2"), go_on)
+
+
+def ended(stand):
+    """Sends lines to a keeper that does not live to answer them."""
+    with contextlib.suppress(ValueError):
+        check("the keeper is killed before it answers", False, stand.ask(ask="do", lines=["blank c1", "blank c2"]))
+
+
+def try_forget(stand, between):
+    """A person is forgotten in part, as far as the program came. Asked again, the keeper does the rest."""
+    bring(stand, "d1", "d2")
+    person = "D10"
+    body = base64.b64encode(f"person,grade\n{person},2\n".encode()).decode()
+    check("another list names somebody", stand.ask(ask="import", kind="grades", label="d9", body=body).get("done"))
+    copies = len(stand.ask(ask="backups")["backups"])
+    between.before_next("kill -9 $REAL", after=2)
+    answer = stand.ask(ask="forget", person=person)
+    check("if the program dies in the middle, the answer says how far it came", "2 of 3 lines were carried out" in answer["fault"],
+          answer)
+    check("and so does the journal", [one[0] for one in noted(stand, 2)] == [f"remove {person}; blank d1", "blank d9"],
+          noted(stand, 2))
+    check("which is so, and what is blanked is in no file", "d1" in blanked_in(stand) and "d9" not in blanked_in(stand) and
+          person not in [row[0] for row in stand.ask(ask="view")["people"]] and not holds_list(stand), blanked_in(stand))
+    answer = stand.ask(ask="forget", person=person)
+    check("asked again, the keeper does the rest", answer["done"] and "d9" in blanked_in(stand) and answer["copy"], answer)
+    check("with a copy before each", len(stand.ask(ask="backups")["backups"]) == copies + 2)
+    check("and once more, with nothing left", stand.ask(ask="forget", person=person).get("done"))
+    between.before_next(between.by_hand("open"))
+    answer = stand.ask(ask="forget", person="D11")
+    check("what the office refuses meanwhile is not done", not answer.get("done") and answer["made"] == 0 and
+          answer["answers"][-1][0].startswith("refused 1 BadPhase") and "d2" not in blanked_in(stand), answer)
+    stand.office("cancel")
+
+
+def holds_list(stand):
+    """Whether the office's own files have the list d1, whose people are still in the register."""
+    return any(f"D10,{secret_of('d1')}".encode() in one.read_bytes() for one in stand.data.glob("rooms.db*"))
+
+
+def try_same(stand):
+    """No file with other rows would take the office's place."""
+    with copies_of(stand).copied() as copy:
+        new = copy.with_name("new")
+        rewrite(copy, new)
+        check("a file that is written anew has the same rows", are_same(copy, new))
+        for number, change in enumerate(("UPDATE person SET name = 'x' WHERE id = 'D12'", "DELETE FROM person WHERE id = 'D12'",
+                                         "INSERT INTO room VALUES ('ZZ', 0)", "UPDATE list SET body = x'00' WHERE label = 'd2'",
+                                         "CREATE TABLE other(a)", "DROP TABLE going")):
+            other = copy.with_name(f"other{number}")
+            shutil.copyfile(new, other)
+            with contextlib.closing(sqlite3.connect(other, isolation_level=None)) as database:
+                database.execute(change)
+            check(f"and another one has not: {change}", not are_same(copy, other) and not are_same(other, copy))
+
+
+def try_erased(program):
+    """All of it."""
+    with Stand(program) as stand:
+        between = Between(stand)
+        stand.start()
+        stand.start_page()
+        stand.start_proxy()
+        try_lines(stand)
+        try_open(stand, Page(stand))
+        try_killed(stand, between)
+        try_forget(stand, between)
+        try_same(stand)
+
+
+if __name__ == "__main__":
+    if len(sys.argv) != 2 or not Path(sys.argv[1]).exists():
+        sys.exit("usage: /usr/bin/python3 deploy/trial/erased.py PROGRAM")
+    try_erased(sys.argv[1])
