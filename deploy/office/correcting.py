@@ -171,7 +171,7 @@ class Corrections:
 
 
 def short_of_keys(lines: list[str]) -> str:
-    """What is said of lines that make new keys: how many."""
+    """Lines that make new keys, in short: how many they are."""
     return f"new keys ({len(lines)})"
 
 

@@ -80,7 +80,7 @@ class Change:  # pylint: disable=too-many-instance-attributes  # what is asked f
         return {"unkept": self.left} if self.left else {}
 
     def told(self) -> dict[str, Any]:
-        """What its sender is told."""
+        """The answer to its sender."""
         return {"answers": self.answers, "done": not is_refused(self.answers), "made": self.made, "took": self.took,
                 "copy": self.copy, **self.unkept}
 
@@ -276,8 +276,8 @@ class Worker:  # pylint: disable=too-many-instance-attributes  # the parts of th
             self.anew.begin()
 
     def in_place(self, change: Change) -> list[Answer]:
-        """Carries out a change in the office's file. What it has overwritten goes out of the file afterwards, also if the program
-        did not come to the end."""
+        """Carries out a change in the office's file. If it erases something, the file is written anew afterwards, also if the
+        program did not come to the end."""
         try:
             return change.carry_out(self.copies.file)
         finally:

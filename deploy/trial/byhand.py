@@ -75,15 +75,14 @@ def correction(number):
 
 
 def bundles(stand, count):
-    """Has the keeper carry out bundles of two rooms, and correct a name and blank a list after each. Gives the rooms of those that it
-    accepted, and how many times it has written the file anew."""
+    """Has the keeper carry out bundles of two rooms, and blank a list or correct a name after each. Gives the rooms of those that
+    it accepted, and how many times it has written the file anew."""
     accepted, written = [], 0
     for number in range(count):
         codes = [f"K{number}-1", f"K{number}-2"]
         if stand.ask(ask="do", lines=[f"room {code}" for code in codes]).get("done"):
             accepted += codes
-        stand.ask(**correction(number))
-        written += stand.ask(**BLANKING) == BLANKED
+        written += stand.ask(**correction(number) if number % 2 else BLANKING) == BLANKED
     return accepted, written
 
 
@@ -135,10 +134,15 @@ def try_hands(program, count, pause, many, clerk=bundles):
             f"{len(bundled) // 2} bundles accepted, {lost[1]} of their rooms lost; {written} times the file was written anew"
         )
         check(what, accepted and bundled and written and lost == [0, 0], lost)
-        left = [one.name for one in stand.data.iterdir() if one.name not in KNOWN]
-        check("the file is whole, and none is left over", found and "idle" in stand.tell("round") and not left, left)
-        check("and a name was corrected meanwhile", "  Pia " in stand.tell("people"), stand.tell("people"))
-        check("and nothing of the blanked list is left in it", answer == BLANKED and not is_in_file(stand), answer)
+        check("nothing of the blanked list is left in the file", answer == BLANKED and not is_in_file(stand), answer)
+        look_at(stand, found)
+
+
+def look_at(stand, found):
+    """The office's file afterwards, with these rooms."""
+    left = [one.name for one in stand.data.iterdir() if one.name not in KNOWN]
+    check("the file is whole, and none is left over", found and "idle" in stand.tell("round") and not left, left)
+    check("and a name was corrected meanwhile", "  Pia " in stand.tell("people"), stand.tell("people"))
 
 
 def try_byhand(program, many=BUNDLES):

@@ -1,5 +1,5 @@
-"""What is blanked is in no file of the office afterwards, by whatever line: also if the keeper dies before the file is written anew,
-or if another program has the file open then.
+"""What is blanked is in no file of the office afterwards, by whatever line: also if the keeper dies before the file is written
+anew, or if another program has the file open then.
 
 This run alone: /usr/bin/python3 deploy/trial/erased.py PROGRAM
 """
@@ -45,8 +45,8 @@ def holds(stand, label):
     return any(secret_of(label).encode() in one.read_bytes() for one in stand.data.glob("rooms.db*"))
 
 
-def go(stand, *labels):
-    """The people of these lists go out of the register. The lists stay."""
+def remove(stand, *labels):
+    """Removes the people of these lists from the register. The lists stay."""
     lines = [f"remove {label.upper()}{number}" for label in labels for number in range(200)]
     check("they are removed", stand.ask(ask="do", lines=lines).get("made") == len(lines))
 
@@ -64,7 +64,7 @@ def is_written_anew(stand):
 def try_lines(stand):
     """A line `blank` erases as the command does. Before it no copy is made, as a copy would keep the list."""
     bring(stand, "a1", "a2", "a3", "a4")
-    go(stand, "a1", "a2", "a3", "a4")
+    remove(stand, "a1", "a2", "a3", "a4")
     before, rows = len(stand.ask(ask="backups")["backups"]), content(stand)
     check("what was removed and what lists have is in the file", holds(stand, "a1") and holds(stand, "a4"))
     told = stand.command("do", "blank", "a1")
@@ -73,8 +73,8 @@ def try_lines(stand):
     check("and so do several", told == (0, "ok\nok\n", "") and not holds(stand, "a2") and not holds(stand, "a3"), told)
     check("after no copy", len(stand.ask(ask="backups")["backups"]) == before)
     told = stand.command("lines", given="room B-1\nblank a4\n")
-    check("with other lines, after a copy", told[:2] == (0, "ok\nok\n") and "rooms-office back" in told[2] and not holds(stand, "a4"),
-          told)
+    check("with other lines, after a copy", told[:2] == (0, "ok\nok\n") and "rooms-office back" in told[2]
+          and not holds(stand, "a4"), told)
     now = content(stand)
     rest = [{name: table for name, table in found.items() if name not in ("list", "room")} for found in (rows, now)]
     check("and all other rows are as before", rest[0] == rest[1] and len(now["list"]) == 4 and is_written_anew(stand))
@@ -89,7 +89,7 @@ def try_lines(stand):
 def try_open(stand, page):
     """Another program has the file open, so no other file can take its place: the clerk reads that something is left to be done."""
     bring(stand, "b1", "b2")
-    go(stand, "b1", "b2")
+    remove(stand, "b1", "b2")
     with open(stand.file, "rb"):
         answer = stand.ask(ask="blank", label="b1")
         left = "may still be in free pages" in answer.get("unkept", "") and "another program has" in answer["unkept"]
@@ -109,7 +109,7 @@ def try_open(stand, page):
 def try_killed(stand, between):
     """The keeper is killed after the program has blanked a list, and before the file is written anew. The next one does that."""
     bring(stand, "c1", "c2")
-    go(stand, "c1", "c2")
+    remove(stand, "c1", "c2")
     between.before_next("kill -9 $KEEPER; sleep 60", after=1)
     clerk = threading.Thread(target=ended, args=(stand,))
     clerk.start()

@@ -245,5 +245,5 @@ def ended_after(came: Came, count: int) -> str:
     """What the clerk reads of a bundle that was not carried out for all."""
     if not came.lines:
         return _("This could not be done. {why}", why=plain.begun(came.fault))
-    return _("This was done for the first {people} of {count} people. The office was changed meanwhile, and does not take the rest. "
-             "{fault} Look how far it came before you go on.", people=came.people, count=count, fault=came.fault)
+    return _("This was done for the first {people} of {count} people. The office was changed meanwhile, and does not take the "
+             "rest. {fault} Look how far it came before you go on.", people=came.people, count=count, fault=came.fault)
