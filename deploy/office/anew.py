@@ -14,7 +14,7 @@ from pathlib import Path
 from copies import make_whole
 from languages import N_, _
 from office import Office
-from placing import beside, part_of, replace_file
+from placing import InUse, beside, part_of, replace_file
 from settings import Fault, unwritten
 
 SCHEMA = "SELECT type, name, tbl_name, sql FROM sqlite_schema ORDER BY type, name"
@@ -44,8 +44,9 @@ class Anew:
             self.write()
             replace_file(self.mark, None)
         except (Fault, OSError, sqlite3.Error) as fault:
-            return _("what was erased may still be in free pages of the office's file, since the file could not be written anew: "
-                     "{why} The keeper tries it again when it starts, and after the next list that is blanked.", why=fault)
+            return _("what was erased may still be in free pages of the office's file, since the file could not be written anew "
+                     "({why}). The keeper tries it again when it starts, and after the next list that is blanked.",
+                     why=reason_of(fault))
         return ""
 
     def write(self) -> None:
@@ -56,8 +57,17 @@ class Anew:
             rewrite(copy, new)
             looked = self.program.look(new)
             if looked.status != 0 or not make_whole(new) or not are_same(copy, new):
-                raise Fault(_("the new file is not the same office ({said}).", said=looked.text.strip()))
+                raise Fault(_("the new file is not the same office: {said}", said=looked.text.strip()))
             self.place.put(new, held)
+
+
+def reason_of(fault: Exception) -> object:
+    """Why the file could not be written anew. What such a fault says elsewhere is that nothing was changed."""
+    if isinstance(fault, InUse):
+        return _("another program has it open: as root, `lslocks` shows who has locked it, and `fuser -v FILE` also who only reads "
+                 "it")
+    cause = fault if isinstance(fault, OSError) else fault.__context__
+    return cause.strerror if isinstance(cause, OSError) else fault
 
 
 def rewrite(file: Path, new: Path) -> None:

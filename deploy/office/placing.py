@@ -111,12 +111,16 @@ def is_alone(held: int) -> bool:
     return True
 
 
+class InUse(Fault):
+    """Another program has the office's file open."""
+
+
 def wait_until(holds: Callable[[], bool]) -> None:
     """Waits for other programs, but not for long."""
     end = time.monotonic() + PATIENCE
     while not holds():
         if time.monotonic() > end:
-            raise Fault(_(IN_USE))
+            raise InUse(_(IN_USE))
         time.sleep(0.001)
 
 

@@ -6,11 +6,13 @@ This run alone: /usr/bin/python3 deploy/trial/erased.py PROGRAM
 
 import base64
 import contextlib
+import errno
 import shutil
 import sqlite3
 import sys
 import threading
 from pathlib import Path
+from unittest import mock
 
 from beside import copies_of
 from between import Between
@@ -18,10 +20,13 @@ from bundles import noted
 from kills import content, servers_of
 from office_forms import flat
 from office_requests import Page
+from parts import an_office, fault_of, rooms_of
 from stand import Stand, check, key_of, until
 
-# pylint: disable-next=wrong-import-order  # it is in the folder that the import of `beside` has added
-from anew import are_same, rewrite
+# pylint: disable=wrong-import-order  # they are in the folder that the import of `beside` has added
+from anew import Anew, are_same, rewrite
+from office import Office
+from program import Answer
 
 MARK = "rooms.db.anew"
 
@@ -92,8 +97,10 @@ def try_open(stand, page):
     remove(stand, "b1", "b2")
     with open(stand.file, "rb"):
         answer = stand.ask(ask="blank", label="b1")
-        left = "may still be in free pages" in answer.get("unkept", "") and "another program has" in answer["unkept"]
-        check("the list is blank, and the keeper says what is left to be done", answer["blanked"] == "b1" and left, answer)
+        said = answer.get("unkept", "")
+        left = "may still be in free pages" in said and "(another program has it open: as root, `lslocks`" in said
+        check("the list is blank, and the keeper says what is left to be done", answer["blanked"] == "b1" and left
+              and "Nothing was changed" not in said, answer)
         told = stand.command("blank", "b1")
         check("and so does the clerk's command", told[:2] == (0, "blanked b1\n") and "may still be in free pages" in told[2], told)
         page.form("/office/blank/b1", page="/office/blank/b1")
@@ -176,8 +183,31 @@ def try_same(stand):
             check(f"and another one has not: {change}", not are_same(copy, other) and not are_same(other, copy))
 
 
+def try_faults():
+    """What goes wrong while the file is written anew leaves the office as it was, with the note that this is still to be done."""
+    full = OSError(errno.ENOSPC, "No space left on device")
+    with an_office() as settings:
+        anew = Anew(Office(settings))
+        check("nothing is to be done", not anew.finish() and not anew.mark.exists())
+        with mock.patch("placing.to_disk", side_effect=full):
+            check("without the note nothing is erased", "Nothing was changed" in fault_of(anew.begin) and not anew.mark.exists())
+        anew.begin()
+        for what, place, fault, said in (("a full disk", "placing.to_disk", full, "No space left on device"),
+                                         ("other rows", "anew.are_same", lambda *_: False, "is not the same office"),
+                                         ("a database that fails", "anew.rewrite", sqlite3.DatabaseError("malformed"), "malformed")):
+            with mock.patch.object(anew.program, "look", return_value=Answer("round 0 idle\n", 0)), mock.patch(place, side_effect=fault):
+                why = anew.finish()
+            check(f"{what} is named, and the office is as it was", f"{said}" in why and rooms_of(settings.file) == ["OLD"]
+                  and anew.mark.exists() and "Nothing was changed" not in why, why)
+        with mock.patch.object(anew.program, "look", return_value=Answer("refused 21 NotAnOffice\n", 1)):
+            check("and so is a file that the program refuses", "refused 21" in anew.finish() and anew.mark.exists())
+        with mock.patch.object(anew.program, "look", return_value=Answer("round 0 idle\n", 0)):
+            check("then the file is written anew", not anew.finish() and not anew.mark.exists() and rooms_of(settings.file) == ["OLD"])
+
+
 def try_erased(program):
     """All of it."""
+    try_faults()
     with Stand(program) as stand:
         between = Between(stand)
         stand.start()

@@ -137,8 +137,10 @@ def try_killed(stand, between):
     line, answer, status = noted(stand, 1)[0]
     check("the journal says that nobody knows how far they came", "not known" in answer and status == 3 and
           line == f"new keys ({len(keys)}): {' '.join(keys)}", (line, answer))
-    check("and the same keys once more are all made", stand.ask(ask="keys", keys=keys)["corrected"] == len(keys) and
-          keys_of(stand) == keys)
+    with Watcher(*keys.values()) as watcher:
+        made = stand.ask(ask="keys", keys=keys)["corrected"]
+        check("and the same keys once more are all made", made == len(keys) and keys_of(stand) == keys, made)
+    check("of which no process had one", watcher.looks and not watcher.seen, watcher.seen)
     return keys
 
 
