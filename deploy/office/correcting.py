@@ -41,8 +41,10 @@ def why_refused(line: str, answer: Answer) -> str:
     said, number = "; ".join(answer.text.splitlines()), answer.text.split()[1:2]
     if answer.status == UNAVAILABLE:
         return _("the disk or the memory did not serve ({why}). Look whether this took effect.", why=said)
-    if verb == "blank":
+    if number == ["25"]:
         return _("no list has come in under the label {label}.", label=repr(what))
+    if verb == "blank":
+        return _("the program does not blank this list ({said}).", said=said)
     if number == ["2"]:
         return _("nobody has the identifier {person}.", person=repr(what))
     if number == ["6"]:
@@ -56,8 +58,7 @@ def unchanged(why: str) -> Fault:
 
 
 def refusal(lines: list[str], answers: list[Answer]) -> Fault:
-    """The fault of lines of which the program has not carried out the first one, or of which a copy did not take the last one that
-    it has answered."""
+    """The fault of lines of which none was carried out: why not the last one that was answered, by a copy or by the office."""
     why = why_refused(lines[len(answers) - 1], answers[-1])
     return Fault(why) if answers[-1].status == UNAVAILABLE else unchanged(why)
 

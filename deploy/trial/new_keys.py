@@ -14,7 +14,7 @@ from pathlib import Path
 from beside import copies_of
 from between import Between
 from bundles import noted
-from kills import servers_of
+from kills import content, servers_of
 from office_forms import flat
 from office_keys import asked, slips_in, works, yes
 from office_requests import Page
@@ -71,8 +71,8 @@ def try_between(stand, between, page):
     check("those before have the keys of their slips", list(keys) == ["T011", "T012"] and
           all(after[one] == keys[one] for one in keys), (keys, shown[:3000]))
     check("nobody else has another key", {one for one in after if before[one] != after[one]} == set(keys))
-    check("the page says how many there are, and which line was not carried out", "for the first 2 of 4 people" in shown and
-          "The line key T013 (key) was not carried out: Nobody has the identifier 'T013'." in shown, shown[:3000])
+    check("the page says how many there are, and at which line it ended", "for the first 2 of 4 people" in shown and
+          "At the line key T013 (key) it ended: Nobody has the identifier 'T013'." in shown, shown[:3000])
     onward = re.search('href="(/office/many/[0-9a-f]+)"', sheet)
     again = page.get(onward[1])[2] if onward else ""
     check("the form behind the slips has the others", ">T013\nT014</textarea>" in again, again[:3000])
@@ -155,6 +155,19 @@ WRONG = (("name", " Ann"), ("name", "Ann "), ("name", "Ann\r"), ("name", ""), ("
          ("key", "Short"))
 
 
+def try_way_back(stand):
+    """By a way back with the newer keys nobody gets a key that another person has in the copy."""
+    copy = stand.ask(ask="backup")["name"]
+    for person, key in ("T052", f"{KEY}52"), ("T051", key_of("T052")):
+        check(f"{person} has another key", stand.ask(ask="correct", person=person, key=key).get("corrected"))
+    before = content(stand)
+    answer = stand.ask(ask="back", name=copy, newer_keys=True)
+    check("a newer key that is another person's in the copy is refused", content(stand) == before and
+          answer == {"fault": "another person has this key. Nothing was changed."}, answer)
+    check("without the newer keys the office goes back", "name" in stand.ask(ask="back", name=copy) and
+          keys_of(stand)["T051"] == key_of("T051"))
+
+
 def try_correct(stand, between):
     """What the keeper refuses of a name and a key of one person, and what stands if the office is changed between the two."""
     for values, said in (({"person": "T041 Ann", "name": "Li"}, "nobody has the identifier 'T041 Ann'. Nothing was changed."),
@@ -184,6 +197,7 @@ def try_new_keys(program):
         try_many(between, page)
         try_ended(stand, between, page)
         try_correct(stand, between)
+        try_way_back(stand)
         keys = try_killed(stand, between)
         said = "".join([stand.proxy_log(), stand.log("page"), stand.log("keeper"), (stand.data / "journal").read_text("utf-8")])
         check("no key and no name is in a log or in the journal", not [key for key in [*keys.values(), KEY] if key in said] and

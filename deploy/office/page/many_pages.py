@@ -211,9 +211,9 @@ def make_keys(job: Many) -> None:
     if "refused" in reply:
         line, why = reply["refused"]
         onward = sent_again(job._replace(idents=job.idents[len(made):]))
-        tell("bad", _("New keys were made for the first {people} of {count} people, who have slips here. The line {line} was not "
-                      "carried out: {why} The form behind the slips has the others.", people=len(made), count=len(job.idents),
-                      line=line, why=plain.begun(why)))
+        tell("bad", _("New keys were made for the first {people} of {count} people, who have slips here. At the line {line} it "
+                      "ended: {why} The form behind the slips has the others.", people=len(made), count=len(job.idents), line=line,
+                      why=plain.begun(why)))
     show_once([(ident, office.people[ident].name, keys[ident]) for ident in made], onward)
 
 
