@@ -29,6 +29,7 @@ from office import Office
 from program import Answer
 
 MARK = "rooms.db.anew"
+PEOPLE = 100  # on each list: more than a page of the file has room for
 
 
 def secret_of(label):
@@ -39,7 +40,7 @@ def secret_of(label):
 def bring(stand, *labels):
     """A list of people comes in under each of these labels. Each person has the label as identifier, in capitals."""
     for label in labels:
-        people = "".join(f"{label.upper()}{number},{secret_of(label)},{key_of(f'{label}{number}')},\n" for number in range(200))
+        people = "".join(f"{label.upper()}{number},{secret_of(label)},{key_of(f'{label}{number}')},\n" for number in range(PEOPLE))
         body = base64.b64encode(f"person,name,key,home\n{people}".encode()).decode()
         answer = stand.ask(ask="import", kind="people", label=label, body=body)
         check(f"the list {label} comes in", answer.get("done") and holds(stand, label), answer)
@@ -52,7 +53,7 @@ def holds(stand, label):
 
 def remove(stand, *labels):
     """Removes the people of these lists from the register. The lists stay."""
-    lines = [f"remove {label.upper()}{number}" for label in labels for number in range(200)]
+    lines = [f"remove {label.upper()}{number}" for label in labels for number in range(PEOPLE)]
     check("they are removed", stand.ask(ask="do", lines=lines).get("made") == len(lines))
 
 
