@@ -289,7 +289,7 @@ def try_two_clerks(stand, anna, bert):
     anna.form("/office/register", {"text": "T05"}, page="/office/register")
     check(
         "a search is its clerk's own",
-        "T05" in anna.get("/office/register")[2] and 'value="T05"' not in bert.get("/office/register")[2],
+        'value="T05"' in anna.get("/office/register")[2] and 'value="T05"' not in bert.get("/office/register")[2],
     )
 
 
