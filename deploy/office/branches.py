@@ -106,6 +106,16 @@ class Branches:
                 since[2].extend(way.unsure)
         return Fork(names[at[0]], at[0], *since)
 
+    def behind(self, copy: str) -> Iterator[int]:
+        """The places of the entries that led to the state of a copy, the last one first."""
+        place = self.moment_of(copy).last
+        while place > 0:
+            place -= 1
+            if way := self.ways.get(place):
+                place = way.led_to
+            else:
+                yield place
+
     def before_ways(self) -> Iterator[str]:
         """The copies that were kept before the ways back, the last one first."""
         return (way.before for way in reversed(self.ways.values()) if way.before)

@@ -7,7 +7,8 @@
 | compare | name | what becomes of people by going back to a copy (`compared` in parting.py); forgotten: of who comes back |
 | | | date: whether that of the round is forgotten; mark: of what would be undone, as `back` takes it |
 | given-up | name of a copy, or none | rounds: copy, number, phase of each; or what that one had, and what has changed since |
-| back | name, seen, mark, newer_keys | name: of the copy of the office of before; what has become of people, if it could be read |
+| back | name, seen, mark, newer_keys | name: of the copy of the office of before; what has become of people, if it could be read; |
+| | | unkept: faults of figures |
 """
 
 import functools
@@ -18,6 +19,7 @@ from backups import ASKED_FOR, BACK, MOST_DAYS
 from beside_register import BesideRegister
 from branches import Branches, named_in
 from dates import Dates
+from figures_back import Brought
 from given_up import given_up
 from going_back import GoingBack
 from job import Job, is_other, seen_in, text
@@ -123,4 +125,10 @@ class CopyRequests:
             said = change.answers[-1].text.strip()
             raise Fault(_("the program does not take this copy ({said}). Nothing was changed.", said=said))
         self.dates.went_back(way.then)
-        return {"name": change.copy, **way.told()}
+        return {"name": change.copy, **way.told(), **self.figures_back(name, change.copy)}
+
+    def figures_back(self, name: str, before: str | None) -> Job:
+        """Lets the figures be those of the office after the way back to a copy. Gives what went wrong, if anything."""
+        brought = Brought(self.journal, self.backups, name, before or "")
+        unkept = self.office.figures.went_back(lambda: brought.figures(self.worker.view.rows()))
+        return {"unkept": unkept} if unkept else {}

@@ -114,29 +114,49 @@ class Kept:
         what went wrong, if anything: the lines have been carried out."""
         if STEPS.isdisjoint(map(verb_of, lines)):
             return ""
+        return self.told(lambda said: self.keep(before, rows(), said))
+
+    def went_back(self, brought: Callable[[], dict[int, Round | None]]) -> str:
+        """Has the figures of the office of now after a way back: `brought` gives those that may be others than the file has, and
+        None where nobody knows them. Says what went wrong, if anything: the office is back."""
+        def put(said: list[str]) -> None:
+            old, new = self.known(said), brought()
+            self.write_if_other(old, {number: one for number, one in {**old, **new}.items() if one})
+        return self.told(put)
+
+    def told(self, write: Callable[[list[str]], None]) -> str:
+        """Writes the file, and gives what there is to say of it."""
         said: list[str] = []
         try:
             with self.lock:
-                self.keep(before, rows(), said)
+                write(said)
         except (Fault, OSError, sqlite3.Error) as fault:
             reason = getattr(fault, "strerror", None) or fault
             said.append(_("The figures of the round could not be kept ({reason}).", reason=reason))
         return " ".join(said)
 
-    def keep(self, before: "Before", now: Rows, said: list[str]) -> None:
-        """Adds the figures of published rounds, and takes those of unknown ones out."""
-        old: dict[int, Round] = {}
+    def known(self, said: list[str]) -> dict[int, Round]:
+        """What the file has. A damaged one is set aside, and that is said."""
         try:
-            old = self.read()
+            return self.read()
         except Damaged:
             said.append(self.set_aside())
+            return {}
+
+    def write_if_other(self, old: dict[int, Round], new: dict[int, Round]) -> None:
+        """Writes the file anew, if it is to have something else."""
+        if new != old:
+            self.write(new)
+
+    def keep(self, before: "Before", now: Rows, said: list[str]) -> None:
+        """Adds the figures of published rounds, and takes those of unknown ones out."""
+        old = self.known(said)
         new = {number: one for number, one in old.items() if is_known(number, one, now) and number not in before.given_up}
         for published in [*before.rows, *([now] if now["phase"] == "published" else [])]:
             number, taken = published["number"], round_of(published)
             same = number in old and old[number].tables == taken.tables
             new[number] = taken._replace(published=old[number].published) if same else taken
-        if new != old:
-            self.write(new)
+        self.write_if_other(old, new)
 
     def set_aside(self) -> str:
         """Gives a damaged file another name, so that nothing of it is lost."""

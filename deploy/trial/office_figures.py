@@ -179,6 +179,7 @@ def try_going_back(stand, page):
     now = rounds(stand)[1]["all"]["all"]
     # Of the 18 who wanted another room 12 are left.
     check("another result replaces the figures", now == {**EVERYBODY, "wishing": 10}, now)
+    try_other_branch(stand, settled, first)
     back_before(stand, "publish")
     do(stand, "publish", "settle")
     check("of lines that publish and settle at once, too", rounds(stand)[1]["all"]["all"] == now, rounds(stand))
@@ -189,6 +190,26 @@ def try_going_back(stand, page):
     check("the next round has its own", list(rounds(stand)) == [2] and kept(stand) == ["2"], kept(stand))
     leads = page.get("/office/committee/1")[1]["location"]
     check("the address of a round without figures leads to the newest one", leads == "/office/committee", leads)
+
+
+def try_other_branch(stand, settled, first):
+    """The office goes back to where the other result was published, or settled: the figures are of that one."""
+    second, days = rounds(stand), stand.ask(ask="figures")["rounds"][0][1]
+    copies = [name for name, _, said in stand.ask(ask="backups")["backups"] if said.startswith("before settle")]
+    other = stand.ask(ask="back", name=settled)["name"]
+    check("after a way back to where another result was settled, the figures are those of it", rounds(stand) == first, rounds(stand))
+    check("with the day of its publication", stand.ask(ask="figures")["rounds"][0][1] == days)
+    stand.ask(ask="back", name=other)
+    check("and of the later one after the way back from there", rounds(stand) == second, rounds(stand))
+    published = stand.ask(ask="back", name=copies[0])["name"]
+    check("where it was only published, they are those of the results that are published", rounds(stand) == first, rounds(stand))
+    aside = [(stand.data / "backups" / name, stand.data / name) for name in copies]
+    for place, elsewhere in aside:
+        place.rename(elsewhere)
+    stand.ask(ask="back", name=published)
+    check("where nobody can count them any more, there are none", rounds(stand) == {}, rounds(stand))
+    for place, elsewhere in aside:
+        elsewhere.rename(place)
 
 
 def try_damaged(stand, page):

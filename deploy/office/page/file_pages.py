@@ -272,6 +272,8 @@ def back(name: str) -> None:
                       "{people}.", people=", ".join(gone)))
     if lost := found.get("lost"):
         tell("bad", _(LOST[found["round"][1] == "open"], people=", ".join(lost)))
+    if unkept := found.get("unkept"):
+        tell("bad", unkept)
     if keys := [person for person in found.get("keys", []) if person not in found["newer_then"]]:
         tell("bad", ngettext("One person has the key of the copy again, and the key of before does not work. If a key was lost, or "
                              "others know it, make a new key now. Take out whoever needs none.",
