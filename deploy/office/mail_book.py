@@ -37,6 +37,8 @@ CREATE TABLE IF NOT EXISTS told(kind TEXT, round INTEGER, turn INTEGER, person T
   PRIMARY KEY(kind, round, turn, person));
 CREATE TABLE IF NOT EXISTS earlier(kind TEXT, round INTEGER, turn INTEGER, person TEXT, state TEXT NOT NULL, at TEXT NOT NULL,
   why TEXT NOT NULL, mark TEXT, PRIMARY KEY(kind, round, turn, person));
+CREATE TABLE IF NOT EXISTS gone(kind TEXT, round INTEGER, turn INTEGER, state TEXT, count INTEGER NOT NULL,
+  PRIMARY KEY(kind, round, turn, state));
 CREATE TABLE IF NOT EXISTS run(one INTEGER PRIMARY KEY, kind TEXT NOT NULL, round INTEGER NOT NULL, turn INTEGER NOT NULL,
   subject TEXT NOT NULL, body TEXT NOT NULL, link TEXT NOT NULL, who TEXT NOT NULL, state TEXT NOT NULL, why TEXT NOT NULL,
   at TEXT NOT NULL);
@@ -46,7 +48,7 @@ CREATE TABLE IF NOT EXISTS receipt(person TEXT PRIMARY KEY, now TEXT NOT NULL, a
 # The table `text` has what clerks wrote before there were languages, and `words` what they write in each. `run` has the text of
 # everybody who has no other one in `run_words`. `told` has a mark of what a message told its person that may change, in the
 # place of the rooms. `earlier` has messages that those of the run are to replace, with their marks: who does not get another one
-# after all has the earlier one still.
+# after all has the earlier one still. `gone` counts the messages whose people were erased, and names none of them.
 
 # The messages of the run, which is the only one.
 OF_RUN = "(kind, round, turn) = (SELECT kind, round, turn FROM run)"
@@ -126,9 +128,11 @@ class Book:  # pylint: disable=too-many-public-methods  # one for each thing tha
     def erase(self, people: Iterable[str]) -> None:
         """Erases all that the file has of people."""
         if self.path.exists():
+            erased = [(person,) for person in people]
             with self.opened() as database:
+                count_gone(database, erased)
                 for table in ("address", "message", "told", "earlier", "receipt"):
-                    database.executemany(f"DELETE FROM {table} WHERE person = ?", [(person,) for person in people])
+                    database.executemany(f"DELETE FROM {table} WHERE person = ?", erased)
 
     def has(self, person: str) -> dict[str, Any]:
         """All that the file has of a person."""
@@ -191,8 +195,14 @@ class Book:  # pylint: disable=too-many-public-methods  # one for each thing tha
     def forget_uncertain(self, kind: str, number: int, turn: int) -> None:
         """Takes uncertain messages for such that were not sent."""
         with self.opened() as database:
-            database.execute("DELETE FROM message WHERE kind = ? AND round = ? AND turn = ? AND state = ?",
-                             (kind, number, turn, UNCERTAIN))
+            for table in ("message", "gone"):
+                database.execute(f"DELETE FROM {table} WHERE kind = ? AND round = ? AND turn = ? AND state = ?",
+                                 (kind, number, turn, UNCERTAIN))
+
+    def gone(self, kind: str, number: int, turn: int | None = None) -> dict[str, int]:
+        """How many messages of a turn, or of all turns, have which outcome, whose people were erased since."""
+        return dict(self.rows("SELECT state, sum(count) FROM gone WHERE kind = ? AND round = ? AND turn = coalesce(?, turn) "
+                              "GROUP BY state", kind, number, turn))
 
     def erased(self, kind: str, number: int) -> bool:
         """Whether messages of a kind in a round are forgotten, and there are none since. There can be some again after a way back
@@ -228,7 +238,8 @@ class Book:  # pylint: disable=too-many-public-methods  # one for each thing tha
         with self.opened() as database:
             database.execute("UPDATE run SET state = ?, why = ?, at = ?", (state, why, now()))
             if state == ENDED:
-                database.execute(f"DELETE FROM message WHERE {OF_RUN} AND state = ?", (WAITING,))
+                for table in ("message", "gone"):
+                    database.execute(f"DELETE FROM {table} WHERE {OF_RUN} AND state = ?", (WAITING,))
                 bring_earlier(database)
 
     def waiting(self) -> str:
@@ -271,6 +282,18 @@ class Book:  # pylint: disable=too-many-public-methods  # one for each thing tha
             return [person for person, in found]
 
 
+def count_gone(database: sqlite3.Connection, people: list[tuple[str]]) -> None:
+    """Counts the messages of people who are about to be erased, so that the numbers of a message stay what they are. Of one that is
+    on its way nobody knows what becomes of it; one that was to replace another one leaves that one."""
+    for person in people:
+        found = database.execute("SELECT kind, round, turn, message.state, earlier.state FROM message "
+                                 "LEFT JOIN earlier USING (kind, round, turn, person) WHERE person = ?", person).fetchall()
+        for *key, state, before in found:
+            counted = before if state == WAITING and before else UNCERTAIN if state == BEGUN else state
+            database.execute("INSERT INTO gone VALUES (?, ?, ?, ?, 1) ON CONFLICT(kind, round, turn, state) "
+                             "DO UPDATE SET count = count + 1", (*key, counted))
+
+
 def set_aside(database: sqlite3.Connection, key: tuple[str, int, int], people: list[str]) -> None:
     """Sets the messages aside that people have got, or may have got, and that those of a run are to replace."""
     database.execute("DELETE FROM earlier")
@@ -308,5 +331,5 @@ def forget_old(database: sqlite3.Connection, number: int) -> None:
     database.execute("INSERT INTO setting SELECT ? || kind, max(round) FROM message WHERE round < ? GROUP BY kind "
                      "ON CONFLICT(name) DO UPDATE SET value = max(CAST(value AS INTEGER), CAST(excluded.value AS INTEGER))",
                      (ERASED, number - 1))
-    for table in ("message", "told", "earlier", "turn"):
+    for table in ("message", "told", "earlier", "turn", "gone"):
         database.execute(f"DELETE FROM {table} WHERE round < ?", (number - 1,))

@@ -98,8 +98,10 @@ class Receipts:  # pylint: disable=too-many-instance-attributes  # the parts of 
                 self.book.begin_round(self.worker.view.rows()["number"], {})
 
     def waiting(self) -> list[str]:
-        """Who waits for a receipt."""
-        return [person for person, entry in self.book.entries().items() if entry.now != entry.told]
+        """Who waits for a receipt: not who has no address, or leaves, since they get none."""
+        addresses = self.book.book.addresses()
+        return [person for person, entry in self.book.entries().items()
+                if entry.now not in (entry.told, LEAVES) and person in addresses]
 
     # --- the thread
 

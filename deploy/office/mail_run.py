@@ -66,9 +66,10 @@ class Sender:
         return self.planned[1]
 
     def count(self, run: Run) -> dict[str, int]:
-        """How many messages of a run have which outcome."""
+        """How many messages of a run have which outcome, also of people who were erased since. Nobody of these waits."""
         states = [state for state, *_ in self.book.states(run.kind, run.round, run.turn).values()]
-        return {state: states.count(state) for state in OUTCOMES}
+        gone = {**self.book.gone(run.kind, run.round, run.turn), WAITING: 0}
+        return {state: states.count(state) + gone.get(state, 0) for state in OUTCOMES}
 
     def begin(self) -> None:
         """Starts the thread."""

@@ -3,9 +3,11 @@
 A kind is an object of: now: whether it can be sent; turn; people: how many it is for; to: who would get it; gets: how many of these
 in each language; no_address; sent, refused, uncertain: the person, the time and why of each; texts: subject and body by language;
 own: the languages in which clerks have written one; default: the language of all others; mark: of texts and turn; erased: whether
-messages of this round were sent and forgotten, before a way back to it. That of receipts has also on, why and waiting. The others
-have, in the form of sent: changed, whose message is no longer right since results were published anew, and who would get it again;
-and others, who has it, and for whom it is not any more.
+messages of this round were sent and forgotten, before a way back to it; gone: by outcome, to how many people who were erased since.
+That of receipts has also on, why and waiting; and,
+in the form of sent, elsewhere: those of other rounds of which nobody knows whether they were sent. The others have, in the form of
+sent: changed, whose message is no longer right since results were published anew, and who would get it again; and others, who has
+it, and for whom it is not any more.
 """
 
 import collections
@@ -27,6 +29,7 @@ from seen import Rows
 # What is said with the message at which it stopped, by how that one stands now.
 OF_MESSAGE = {WAITING: AWAY, UNCERTAIN: UNKNOWN}
 CHANGED, OTHERS = "changed", "others"  # what was sent, and is not right any more
+ELSEWHERE = "elsewhere"  # receipts of other rounds of which nobody knows whether they were sent
 HAVE = (SENT, UNCERTAIN, BEGUN, WAITING)  # a further press sends nothing to these
 
 
@@ -51,6 +54,7 @@ class State:
                  for state in (SENT, REFUSED, UNCERTAIN, CHANGED, OTHERS)}
         return {"now": now, "turn": turn, "people": len(people), "to": next_ones, "gets": self.gets(texts, next_ones),
                 "no_address": [one for one in people if one not in addresses], "erased": self.book.erased(kind, number),
+                "gone": self.book.gone(kind, number, None if kind == RECEIPT else turn),
                 **(self.of_receipts(texts, rows, addresses) if kind == RECEIPT else found),
                 "texts": texts.each, "own": sorted(texts.own), "default": texts.default,
                 "mark": hashlib.sha256(json.dumps([texts.each, texts.default, turn]).encode()).hexdigest()[:16]}
@@ -77,8 +81,8 @@ class State:
         """How it stands with receipts: who has an address can get one."""
         wanted, people = self.receipts.book.wanted(), [row[0] for row in rows["people"]]
         with_address = [one for one in people if one in addresses]
-        found = {state: [[one, at, said(why)] for one, at, why in rest]
-                 for state, rest in self.receipts.book.states(rows["number"]).items()}
+        states = {**self.receipts.book.states(rows["number"]), ELSEWHERE: self.receipts.book.uncertain_elsewhere(rows["number"])}
+        found = {state: [[one, at, said(why)] for one, at, why in rest] for state, rest in states.items()}
         return {**found, "people": len(people), "gets": self.gets(texts, with_address),
                 "no_address": [one for one in people if one not in addresses],
                 "on": wanted.on, "who": wanted.who,
@@ -93,7 +97,7 @@ class State:
         lost = run.state == RUNNING and not self.sender.is_at_work()
         state, why = (PAUSED, UNWRITTEN) if lost else (run.state, run.why)
         waits = [one for one, (was, *_) in self.book.states(run.kind, run.round, run.turn).items() if was == WAITING]
-        return {"kind": run.kind, "round": run.round, "who": run.who, "state": state, "at": run.at, "waits": waits,
+        return {"kind": run.kind, "round": run.round, "gone": self.book.gone(run.kind, run.round, run.turn), "who": run.who, "state": state, "at": run.at, "waits": waits,
                 "why": self.stopped(why, run.kind, run.round), "erased": self.book.erased(run.kind, run.round),
                 **self.sender.count(run)}
 

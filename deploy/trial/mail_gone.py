@@ -13,6 +13,7 @@ sys.dont_write_bytecode = True
 
 # pylint: disable=wrong-import-position  # nothing may be written before
 from mail_server import MailServer
+from office_forms import flat
 from office_mail import FORM, PEOPLE, holds, logs_of, mail_of, press, rest, settle_mail
 from office_requests import Page
 from stand import Stand, check
@@ -55,6 +56,7 @@ def try_gone(stand, page):
     said = stand.command("about", "T04")[1]
     check("and so has the clerk's command", f"mail address {mail_of('T04')}" in said and "results of round 1, sent" in said, said)
     try_removal_question(stand, page)
+    numbers = {name: stand.ask(ask="mail")["run"][name] for name in ("sent", "waiting", "refused", "uncertain")}
     stand.office("remove T04")
     check("a person who is removed has no address", not holds(stand, "mail.db*", mail_of("T04"))
           and stand.ask(ask="about", person="T04")["mail"] == NOTHING)
@@ -67,6 +69,14 @@ def try_gone(stand, page):
     shown = page.form("/office/many", {"act": "remove", "text": "T06 T07"}, page="/office/many")[2]
     page.post("/office/many/do", dict(re.findall(r'type="hidden" name="(token|seen|held)" value="([^"]*)"', shown)))
     check("so are many", not holds(stand, "mail.db*", mail_of("T06")) and not holds(stand, "mail.db*", mail_of("T07")))
+    run = stand.ask(ask="mail")["run"]
+    check("the numbers of the run stay what they were", numbers["sent"] == len(PEOPLE) and {name: run[name] for name in numbers}
+          == numbers, (numbers, run))
+    shown = flat(page.get(f"{FORM}/results")[2])
+    check("and the page says whose names it has no more", "Have got it: 12 T01 Person T01, " in shown
+          and "4 people who are out of the register since: their names are erased" in shown, shown)
+    shown = flat(page.get(FORM)[2])
+    check("as the run does", "Handed to the mail server 12 Wait 0 " in shown, shown)
     copy = stand.ask(ask="backup")["name"]
     check("no copy of the office has an address", not holds(stand, f"backups/{copy}/*", "@college.example"))
 

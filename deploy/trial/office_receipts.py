@@ -26,6 +26,7 @@ ROOMS = [f"A-{number}" for number in range(1, 7)]
 RECEIPTS = f"{FORM}/receipt"
 SECONDS = 3  # after which a receipt is sent here
 LONG = SECONDS + 3
+NOBODYS = PEOPLE[-1]  # who has no address
 NO_ROOM = "There is no room on your list in round {number}, as of about {{time}}: the list is empty, or there is none."
 
 
@@ -116,11 +117,13 @@ def try_bad_days(stand, page, server):
     """The mail server is away, or refuses."""
     server.forget()
     server.stop()
-    for person in ("T06", "T07"):
+    for person in ("T06", "T07", NOBODYS):
         hand_in(stand, key_of(person), ROOMS[:1])
     until(lambda: state(stand)["why"], 60, "the stop of receipts")
     waiting = state(stand)["waiting"]
     check("without a mail server receipts stop, and those who wait are not lost", waiting == ["T06", "T07"], waiting)
+    shown = flat(page.get(RECEIPTS)[2])
+    check("who has no address does not wait, and is not counted", "Wait 2 Begun by" in shown, shown)
     shown = page.get(FORM)[2]
     check("the page of mail says why", "No receipts are sent: the mail server takes no mail: it does not answer" in shown, shown)
     server.start()
@@ -240,6 +243,25 @@ def try_withdrawn(stand, server):
     check("and another withdrawal is one", "You have withdrawn from round 2" in texts_of(server, "T06")[-1], server.went())
 
 
+def try_uncertain_elsewhere(stand, page, server):
+    """Who may not have got a receipt is named once the next round is open, too."""
+    server.forget()
+    server.slow = 4
+    hand_in(stand, key_of("T10"), ROOMS[:4])
+    until(lambda: server.got, 60, "a receipt that is on its way")
+    stand.kill_keeper()
+    server.slow = 0
+    stand.start()
+    said_of = r"Nobody knows whether these got it: 1 T10 Person T10, .*Count them as not sent"
+    check("an uncertain receipt is named in its round", re.search(said_of, flat(page.get(RECEIPTS)[2])), flat(page.get(RECEIPTS)[2]))
+    for line in ("cancel", "open"):
+        stand.office(line)
+    shown = flat(page.get(RECEIPTS)[2])
+    check("and in the next one, where it is not sent again", "got theirs in another round: 1 T10 Person T10, " in shown
+          and "none of these is sent again. Ask these people." in shown and "Count them as not sent" not in shown, shown)
+    check("but does not count as one of that round", state(stand)["uncertain"] == [], state(stand))
+
+
 def entries(stand):
     """What the file of the mail has of lists."""
     with contextlib.closing(sqlite3.connect(stand.data / "mail.db")) as database:
@@ -277,6 +299,7 @@ def try_office_receipts(program):
         try_ended(stand, page, server)
         try_rounds(stand, server)
         try_withdrawn(stand, server)
+        try_uncertain_elsewhere(stand, page, server)
         try_end(stand, page, server)
         check("no address, name or key is in a log or in the journal", not logs_of(stand), logs_of(stand))
 
