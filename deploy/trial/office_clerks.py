@@ -17,11 +17,12 @@ sys.dont_write_bytecode = True
 
 # pylint: disable=wrong-import-position  # nothing may be written before
 from between import Between
+from office_forms import flat
 from office_requests import Page, hand_in
 from stand import Stand, check, key_of, until
 
 ROOMS = [f"A-{number}" for number in range(101, 121)]
-PEOPLE = [f"T{number:02}" for number in range(1, 11)]
+PEOPLE = [f"T{number:02}" for number in range(1, 14)]
 STALE = "was changed after you looked"
 SEEDS = {name: name * 64 for name in "abc"}
 
@@ -173,7 +174,7 @@ def try_lists(stand, anna, bert, between):
           and stand.recorded().get("T08") == ["A-111"], stand.recorded())
     try_between(stand, anna, between)
     try_back_between(stand, anna, between)
-    try_many(stand, anna, bert)
+    try_many(stand, anna, bert, between)
 
 
 def waiting(stand):
@@ -231,7 +232,7 @@ def try_back_between(stand, anna, between):
           "was started anew" in shown and STALE not in shown and "<form" in shown, shown[:2500])
 
 
-def try_many(stand, anna, bert):
+def try_many(stand, anna, bert, between):
     """Many people at once, one of whom somebody else has changed meanwhile."""
     shown = anna.form("/office/many", {"act": "withdraw", "text": "T09 T10"}, page="/office/many")[2]
     held = held_in(shown)
@@ -240,6 +241,13 @@ def try_many(stand, anna, bert):
     shown = anna.get("/office/register")[2]
     check("many people are not changed if somebody has changed one of them",
           STALE in shown and not person_of(stand, "T09")[4], shown[:2500])
+    check("who that is the page says", "Changed since you looked: T10." in shown, shown[:2500])
+    held = held_in(anna.form("/office/many", {"act": "withdraw", "text": "T11 T03 T13"}, page="/office/many")[2])
+    between.before_next(between.by_hand("going T03"))
+    anna.form("/office/many/do", {"held": held, "sure": "yes"}, page="/office/many")
+    shown = flat(anna.get("/office/register")[2])
+    check("a refusal of one of many names whose it is", "done for the first 1 of 3 people" in shown
+          and "T03: This person leaves the college at the end of the round." in shown, shown[:2500])
 
 
 def try_gone_back(stand, anna, bert):

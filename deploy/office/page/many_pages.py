@@ -26,13 +26,14 @@ class Bundle(NamedTuple):
 
 
 class Many(NamedTuple):
-    """Lines for many people that were tried and wait for the clerk's yes. If those alone are meant who have no list on record,
-    `marks` has what was on record of each."""
+    """Lines for many people that were tried and wait for the clerk's yes, and the mark of what was on record of each. `unlisted` if
+    those alone are meant who have no list on record."""
 
     act: str
     idents: list[str]
     bundle: Bundle
-    marks: dict[str, str] | None = None
+    marks: dict[str, str]
+    unlisted: bool
 
 
 class Proposed(NamedTuple):
@@ -113,7 +114,7 @@ def many_held(name: str) -> str:
     """The form with identifiers that the page holds: they are proposed for new keys, or wait for a yes and are sent again."""
     office, found = office_now(), memory.held(clerk(), name)
     if isinstance(found, Many):
-        return show_many(office, acts_for(office), "\n".join(found.idents), [], act=found.act, unlisted=found.marks is not None)
+        return show_many(office, acts_for(office), "\n".join(found.idents), [], act=found.act, unlisted=found.unlisted)
     if not isinstance(found, Proposed):
         go_to("/office/many")
     return show_many(office, {KEYS: _(ACTS[KEYS][1])}, "\n".join(found.idents), [])
@@ -133,12 +134,24 @@ def look_at_many() -> str:
     faults = wrong_with(office, act, idents, act in acts)
     job = None
     if not faults:
-        marks = {one: office.saw("all", one).mark for one in idents} if unlisted else None
-        job = Many(act, idents, bundle_of(office, act, idents), marks)
+        bundle = bundle_of(office, act, idents)
+        job = Many(act, idents, bundle, marks_of(office, bundle.saw.part, idents), unlisted)
         answers = attempt(*job.bundle.lines) if job.bundle.lines else []
         if answers and answers[-1].status:
             faults, job = [refused_at(job.bundle.lines[len(answers) - 1], answers[-1])], None
     return show_many(office, acts, text, faults[:20], job, act, unlisted)
+
+
+def marks_of(office: Office, part: str, idents: list[str]) -> dict[str, str]:
+    """The mark of what is on record of each of these people."""
+    return {one: office.saw(part, one).mark for one in idents if one in office.people}
+
+
+def changed_since(job: Many) -> list[str]:
+    """Of whom something else is on record than when the clerk looked. After a start of the keeper nobody knows it of keys."""
+    now = marks_of(office_now(), job.bundle.saw.part, job.idents)
+    return [one for one, mark in job.marks.items()
+            if now.get(one) != mark and mark.partition("-")[2] == now.get(one, mark).partition("-")[2]]
 
 
 def wrong_with(office: Office, act: str, idents: list[str], can_be_done: bool) -> list[str]:
@@ -170,12 +183,13 @@ def do_many() -> None:
     if job.act in AWAY:
         must_be_sure(f"/office/many/{name}")
     memory.let_go(clerk(), name)
-    job = without_listed(job) if job.marks else job
+    job = without_listed(job) if job.unlisted else job
     if job.act == KEYS:
         make_keys(job)
     came = carry_out(job.bundle) if job.bundle.lines else Came(len(job.idents), 0, "")
     if came.fault:
         tell("bad", ended_after(came, len(job.idents)))
+        tell_changed(job, came)
         go_to("/office/register" if came.lines else sent_again(job))
     tell("good", ngettext("Done for one person.", "Done for {count} people.", len(job.idents)))
     go_to("/office/register")
@@ -184,7 +198,7 @@ def do_many() -> None:
 def without_listed(job: Many) -> Many:
     """The same without those who have handed in a list since. If something else was changed of the others, all stay, and the keeper
     says so."""
-    office, marks = office_now(), job.marks or {}
+    office, marks = office_now(), job.marks
     rest = unlisted_of(office, job.idents)
     if rest == job.idents or any(office.saw("all", one).mark != marks[one] for one in rest):
         return job
@@ -206,6 +220,7 @@ def make_keys(job: Many) -> None:
         reply = ask("keys", keys=keys, seen=field("seen"), saw=job.bundle.saw)
     except KeeperFault as fault:
         tell("bad", _("This could not be done. {fault}", fault=plain.begun(str(fault))))
+        tell_changed(job, Came(0, 0, str(fault)))
         go_to(sent_again(job))
     made, onward = job.idents[:reply["corrected"]], "/office/register"
     if "refused" in reply:
@@ -215,6 +230,12 @@ def make_keys(job: Many) -> None:
                       "ended: {why} The form behind the slips has the others.", people=len(made), count=len(job.idents), line=line,
                       why=plain.begun(why)))
     show_once([(ident, office.people[ident].name, keys[ident]) for ident in made], onward)
+
+
+def tell_changed(job: Many, came: "Came") -> None:
+    """Names those of whom something was changed meanwhile, if that is why nothing was done."""
+    if not came.people and (changed := changed_since(job)):
+        tell("bad", _("Changed since you looked: {people}.", people=", ".join(changed)))
 
 
 class Came(NamedTuple):
