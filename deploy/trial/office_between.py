@@ -102,6 +102,9 @@ def try_way_back(stand, page):
     place = f"/office/copies/{name}/back"
     form = page.hidden(place, place)
     hand_in(stand, key_of("T03"), ["A-3"])
+    shown = page.get(place)[2]
+    check("the button beside yes says what it does: its question is about going back", "No: leave the office as it is now" in shown
+          and "No, go back" not in shown, shown)
     page.post(place, form)
     shown = flat(page.get("/office/")[2])
     check("going back names whose list is lost", "had another list before, which does not count now: T03" in shown, shown)
@@ -264,6 +267,14 @@ def try_settling(stand, page, server):
     names = shown.partition("Have not got it: 3")[2].partition("</details>")[0]
     check("and to whom, and offers nothing but to give them up", all(f"Person {one}" in names for one in ("T01", "T03", "T04"))
           and 'value="give-up"' in shown and 'value="go-on"' not in shown, shown)
+    for person, count, said in (("T03", 2, "It waited for 1 person, too, who is out of the register since: the name is erased."),
+                                ("T04", 1, "It waited for 2 people, too, who are out of the register since: their names are"),
+                                ("T01", 0, "nothing waits any more. Give it up. It waited for 3 people, too,")):
+        home = next(row[2] for row in stand.ask(ask="view")["people"] if row[0] == person)
+        stand.ask(ask="do", lines=[*([f"leave {person}"] if home else []), f"remove {person}"])
+        shown = flat(page.get(FORM)[2])
+        check(f"once {person} is removed it says whose names are erased", said in shown
+              and (f"Have not got it: {count}" in shown) == ("Tell these people in another way" in shown) == bool(count), shown)
 
 
 def try_strangers(stand, page):

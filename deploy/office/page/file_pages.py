@@ -254,7 +254,7 @@ def ask_back(name: str) -> str:
     keys = ("newer", _("Keep the newer keys. Without this tick the old ones work again, also for somebody who has found or "
                        "copied one.")) if found["newer_now"] else None
     return put_question(office, Question(title, says, _("Yes: go back to this copy"), "/office/copies", saw=found["mark"],
-                                         facts=facts_of(found), choice=keys))
+                                         facts=facts_of(found), choice=keys, no=_("No: leave the office as it is now")))
 
 
 @app.post("/office/copies/<name>/back")

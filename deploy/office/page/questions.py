@@ -19,7 +19,8 @@ class Fact(NamedTuple):
 class Question(NamedTuple):
     """What happens, what the button of yes says, and where no leads. Yes goes to the question's own address. `saw` is
     the mark of what the clerk saw of a person, `tick` what the clerk has to tick before the yes counts, and `choice` the name
-    and the text of a box that the clerk may tick or not."""
+    and the text of a box that the clerk may tick or not. `no` is what the other button says, where "No, go back" could be taken for
+    a yes."""
 
     title: str
     says: list[str]
@@ -30,6 +31,7 @@ class Question(NamedTuple):
     tick: str = ""
     facts: tuple[Fact, ...] = ()
     choice: tuple[str, str] | None = None
+    no: str = ""
 
 
 def put_question(office: Office, question: Question) -> str:
