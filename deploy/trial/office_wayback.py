@@ -329,10 +329,27 @@ def try_given_up_twice(stand, page):
     shown, ticked = seen_at(page, older), boxes(page.get(older)[2])
     check("of whom the later round has something is named", "has something of these people, too: P04. They" in shown, shown)
     check("and not ticked", (ticked[("list", "P04")], ticked[("list", "P09")]) == (False, True), ticked)
+    try_damaged_later(stand, page, newer, older)
     send_as_it_is(page, older)
     check("the later list is not replaced", stand.recorded() == {"P09": ["A-109"]}, stand.recorded())
     send_as_it_is(page, newer)
     check("and comes back", stand.recorded() == {"P04": ["A-111"], "P09": ["A-109"]}, stand.recorded())
+
+
+def try_damaged_later(stand, page, newer, older):
+    """The copy of the later round is damaged: it is named, and keeps nothing from coming back that is in another copy."""
+    name = newer.rpartition("/")[2]
+    copy = stand.data / "backups" / name / "rooms.db"
+    whole = copy.read_bytes()
+    copy.write_bytes(whole[:8192] + b"\xff" * 4096 + whole[12288:])
+    status, _, shown = page.get(older)
+    check("a damaged copy of a later round keeps no earlier one from coming back", status == 200
+          and {("list", "P04"), ("list", "P09")} <= set(boxes(shown)) and "Bring this back" in shown, shown)
+    check("and is named", f"nobody knows of whom it has something, too: the copy {name} is damaged" in flat(shown), flat(shown))
+    status, _, shown = page.get(newer)
+    check("what is in the damaged copy itself is refused by its name", status == 503 and f"the copy {name} is damaged" in
+          flat(shown).replace("The copy", "the copy"), flat(shown))
+    copy.write_bytes(whole)
 
 
 def try_office_wayback(program):

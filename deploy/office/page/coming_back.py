@@ -35,6 +35,19 @@ class Had(NamedTuple):
     others: list[str]
     reopened: set[str]
 
+    @property
+    def people(self) -> set[str]:
+        """Of whom the round has something."""
+        return {*self.going, *self.withdrawn, *self.choices}
+
+
+class Later(NamedTuple):
+    """A round that was given up later than another one: of whom it has something, too, or why nobody knows that."""
+
+    number: int
+    people: list[str]
+    fault: str = ""
+
 
 class Back(NamedTuple):
     """What can come back, what is here already, and what cannot come back, with the reason of each.
@@ -163,15 +176,17 @@ def has_come_again(office: Office, ident: str) -> bool:
     return bool(office.choices.get(ident))
 
 
-def said_later(office: Office, copy: str) -> dict[int, list[str]]:
-    """By the number of a round that was given up after the one of this copy: of whom it has something, too. What they said last is
-    there, and would be replaced by what they had said before."""
-    later: dict[int, list[str]] = {}
+def said_later(office: Office, copy: str) -> list[Later]:
+    """The rounds that were given up after the one of this copy. What their people said last is there, and would be replaced by what
+    they had said before. A copy that is damaged has nothing that could come back, and keeps nothing else from coming back."""
+    later: list[Later] = []
     for given_up in rounds(office):
         if given_up.copy == copy:
             break
-        had = had_in(given_up.copy)
-        later[given_up.number] = sorted({*had.going, *had.withdrawn, *had.choices})
+        try:
+            later.append(Later(given_up.number, sorted(had_in(given_up.copy).people)))
+        except KeeperFault as fault:
+            later.append(Later(given_up.number, [], str(fault).rstrip(".")))
     return later
 
 
@@ -188,7 +203,7 @@ def all_missing(office: Office) -> list[tuple[GivenUp, str]]:
             continue
         if missing := missing_of(office, had, newer):
             found.append((given_up, missing))
-        newer |= {*had.going, *had.withdrawn, *had.choices}
+        newer |= had.people
     return found
 
 

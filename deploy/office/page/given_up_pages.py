@@ -76,13 +76,13 @@ def given_up(copy: str) -> str:
     """What of a round can come back, for the clerk to choose from."""
     office = office_now()
     found, back = round_of(office, copy), what_is_left(office, had_in(copy))
-    later = {number: [one for one in people if one in back.away or one in back.lists]
-             for number, people in said_later(office, copy).items()}
-    out = out_of(back, [one for people in later.values() for one in people])
+    later = [one._replace(people=[ident for ident in one.people if ident in back.away or ident in back.lists])
+             for one in said_later(office, copy)]
+    out = out_of(back, [ident for one in later for ident in one.people])
     parts = {"going": rows_of(office, back, back.going, out.idents), "withdrawn": rows_of(office, back, back.withdrawn, out.idents)}
     away = [row.ident for rows in parts.values() for row in rows if row.is_ticked]
     return show("given_up", office=office, given_up=found, back=back, parts=parts, lists=back.lists, out=out.lists,
-                later={number: listed(people) for number, people in later.items() if people},
+                later=[one for one in later if one.people or one.fault], listed=listed,
                 rest=away or back.lists_but(away) or back.longer, saw=office.saw("all", *back.away, *back.longer).mark,
                 others=[one for one in rounds(office) if one.copy != copy])
 
