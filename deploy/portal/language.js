@@ -62,7 +62,7 @@ function fillSwitch(select) {
 }
 
 // Of the college's notice, the span of this language, or else the first one.
-function chooseNotice(notice) {
+export function chooseNotice(notice) {
   const spans = [...notice.querySelectorAll(":scope > [lang]")];
   const shown = spans.find(span => span.lang === chosen) ?? spans[0];
   for (const span of spans) span.hidden = span !== shown;

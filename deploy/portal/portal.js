@@ -354,12 +354,12 @@ async function describeRooms() {
   if (desk.me !== null && desk.descriptions.size > 0) draw();
 }
 
-// What the clerks say may change while the page is open. If nothing has changed, nothing is drawn anew.
+// What the clerks say may change while the page is open. If nothing has changed, or it cannot be had, nothing is drawn anew.
 let toldBefore = "";
 
 async function takeTold() {
   const found = await toldFile(), now = JSON.stringify(found);
-  if (now === toldBefore) return;
+  if (found === null || now === toldBefore) return;
   toldBefore = now;
   desk.told = readTold(found);
   draw();

@@ -71,11 +71,11 @@ async function file(path) {
 // The administrator's file of rooms.
 export const roomsFile = () => file("/rooms.csv");
 
-// What the clerks say.
+// What the clerks say; null if it cannot be had now.
 export async function toldFile() {
   try {
-    return JSON.parse(await file("/told/told.json") || "{}");
+    return JSON.parse(await file("/told/told.json"));
   } catch {
-    return {};
+    return null;
   }
 }

@@ -2,7 +2,7 @@
 
 import { desk, isChanged, isChangedElsewhere, mayEdit, ROOMS_AT_ONCE, stateOf, takesPart } from "./desk.js";
 import { drawFilters, drawRentHint, filterRooms } from "./filters.js";
-import { hasText, language, text, texts } from "./language.js";
+import { chooseNotice, hasText, language, text, texts } from "./language.js";
 import { LONGEST_LIST } from "./memory.js";
 import { findRooms, stateText } from "./rooms.js";
 import { lineOf, noticeParts, picturesOf, untilText, wordsOf } from "./told.js";
@@ -121,13 +121,19 @@ function drawUntil() {
   byId("until").hidden = byId("until").textContent === "";
 }
 
-// The clerks' notice. If they have written none, that of index.html stays.
+let noticeOfPage = null;
+
+// The clerks' notice. If they have written none, or have taken it away, that of index.html is there.
 function drawNotice() {
-  const parts = noticeParts(language());
-  if (parts.length === 0) return;
-  byId("notice").replaceChildren(...parts.map(part =>
-    element("span", part.words, { className: "part", lang: part.language })));
-  byId("notice").hidden = false;
+  const notice = byId("notice"), parts = noticeParts(language());
+  noticeOfPage ??= [...notice.childNodes];
+  if (parts.length === 0) {
+    notice.replaceChildren(...noticeOfPage);
+    chooseNotice(notice);
+    return;
+  }
+  notice.replaceChildren(...parts.map(part => element("span", part.words, { className: "part", lang: part.language })));
+  notice.hidden = false;
 }
 
 // What is on record of the person.

@@ -168,6 +168,8 @@ def try_words(stand, page, other, resident):
           and "has changed since you opened the page" in text and told_of(stand)["contact"] == "bert", text[:2000])
     check("and what was written is not lost", ">Mine</textarea>" in text and 'value="anna"' in text, text[:3000])
     status, text = words(page, "Mine", "Meins", "anna", "".join(re.findall(r'name="saw" value="(\w+)"', text)))
+    now = flat(text.partition("<form")[0])
+    check("what stands there now is shown", "What residents read now" in now and "Bis 1. Juni." in now and "bert" in now, now)
     check("nor is it replaced by a second press", status == 200 and told_of(stand)["contact"] == "bert", text[:2000])
     for what, texts, said in (("a long notice", ("x" * 601, "", ""), "more than 600 signs"),
                               ("a long contact", ("", "", "x " * 150), "more than 200 signs"),
@@ -175,6 +177,12 @@ def try_words(stand, page, other, resident):
         status, text = words(page, *texts)
         check(f"{what} is refused, and stays in the form", status == 200 and said in text and texts[0] in text, text[:2000])
     check("none of them changed anything", told_of(stand)["notice"]["de"] == "Bis 1. Juni.")
+    saw = page.hidden(PLACE, f"{PLACE}/words")["saw"]
+    words(other, "", "", "")
+    status, text = words(page, english, "Bis 1. Juni.", "anna", saw)
+    now = flat(text.partition("<form")[0])
+    check("a notice that another clerk has taken away does not come back, and the page says that there is none", status == 200
+          and "There is no notice of the office's." in now and "Bis 1. Juni." not in now and not told_of(stand)["notice"], now)
     words(page, "", "", "")
     check("an empty notice is none", (told_of(stand)["notice"], told_of(stand)["contact"]) == ({}, ""))
 

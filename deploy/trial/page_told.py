@@ -21,7 +21,7 @@ import some_pictures
 from office_browser import Clerk
 from page_browser import DESK, PHONE, Page
 from page_looks import contrast, tree
-from stand import DEPLOY, Stand, check, key_of
+from stand import DEPLOY, Stand, check, key_of, until
 
 PLACE = "/office/told"
 ROOMS = [*(f"N-10{n}" for n in range(1, 10)), *(f"S-20{n}" for n in range(1, 6)), "OLD-1"]
@@ -192,6 +192,41 @@ def earlier_page(stand, shots):
         check("the browser complains of nothing", not odd, odd)
 
 
+def comes_to(page, text):
+    """Opens the page until the notice has a text: a server that was started just now may not answer yet."""
+    for _ in range(10):
+        page.open()
+        if page.waits(lambda: text in page.text("notice"), 2):
+            return True
+    return False
+
+
+def signs_in_to(page, text):
+    """Whether the page that is open has this notice once somebody has signed in."""
+    page.sign_in(key_of("T1"), "Tim Tan")
+    is_there = page.waits(lambda: page.text("notice") == text, 2)
+    if not is_there:
+        page.sign_out()
+    return is_there
+
+
+def taken_away(page, stand):
+    """The clerk takes the notice away: a page that is open has it no more, once it asks the server for anything."""
+    check("a page is open with the notice", comes_to(page, "31 May"), page.text("notice"))
+    answer = stand.ask(ask="tell-words", notice={}, contact="")
+    check("the clerk takes it away", "fault" not in answer, answer)
+    stand.end(stand.told)
+    check("as long as what the clerks say cannot be had, the page has what it knows", page.sign_in(key_of("T1"), "Tim Tan")
+          and "31 May" in page.text("notice"), page.text("notice"))
+    page.sign_out()
+    stand.start_told()
+    until(lambda: signs_in_to(page, "Of the administrator."), 60, "the administrator's notice in the page that stayed open")
+    Select(page.element("language")).select_by_value("de")
+    check("in any language", page.text("notice") == "Of the administrator.", page.text("notice"))
+    Select(page.element("language")).select_by_value("en")
+    page.sign_out()
+
+
 def nothing_odd(page):
     """What the browser has written down."""
     logged = [entry["message"] for entry in page.driver.get_log("browser")]
@@ -220,6 +255,7 @@ def try_page_told(program, shots):
             filters(page)
             pictures(page)
             damaged(page, stand)
+            taken_away(page, stand)
             nothing_odd(page)
         earlier_page(stand, shots)
 
