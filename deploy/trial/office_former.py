@@ -202,6 +202,15 @@ def try_page(stand, page):
     check("the page asks whether it is the same person", status == 200 and "P08 was the identifier of Person P08" in read
           and SAME in read and boxes(shown) == {("again", "P08"): False}, read)
     check("and nothing is lost of what was typed", all(f'value="{one}"' in shown for one in ("P08", "Hal Other", "A-101")), shown)
+    for wrong, said in (({"room": "A-999"}, "No room has this code."), ({"ident": "X-6"}, "Write an identifier"),
+                        ({"name": "x" * 61}, "The program does not understand this.")):
+        typed = {"ident": "X6", "name": "Fay Sixth", "room": "A-112", **wrong}
+        status, _, shown = page.form("/office/person", typed, page="/office/register")
+        check(f"a refusal of {wrong} loses nothing of what was typed", status == 200 and said in flat(shown)
+              and "X6" not in people(stand) and all(f'value="{one}"' in shown for one in typed.values()), shown)
+    typed = {"ident": "P08", "name": "Hal Other", "room": "A-999", "again": "P08"}
+    shown = page.form("/office/person", typed, page="/office/register")[2]
+    check("and asks again about the same person", boxes(shown) == {("again", "P08"): False}, shown)
     form = {"ident": "P09", "name": "Hal Other", "room": "A-101", "again": "P08"}
     shown = flat(page.form("/office/person", form, page="/office/register")[2])
     check("the word counts for one identifier alone", "P09 was the identifier of Person P09" in shown

@@ -222,16 +222,15 @@ def change_person(ident: str, act: str) -> None:
 @app.post("/office/person")
 def new_person() -> str:
     """Adds a person, and shows the key. If the identifier was somebody else's, the clerk gives another one, or says that it is the
-    same person: the box has the identifier that it speaks of."""
-    ident = text_of("ident").upper()
-    if not IDENTIFIER.fullmatch(ident):
-        tell("bad", _("Nothing was changed. {what_to_do}", what_to_do=_(plain.IDENTIFIER)))
-        go_to("/office/register")
-    name, home, key = text_of("name"), text_of("room").upper(), secrets.token_hex(16)
+    same person: the box has the identifier that it speaks of. If the person is not added, the form still has what was entered."""
+    ident, name, home, key = text_of("ident").upper(), text_of("name"), text_of("room").upper(), secrets.token_hex(16)
+    entered, again = {"ident": ident, "called": name, "room": home}, ticked("again")
     lines = [f"person {ident} {key} {name}", *([f"home {ident} {home}"] if home else [])]
     try:
-        if not change("do", lines=lines, again=ticked("again")):
-            go_to("/office/register")
+        if not IDENTIFIER.fullmatch(ident):
+            tell("bad", _("Nothing was changed. {what_to_do}", what_to_do=_(plain.IDENTIFIER)))
+        elif change("do", lines=lines, again=again):
+            show_once([(ident, name, key)], f"/office/person/{ident}")
     except WasAnothers as why:
-        return show("former", office=office_now(), ident=ident, called=name, room=home, why=why)
-    show_once([(ident, name, key)], f"/office/person/{ident}")
+        return show("former", office=office_now(), why=why, **entered)
+    return show("new_person_again", office=office_now(), asked=bool(again), **entered)
