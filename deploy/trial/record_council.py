@@ -1,8 +1,8 @@
 """Runs docs/council.md as it is: record_council.py PROGRAM.
 
 The record on the page has to be the one that an office writes after that year. Each block of commands is run in a
-folder of its own, which has the record and audit.py, and has to print what the block after it shows. With its own draw
-the year gives the results in examples/year.out, and the audit finds them right.
+folder of its own, which has the record and the audit's two files, and has to print what the block after it shows. With
+its own draw the year gives the results in examples/year.out, and the audit finds them right.
 """
 
 import os
@@ -61,7 +61,8 @@ def main(program: str) -> None:
         if made != record:
             sys.exit(f"not so: the record is\n{made}")
         (folder / "round.txt").write_text(record, encoding="utf-8")
-        shutil.copyfile(OFFICE / "audit.py", folder / "audit.py")
+        for name in ("audit.py", "audit_record.py"):
+            shutil.copyfile(OFFICE / name, folder / name)
         (folder / "bin").mkdir()
         (folder / "bin" / "rooms").symlink_to(program)
         environment = {**os.environ, "PATH": f"{folder / 'bin'}:/usr/bin:/bin", "PYTHONDONTWRITEBYTECODE": "1"}

@@ -23,6 +23,7 @@ import time
 from concurrent.futures import ProcessPoolExecutor
 
 import audit
+from audit_record import Record
 import record
 from record_draws import Drawing, Round
 from record_files import try_file, try_refusals
@@ -58,7 +59,7 @@ class Rounds(Trial):
 
     def record(self, drawn: Round, told: Told, text: str) -> None:
         """A record says what the program knows, its rehearsal gives the same answers, and the audit finds nothing."""
-        rows = audit.Record(text).rows()
+        rows = Record(text).rows()
         gone = {person for person, _, withdrawn, leaves in told.people if withdrawn or leaves}
         self.check(rows["rooms"] == told.rooms, "rooms", text, told)
         leavers = {row[0] for row in rows["going"]}
@@ -149,7 +150,7 @@ class Rounds(Trial):
         if not made:
             return
         false = planted(text, made.changed)
-        wrong = audit.Audit(audit.Record(false).rows())
+        wrong = audit.Audit(Record(false).rows())
         differences, broken = wrong.differences(), wrong.broken()
         for person, room in made.changed.items():
             got = found.got[person]
@@ -168,7 +169,7 @@ class Rounds(Trial):
 
     def command(self, drawn: Round, text: str) -> None:
         """The command itself: its statuses, the seed, and a wrong one."""
-        people = sorted(audit.Record(text).words)
+        people = sorted(Record(text).words)
         if not people:
             return
         status, said, _ = self.audit(text, people[0])
@@ -186,7 +187,7 @@ class Rounds(Trial):
             for status, said, _ in (self.audit(text, "--seed", other), self.audit(text.replace(drawn.seed, other))):
                 self.check(status == 1 and f"not those of the seed {other}" in said, "a wrong seed", status, said)
                 self.counts["wrong seeds"] += 1
-        made = plant(self.rng, audit.Audit(audit.Record(text).rows()), "exchange")
+        made = plant(self.rng, audit.Audit(Record(text).rows()), "exchange")
         if made:
             status, said, _ = self.audit(planted(text, made.changed))
             self.check(status == 1 and all(f"- {person} has " in said for person in made.changed), "status 1", said)

@@ -7,10 +7,12 @@ is led on from results that the audit refuses, and no room off a list counts as 
 import contextlib
 import os
 import re
+import shutil
 import signal
 import sqlite3
 import subprocess
 import sys
+import tempfile
 from pathlib import Path
 
 # The repository stays as it is.
@@ -31,6 +33,15 @@ def audit(record, *words):
     """What audit.py says of a record from standard input: its status, and its words."""
     done = subprocess.run([PYTHON, "-B", OFFICE / "audit.py", *words], input=record, capture_output=True, check=False)
     return done.returncode, done.stdout.decode() + done.stderr.decode()
+
+
+def try_alone(record):
+    """Without the file that reads the record the audit names that file, and says nothing of the round."""
+    with tempfile.TemporaryDirectory() as folder:
+        alone = shutil.copy(OFFICE / "audit.py", folder)
+        done = subprocess.run([PYTHON, "-B", alone, "-"], input=record, capture_output=True, check=False)
+        check("an audit without its other file names it", done.returncode == 2 and not done.stdout
+              and b"audit_record.py is missing" in done.stderr and b"Traceback" not in done.stderr, done)
 
 
 def try_seeds(record):
@@ -145,6 +156,10 @@ def try_refused(program):
         page.form("/office/draw", page="/office/draw")
         stand.office("run")
         record = page.form("/office/record", page="/office/record")[2].encode()
+        try_alone(record)
+        for name in ("audit.py", "audit_record.py"):
+            check(f"the page has {name}, which it hands out", page.get(f"/office/{name}")[2] == (OFFICE / name).read_text("utf-8")
+                  and f'href="/office/{name}"' in page.get("/office/record")[2])
         try_seeds(record)
         try_records(record)
         try_signs(record)

@@ -104,13 +104,13 @@ def record() -> bottle.HTTPResponse:
     return download(ask("record")["body"], f"round-{office_now().number}.txt", "text/plain; charset=utf-8")
 
 
-@app.get("/office/audit.py")
-def audit_download() -> bottle.HTTPResponse:
-    """The program of the audit."""
+@app.get("/office/<name:re:audit(_record)?>.py")
+def audit_download(name: str) -> bottle.HTTPResponse:
+    """The program of the audit, which is two files: the audit, and what reads the record."""
     module = explaining.audit_program()
     if module is None:
         return bottle.HTTPError(404)
-    return download(Path(str(module.__file__)).read_bytes(), "audit.py", "text/plain; charset=utf-8")
+    return download(Path(str(module.__file__)).with_name(f"{name}.py").read_bytes(), f"{name}.py", "text/plain; charset=utf-8")
 
 
 @app.get("/office/check-draw.html")
