@@ -149,8 +149,9 @@ class ReceiptBook:
 
     def uncertain_elsewhere(self, number: int) -> list[list[Any]]:
         """The uncertain receipts of other rounds than this one, as far as they are kept: the person, the time and why of each."""
-        return [list(row) for row in self.book.rows("SELECT person, at, why FROM message WHERE kind = ? AND round <> ? AND state = ? "
-                                                    "ORDER BY person, at", RECEIPT, number, UNCERTAIN)]
+        found = self.book.rows("SELECT person, at, why FROM message WHERE kind = ? AND round <> ? AND state = ? "
+                               "ORDER BY person, at", RECEIPT, number, UNCERTAIN)
+        return [list(row) for row in found]
 
     def forget_uncertain(self, number: int) -> None:
         """Takes uncertain receipts for such that were not sent: these people get a receipt again."""

@@ -97,7 +97,8 @@ class State:
         lost = run.state == RUNNING and not self.sender.is_at_work()
         state, why = (PAUSED, UNWRITTEN) if lost else (run.state, run.why)
         waits = [one for one, (was, *_) in self.book.states(run.kind, run.round, run.turn).items() if was == WAITING]
-        return {"kind": run.kind, "round": run.round, "gone": self.book.gone(run.kind, run.round, run.turn), "who": run.who, "state": state, "at": run.at, "waits": waits,
+        return {"gone": self.book.gone(run.kind, run.round, run.turn),
+                "kind": run.kind, "round": run.round, "who": run.who, "state": state, "at": run.at, "waits": waits,
                 "why": self.stopped(why, run.kind, run.round), "erased": self.book.erased(run.kind, run.round),
                 **self.sender.count(run)}
 

@@ -197,7 +197,8 @@ def try_other_branch(stand, settled, first):
     second, days = rounds(stand), stand.ask(ask="figures")["rounds"][0][1]
     copies = [name for name, _, said in stand.ask(ask="backups")["backups"] if said.startswith("before settle")]
     other = stand.ask(ask="back", name=settled)["name"]
-    check("after a way back to where another result was settled, the figures are those of it", rounds(stand) == first, rounds(stand))
+    check("after a way back to where another result was settled, the figures are of that one", rounds(stand) == first,
+          rounds(stand))
     check("with the day of its publication", stand.ask(ask="figures")["rounds"][0][1] == days)
     stand.ask(ask="back", name=other)
     check("and of the later one after the way back from there", rounds(stand) == second, rounds(stand))

@@ -253,7 +253,8 @@ def try_uncertain_elsewhere(stand, page, server):
     server.slow = 0
     stand.start()
     said_of = r"Nobody knows whether these got it: 1 T10 Person T10, .*Count them as not sent"
-    check("an uncertain receipt is named in its round", re.search(said_of, flat(page.get(RECEIPTS)[2])), flat(page.get(RECEIPTS)[2]))
+    shown = flat(page.get(RECEIPTS)[2])
+    check("an uncertain receipt is named in its round", re.search(said_of, shown), shown)
     for line in ("cancel", "open"):
         stand.office(line)
     shown = flat(page.get(RECEIPTS)[2])
