@@ -91,15 +91,15 @@ def tell_words() -> str:
     """Puts the notice and the contact on the residents' page. What cannot be put there stays in the form, with the mark of what
     its clerk saw: so a second press does not replace what another clerk has written meanwhile, either. What that is stands above
     the form, also that a notice was taken away: else it would look as if it were still there."""
-    told, marks = told_now()
-    known = languages_of(told["notice"])
+    known = languages_of(told_now()[0]["notice"])
     notice, contact = {language: lines_of(f"notice-{language}") for language in known}, text_of("contact")
     if tell_keeper("tell-words", _("The notice and the contact are on the residents' page."), notice=notice, contact=contact,
                    saw=field("saw")):
         go_to(PLACE)
-    return show("told_words", office=office_now(), notice=notice, contact=contact, noticed=known, told=told,
-                is_other=marks["words"] != field("saw"), marks={"words": field("saw")}, most_notice=LONGEST_NOTICE,
-                most_contact=LONGEST_CONTACT)
+    told, marks = told_now()
+    return show("told_words", office=office_now(), notice=notice, contact=contact,
+                noticed={**known, **languages_of(told["notice"])}, told=told, is_other=marks["words"] != field("saw"),
+                marks={"words": field("saw")}, most_notice=LONGEST_NOTICE, most_contact=LONGEST_CONTACT)
 
 
 # --- descriptions
