@@ -10,6 +10,7 @@ from collections.abc import Callable
 from pathlib import Path
 from typing import Any
 
+import times
 from copies import kept_copy
 from languages import _
 from machine_backup import KEPT
@@ -72,7 +73,7 @@ def entries_of(journal: Path, person: str, names: Names) -> list[dict[str, Any]]
                 number = str(entry.get("n", ""))
                 if number in changes:
                     changes[number].update({name: entry[name] for name in ("line", "answer", "status") if name in entry})
-                elif (any(named.search(str(entry.get(part, ""))) for part in ("line", "note", "answer"))
+                elif (any(named.search(times.without(str(entry.get(part, "")))) for part in ("line", "note", "answer"))
                       or names.are_in(str(entry.get("note", "")))):
                     found.append(entry)
                     if number:

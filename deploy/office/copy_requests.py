@@ -20,6 +20,7 @@ from beside_register import BesideRegister
 from branches import Branches, named_in
 from dates import Dates
 from figures_back import Brought
+from figures_kept import Round
 from given_up import given_up
 from going_back import GoingBack
 from job import Job, is_other, seen_in, text
@@ -129,6 +130,7 @@ class CopyRequests:
 
     def figures_back(self, name: str, before: str | None) -> Job:
         """Lets the figures be those of the office after the way back to a copy. Gives what went wrong, if anything."""
-        brought = Brought(self.journal, self.backups, name, before or "")
-        unkept = self.office.figures.went_back(lambda: brought.figures(self.worker.view.rows()))
+        def brought() -> dict[int, Round | None]:
+            return Brought(self.journal, self.backups, name, before or "").figures(self.worker.view.rows())
+        unkept = self.office.figures.went_back(brought)
         return {"unkept": unkept} if unkept else {}

@@ -12,6 +12,8 @@ from languages import N_, _
 
 COPY = "%Y%m%dT%H%M%SZ"
 LOCAL = re.compile(r"(\d{4})-(\d\d)-(\d\d)[T ](\d\d):(\d\d)")
+# A time or a day, as the journal has it and as the name of a copy.
+WRITTEN = re.compile(r"\b\d{4}-\d\d-\d\d(?:[T ]\d\d:\d\d(?::\d\d)?)?(?:[+-]\d\d:\d\d)?|\b\d{8}T\d{6}Z(?:-\d\d)?")
 FORMS = {"year": "%Y", "month": "%m", "day": "%d", "hour": "%H", "minute": "%M", "second": "%S", "zone": "%Z"}
 # Zones that have another name in some languages.
 ZONES = (N_("UTC"), N_("GMT"), N_("BST"), N_("WET"), N_("WEST"), N_("CET"), N_("CEST"), N_("EET"), N_("EEST"))
@@ -44,6 +46,11 @@ def names() -> Iterator[str]:
 def made_at(copy: str) -> datetime.datetime:
     """When a copy was made, by its name."""
     return datetime.datetime.strptime(copy[:16], COPY).replace(tzinfo=datetime.timezone.utc)
+
+
+def without(text: str) -> str:
+    """A text without its times. Parts of one may be somebody's identifier: 2026-12-01 has 12."""
+    return WRITTEN.sub(" ", text)
 
 
 # --- as people read them

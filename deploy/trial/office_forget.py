@@ -109,6 +109,10 @@ def try_about(stand, page):
     check("and the page says why", "only between two rounds" in page.get("/office/about/Z1")[2])
     stand.office("settle")
     check("after the round the move", "Round 1: from A-1 to A-3" in page.get("/office/about/Z1")[2])
+    for line in ("the council on 2026-12-01 02:30", "a slip for 12 on 2027-01-01T09:00:00+02:00"):
+        stand.ask(ask="note", line=line)
+    noted = {one: [entry["note"][:6] for entry in stand.ask(ask="about", person=one)["journal"]] for one in ("12", "01", "02")}
+    check("a part of a time in the journal is nobody's identifier", noted == {"12": ["a slip"], "01": [], "02": []}, noted)
     shown = page.form("/office/about", {"about": "z1"}, page="/office/register")[2]
     check("an identifier is found by a form", "All about Zoe Zander (Z1)" in shown, shown)
     fields = page.form("/office/about", {"about": "Zoe Zander"}, page="/office/register")[1]
