@@ -17,7 +17,7 @@ sys.dont_write_bytecode = True
 
 # pylint: disable=wrong-import-position,wrong-import-order  # nothing may be written before
 from mail_server import MailServer
-from office_mail import FORM, NAME, PEOPLE, SENDER, kind_of, logs_of, mail_of, once_more, press, rest, settle_mail
+from office_mail import FORM, NAME, PEOPLE, SENDER, kind_of, logs_of, mail_of, once_more, press, rest, settle_mail, write_settings
 from office_requests import Page, hand_in
 from stand import HOST, OFFICE, Stand, check, key_of, until
 
@@ -133,7 +133,7 @@ def try_broken_settings(stand, page, server):
     server.forget()
     settle_mail(stand, server, **{"per-minute": "30"})
     press(page, "invitation")
-    (stand.folder / "mail.conf").write_text("server\n", encoding="utf-8")
+    write_settings(stand, "server\n")
     time.sleep(6)
     settle_mail(stand, server)
     run = rest(stand)

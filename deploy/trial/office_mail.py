@@ -36,8 +36,14 @@ def settle_mail(stand, mail_server, **others):
     """Writes the administrator's settings."""
     values = {"server": f"localhost:{mail_server.port}", "from": SENDER, "bounces-to": "bounces@college.example",
               "reply-to": "help@college.example", "per-minute": "6000", "seconds": "5", **others}
-    text = "\n".join(["[mail]", *(f"{name} = {value}" for name, value in values.items() if value), ""])
-    (stand.folder / "mail.conf").write_text(text, encoding="utf-8")
+    write_settings(stand, "\n".join(["[mail]", *(f"{name} = {value}" for name, value in values.items() if value), ""]))
+
+
+def write_settings(stand, text):
+    """Puts a file of settings in place at once: the keeper may read it at any moment."""
+    part = stand.folder / "mail.part"
+    part.write_text(text, encoding="utf-8")
+    part.replace(stand.folder / "mail.conf")
 
 
 def kind_of(stand, kind):
@@ -91,7 +97,7 @@ def try_settings(stand, server):
         settle_mail(stand, server, **wrong)
         answer = stand.ask(ask="mail")
         check(f"the setting {wrong} is refused by name", said in answer.get("fault", ""), answer)
-    (stand.folder / "mail.conf").write_text("server\n", encoding="utf-8")
+    write_settings(stand, "server\n")
     check("and so is a file that is none", "not written as it should be" in stand.ask(ask="mail")["fault"])
     settle_mail(stand, server)
     check("with good settings there is mail", stand.ask(ask="mail")["from"] == SENDER)
