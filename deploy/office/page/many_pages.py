@@ -234,7 +234,7 @@ def make_keys(job: Many) -> None:
 
 def tell_changed(job: Many, came: "Came") -> None:
     """Names those of whom something was changed meanwhile, if that is why nothing was done."""
-    if not came.people and (changed := changed_since(job)):
+    if not came.lines and (changed := changed_since(job)):
         tell("bad", _("Changed since you looked: {people}.", people=", ".join(changed)))
 
 
