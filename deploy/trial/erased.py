@@ -193,17 +193,20 @@ def try_faults():
         with mock.patch("placing.to_disk", side_effect=full):
             check("without the note nothing is erased", "Nothing was changed" in fault_of(anew.begin) and not anew.mark.exists())
         anew.begin()
-        for what, place, fault, said in (("a full disk", "placing.to_disk", full, "No space left on device"),
-                                         ("other rows", "anew.are_same", lambda *_: False, "is not the same office"),
-                                         ("a database that fails", "anew.rewrite", sqlite3.DatabaseError("malformed"), "malformed")):
-            with mock.patch.object(anew.program, "look", return_value=Answer("round 0 idle\n", 0)), mock.patch(place, side_effect=fault):
+        taken = mock.patch.object(anew.program, "look", return_value=Answer("round 0 idle\n", 0))
+        for what, place, fault, said in (
+                ("a full disk", "placing.to_disk", full, "No space left on device"),
+                ("other rows", "anew.are_same", lambda *_: False, "is not the same office"),
+                ("a database that fails", "anew.rewrite", sqlite3.DatabaseError("malformed"), "malformed")):
+            with taken, mock.patch(place, side_effect=fault):
                 why = anew.finish()
-            check(f"{what} is named, and the office is as it was", f"{said}" in why and rooms_of(settings.file) == ["OLD"]
-                  and anew.mark.exists() and "Nothing was changed" not in why, why)
+            check(f"{what}: the keeper says so, and the office is as it was", said in why and "Nothing was changed" not in why
+                  and rooms_of(settings.file) == ["OLD"] and anew.mark.exists(), why)
         with mock.patch.object(anew.program, "look", return_value=Answer("refused 21 NotAnOffice\n", 1)):
             check("and so is a file that the program refuses", "refused 21" in anew.finish() and anew.mark.exists())
-        with mock.patch.object(anew.program, "look", return_value=Answer("round 0 idle\n", 0)):
-            check("then the file is written anew", not anew.finish() and not anew.mark.exists() and rooms_of(settings.file) == ["OLD"])
+        with taken:
+            check("then the file is written anew", not anew.finish() and not anew.mark.exists()
+                  and rooms_of(settings.file) == ["OLD"])
 
 
 def try_erased(program):
