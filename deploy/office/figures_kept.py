@@ -121,7 +121,9 @@ class Kept:
         None where nobody knows them. Says what went wrong, if anything: the office is back."""
         def put(said: list[str]) -> None:
             old, new = self.known(said), brought()
-            self.write_if_other(old, {number: one for number, one in {**old, **new}.items() if one})
+            kept = {number: one for number, one in old.items() if number not in new}
+            kept.update({number: one for number, one in new.items() if one})
+            self.write_if_other(old, kept)
         return self.told(put)
 
     def told(self, write: Callable[[list[str]], None]) -> str:
