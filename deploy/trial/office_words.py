@@ -168,23 +168,26 @@ def try_own_texts(stand, page):
     page.form("/office/language", {"language": "en"}, page="/office/")
 
 
-def pressed_late(page, step):
-    """Two clerks press the same step at once. What the later one reads."""
+def pressed_late(stand, page, step, *lines):
+    """What a clerk reads who presses a step after the office has gone on by these lines, with the form of before."""
     form = page.hidden(f"/office/step/{step}")
-    page.form(f"/office/step/{step}", page=f"/office/step/{step}")
-    page.get("/office/")
+    for line in lines:
+        stand.office(line)
     page.post(f"/office/step/{step}", form)
     return seen_at(page, "/office/")
 
 
 def try_refusals(stand, page):
     """A refusal has the page's words, and speaks of what the clerk sees."""
-    shown = pressed_late(page, "publish")
-    check("who comes late reads how far the round is, in the words of the page", stand.ask(ask="view")["phase"] == "published" and
-          "The office has gone on. Round 1: the results are published. Nothing was changed. Look before you go on." in shown, shown)
+    stand.office("cancel")
+    stand.office("open")
+    shown = pressed_late(stand, page, "cancel", "close")
+    check("who comes late reads how far the round is, in the words of the page", stand.ask(ask="view")["phase"] == "closed" and
+          "The office has gone on. Round 2: the round is closed. Nothing was changed. Look before you go on." in shown, shown)
     page.form("/office/language", {"language": "de"}, page="/office/")
-    shown = pressed_late(page, "settle")
-    check("and in German, too", "Inzwischen ging es weiter. Es läuft keine Runde. Es wurde nichts geändert." in shown, shown)
+    stand.office("cancel")
+    shown = pressed_late(stand, page, "open", "open", "cancel")
+    check("and in German, too", "Inzwischen ging es weiter. Zurzeit läuft keine Runde. Es wurde nichts geändert." in shown, shown)
     page.form("/office/language", {"language": "en"}, page="/office/")
     before = stand.ask(ask="view")["people"]
     page.form("/office/person", {"ident": PEOPLE[0], "name": "Somebody Else"}, page="/office/register")

@@ -14,8 +14,8 @@ from keeper_client import KeeperFault
 from office_view import Office
 
 MOST_NAMED = 10
-# The labels of lists that come back. Whoever took no part in the round that was given up, and does now since the clerk has taken
-# them out, has a label of their own: so the office's file says whose list came back without a note or a withdrawal after it.
+# The labels of lists that come back. The lists of people whom the clerk has taken out, so that they take part again, have a label
+# of their own: so the office's file says whose list came back without a note or a withdrawal after it.
 LISTS, TAKES_PART = "choices", "takes-part"
 
 
