@@ -61,11 +61,9 @@ def try_named(page, left, link):
 
 def try_language(page, link):
     """The button of another language leads back to this page, and carries nothing of it."""
-    form = re.search('action="/office/language"(.*?)</form>', page.get(link)[2], re.DOTALL)
-    check("the button of another language leads back to this page", form and re.findall('name="back" value="([^"]*)"', form[1]) == [link],
-          form and form[1])
-    for person in LISTS:
-        check(f"and its form has nothing of {person}", person not in form[1], form[1])
+    form = page.get(link)[2].partition('action="/office/language"')[2].partition("</form>")[0]
+    check("the button of another language leads back to this page", re.findall('name="back" value="([^"]*)"', form) == [link], form)
+    check("and its form has nobody's list", not [person for person in LISTS if person in form], form)
 
 
 def try_office_halfway(program):

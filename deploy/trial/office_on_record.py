@@ -60,8 +60,8 @@ def try_empty(stand, page):
     held = re.findall(r'name="held" value="(\w+)"', shown)[-1]
     page.form("/office/lists/bring", {"held": held, "out": "T02"})
     shown = seen_at(page, "/office/lists")
-    check("whom the clerk leaves out keeps the empty list, and the page names them", stand.recorded() == {**OWN_FIRST, "T01": ["A-2"]}
-          and "You have left out T02" in shown and "with 1 line." in shown, (stand.recorded(), shown))
+    check("whom the clerk leaves out keeps the empty list, and the page names them", stand.recorded() == {
+        **OWN_FIRST, "T01": ["A-2"]} and "You have left out T02" in shown and "with 1 line." in shown, (stand.recorded(), shown))
     page.form("/office/lists/bring", {"held": held, "out": "T02"})
     check("it is in, and reads so", "The list paper-2 is in." in seen_at(page, "/office/lists"))
 

@@ -18,6 +18,7 @@ sys.dont_write_bytecode = True
 
 # pylint: disable=wrong-import-position  # nothing may be written before
 from office_again import flat
+from office_forms import flat as plain
 from office_forms import seen_at
 from office_requests import Page
 from stand import Stand, check, key_of, until
@@ -190,8 +191,7 @@ def try_refusals(stand, page):
     check("and in German, too", "Inzwischen ging es weiter. Zurzeit läuft keine Runde. Es wurde nichts geändert." in shown, shown)
     page.form("/office/language", {"language": "en"}, page="/office/")
     before = stand.ask(ask="view")["people"]
-    page.form("/office/person", {"ident": PEOPLE[0], "name": "Somebody Else"}, page="/office/register")
-    shown = seen_at(page, "/office/register")
+    shown = plain(page.form("/office/person", {"ident": PEOPLE[0], "name": "Somebody Else"}, page="/office/register")[2])
     check("of one new person the page speaks of no line", "This person is in the register already. Look the person up on the page "
           "People. If this is somebody else, write another identifier." in shown and "Take the line" not in shown, shown)
     page.form("/office/rooms", {"change": "room", "code": ROOMS[0]}, page="/office/rooms")

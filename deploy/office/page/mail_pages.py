@@ -90,8 +90,8 @@ def kind_page(kind: str, language: str = "", ident: str = "", written: Text | No
         shown = ask("mail-show", kind=kind, language=language, person=ident, link=residents_page(), subject=text.subject,
                     body=text.body)
     return show("mail_kind", office=office, mail=mail_now, kind=kind, of=KINDS[kind], state=state, text=text, chosen=ident,
-                waiting_in=waiting_in, shown=shown, language=language, name_of=name_of, back=f"{HOME}/{kind}/in/{language}", erased=erased,
-                most_subject=LONGEST_SUBJECT, most_body=LONGEST_BODY,
+                waiting_in=waiting_in, shown=shown, language=language, name_of=name_of, back=f"{HOME}/{kind}/in/{language}",
+                erased=erased, most_subject=LONGEST_SUBJECT, most_body=LONGEST_BODY,
                 saw=field("saw") if written else mark_of(state["texts"].get(language)))
 
 
