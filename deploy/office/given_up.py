@@ -12,13 +12,16 @@ from branches import Branches, named_in
 from copies import kept_copy
 from languages import _
 from office import Office
+from lines import IDENTIFIER
 from parting import Parting
 from register import going_in, withdrawn_in
-from rows import View, rows_of
+from rows import View, records_of, rows_of
 from seen import Rows
 from settings import Fault
 
 GIVE_UP, SETTLE = "cancel", "settle"  # the kinds of the copies that are made before a round is given up, or settled
+CHOICES = "choices"  # the kind of a list of lists
+KEPT_LISTS = "SELECT label, body FROM list WHERE kind = ?"
 
 
 def round_in(file: Path) -> tuple[int, str] | None:
@@ -55,10 +58,24 @@ def had_in(rows: Rows) -> dict[str, Any]:
             "withdrawn": withdrawn_in(rows), "going": going_in(rows)}
 
 
+def imported_since(office: Office, then: Rows, now: Rows) -> dict[str, list[str] | None]:
+    """The lists of choices that were imported since then, by label, and whose choices each has. Of one that was blanked nobody
+    knows that."""
+    had = {label for label, *_rest in then["lists"]}
+    blank = {label: bool(is_blank) for label, kind, _added, is_blank in now["lists"] if kind == CHOICES and label not in had}
+    if not blank:
+        return {}
+    with office.copies.copied() as file, contextlib.closing(sqlite3.connect(file)) as database:
+        bodies = dict(database.execute(KEPT_LISTS, (CHOICES,)))
+    return {label: None if is_blank else [person for person, *_rest in records_of(bodies[label]) if IDENTIFIER.fullmatch(person)]
+            for label, is_blank in blank.items() if label in bodies}
+
+
 def given_up(office: Office, view: View, name: str | None) -> dict[str, Any]:
-    """The rounds that were given up; or, with the name of the copy of one, what that round had, and whose identifiers may be
-    somebody else's by now."""
-    found = rounds(office.backups, view.rows())
+    """The rounds that were given up; or, with the name of the copy of one, what that round had, whose identifiers may be
+    somebody else's by now, and whose lists were imported since."""
+    now = view.rows()
+    found = rounds(office.backups, now)
     if name is None:
         return {"rounds": found}
     if name not in [copy for copy, _, _ in found]:
@@ -67,5 +84,5 @@ def given_up(office: Office, view: View, name: str | None) -> dict[str, Any]:
         rows = rows_of(copy)
     parting = Parting(office, Branches(office.journal.entries(whole=True)), name)
     # A list that came back before a room was reopened lacks it.
-    return {**had_in(rows), "others": sorted(parting.others_in(rows, view.rows())),
+    return {**had_in(rows), "others": sorted(parting.others_in(rows, now)), "imported": imported_since(office, rows, now),
             "reopened": sorted(named_in(parting.fork.before_other, "reopen"))}

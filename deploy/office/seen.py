@@ -28,10 +28,11 @@ RESTARTED = N_("The office's keeper was started anew after you looked, so nobody
 BACK = N_("The office went back to a copy after you looked, or was about to. Nothing was changed by you: look again, and decide "
           "again.")
 NEVER = "never"  # has the office gone back
-# How far a round is, as a refusal says it.
+# How far a round is, in words.
 STATES = {
-    "idle": N_("round {number} idle"), "open": N_("round {number} open"), "closed": N_("round {number} closed"),
-    "drawn": N_("round {number} drawn"), "ran": N_("round {number} ran"), "published": N_("round {number} published"),
+    "idle": N_("No round is under way"), "open": N_("Round {number}: the round is open"),
+    "closed": N_("Round {number}: the round is closed"), "drawn": N_("Round {number}: the order is drawn"),
+    "ran": N_("Round {number}: the rooms are given"), "published": N_("Round {number}: the results are published"),
 }
 
 
@@ -88,5 +89,5 @@ def why_stale(rows: Rows, seen: str | None, had: Saw | None) -> str:
         return _(BACK)
     if seen is not None and seen.partition(", back ")[0] != stamp(rows):
         now = _(STATES[rows["phase"]], number=rows["number"])
-        return _("the office has gone on: it is at {state} now. Nothing was changed. Look before you go on.", state=now)
+        return _("the office has gone on. {state}. Nothing was changed. Look before you go on.", state=now)
     return why_other(rows, had) if had is not None else ""

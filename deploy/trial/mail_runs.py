@@ -17,6 +17,7 @@ sys.dont_write_bytecode = True
 
 # pylint: disable=wrong-import-position,wrong-import-order  # nothing may be written before
 from mail_server import MailServer
+from office_forms import seen_at
 from office_mail import FORM, NAME, PEOPLE, SENDER, kind_of, logs_of, mail_of, once_more, press, rest, settle_mail, write_settings
 from office_requests import Page, hand_in
 from stand import HOST, OFFICE, Stand, check, key_of, until
@@ -104,6 +105,10 @@ def try_bad_days(stand, page, server):
     shown = page.get(FORM)[2]
     said = "The mail server takes no mail: it does not answer (Connection refused)" in shown and "Nothing is lost" in shown
     check("and the page says why", said, shown)
+    check("its table says that they wait", "0 sent, 13 wait to be sent, 0 to send, 2 without an address" in shown, shown)
+    shown = seen_at(page, f"{FORM}/invitation")
+    check("and so does the page of the message", "Get it now 0 Wait to be sent 13 Without an address 2" in shown
+          and "13 messages wait for the run that was stopped." in shown, shown)
     server.start()
     server.full = True
     page.form(f"{FORM}/run", {"act": "go-on"}, page=FORM)

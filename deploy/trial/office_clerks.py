@@ -247,7 +247,7 @@ def try_many(stand, anna, bert, between):
     anna.form("/office/many/do", {"held": held, "sure": "yes"}, page="/office/many")
     shown = flat(anna.get("/office/register")[2])
     check("a refusal of one of many names whose it is", "done for the first 1 of 3 people" in shown
-          and "T03: This person leaves the college at the end of the round." in shown, shown[:2500])
+          and "The line withdraw T03 is refused: This person leaves the college at the end of the round." in shown, shown[:2500])
 
 
 def try_gone_back(stand, anna, bert):

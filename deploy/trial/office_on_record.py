@@ -1,5 +1,5 @@
-"""Lists that the office put on record: no page, letter or mail says that the resident handed one in:
-/usr/bin/python3 deploy/trial/office_on_record.py PROGRAM.
+"""Lists that the office put on record: no page, letter or mail says that the resident handed one in; nor that something better was
+gone, if the own room stood first: /usr/bin/python3 deploy/trial/office_on_record.py PROGRAM.
 """
 
 import re
@@ -17,7 +17,8 @@ from office_again import flat as lines
 from office_requests import Page, hand_in
 from stand import Stand, check, key_of
 
-PEOPLE = ["T01", "T02", "T03"]
+PEOPLE = [f"T0{number}" for number in range(1, 6)]
+OWN_FIRST = {"T04": ["A-4", "A-5"], "T05": ["A-5"]}  # each with the own room first: T04 lists one below it, T05 nothing else
 
 
 def is_silent(page, path, *says):
@@ -29,13 +30,15 @@ def is_silent(page, path, *says):
 def try_open(stand, page):
     """While the round is open."""
     stand.office("open")
+    for person, rooms in OWN_FIRST.items():
+        stand.office(f"choose {person} {' '.join(rooms)}")
     page.form("/office/person/T01/choose", {"text": "A-2"}, page="/office/person/T01")
-    is_silent(page, "/office/", "Lists on record 1 of 3", "No list, or an empty one: 2")
-    check("nor does its picture", 'aria-label="Lists on record: 1 of 3"' in page.get("/office/")[2])
+    is_silent(page, "/office/", "Lists on record 3 of 5", "No list, or an empty one: 2")
+    check("nor does its picture", 'aria-label="Lists on record: 3 of 5"' in page.get("/office/")[2])
     is_silent(page, "/office/person/T01", "It replaces the list that is on record.")
     is_silent(page, "/office/person/T01/going", "A list that is on record of this person counts no more.")
     is_silent(page, "/office/lists", "replaces the list that is on record of this person")
-    is_silent(page, "/office/step/close", "2 of 3 participants have no list on record, or an empty one.")
+    is_silent(page, "/office/step/close", "2 of 5 participants have no list on record, or an empty one.")
     is_silent(page, "/office/mail/reminder", "everybody who takes part and has no list on record, or an empty one: 2")
     shown = lines(page.form("/office/lists", {"kind": "choices", "label": "paper"},
                             files={"list": b"person,choices\nT01,A-3\nT02,A-3\n"})[2])
@@ -57,8 +60,8 @@ def try_empty(stand, page):
     held = re.findall(r'name="held" value="(\w+)"', shown)[-1]
     page.form("/office/lists/bring", {"held": held, "out": "T02"})
     shown = seen_at(page, "/office/lists")
-    check("whom the clerk leaves out keeps the empty list, and the page names them", stand.recorded() == {"T01": ["A-2"]}
-          and "You have left out T02" in shown and "with 1 line." in shown, (stand.recorded(), shown))
+    check("whom the clerk leaves out keeps the empty list, and the page names them", stand.recorded() == {
+        **OWN_FIRST, "T01": ["A-2"]} and "You have left out T02" in shown and "with 1 line." in shown, (stand.recorded(), shown))
     page.form("/office/lists/bring", {"held": held, "out": "T02"})
     check("it is in, and reads so", "The list paper-2 is in." in seen_at(page, "/office/lists"))
 
@@ -76,8 +79,13 @@ def try_results(stand, page):
     is_silent(page, "/office/person/T03", "No list of T03 was on record, or an empty one, so T03 keeps A-1.")
     is_silent(page, "/office/letters", "You keep A-1, since no list of yours was on record, or an empty one.",
               "You get no room, since no list of yours was on record, or an empty one.")
+    for person, (room, *_below) in OWN_FIRST.items():
+        is_silent(page, f"/office/person/{person}", f"No room on the list stood above {room}, the own room, so {person} keeps it.")
+        is_silent(page, "/office/letters", f"You keep {room}, since no room on your list stood above it, your own room.")
+    for path in ("/office/person/T04", "/office/letters"):
+        check(f"{path} does not say that something better was gone", "better" not in seen_at(page, path), seen_at(page, path))
     is_silent(page, "/office/print", "Participants with no list on record, or an empty one")
-    is_silent(page, "/office/mail", "People with a mail address: 3 of 3.")
+    is_silent(page, "/office/mail", "People with a mail address: 5 of 5.")
     page.form("/office/step/settle", page="/office/step/settle")
     is_silent(page, "/office/", "The round is settled, with 1 move.")
 
@@ -85,7 +93,7 @@ def try_results(stand, page):
 def try_office_on_record(program):
     """All of it."""
     with MailServer() as server, Stand(program) as stand:
-        stand.fill(["A-1", "A-2", "A-3"], PEOPLE)
+        stand.fill([f"A-{number}" for number in range(1, 6)], PEOPLE)
         settle_mail(stand, server)
         stand.start()
         stand.start_page()
@@ -94,6 +102,8 @@ def try_office_on_record(program):
         stand.ask(ask="mail-addresses", addresses={one: mail_of(one) for one in PEOPLE})
         stand.office("home T01 A-3")
         stand.office("home T03 A-1")
+        for person, (room, *_below) in OWN_FIRST.items():
+            stand.office(f"home {person} {room}")
         try_open(stand, page)
         try_results(stand, page)
 

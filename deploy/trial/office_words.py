@@ -2,7 +2,7 @@
 
 The machine is in India, whose clocks are five and a half hours before UTC all year. All times are in its zone, and name it.
 A copy says in words why it was made. What somebody wishes for is in no reason and no journal, not even in those of an earlier
-version.
+version. A refusal has the words of the page.
 """
 
 import datetime
@@ -18,6 +18,8 @@ sys.dont_write_bytecode = True
 
 # pylint: disable=wrong-import-position  # nothing may be written before
 from office_again import flat
+from office_forms import flat as plain
+from office_forms import seen_at
 from office_requests import Page
 from stand import Stand, check, key_of, until
 
@@ -167,6 +169,39 @@ def try_own_texts(stand, page):
     page.form("/office/language", {"language": "en"}, page="/office/")
 
 
+def pressed_late(stand, page, step, *lines):
+    """What a clerk reads who presses a step after the office has gone on by these lines, with the form of before."""
+    form = page.hidden(f"/office/step/{step}")
+    for line in lines:
+        stand.office(line)
+    page.post(f"/office/step/{step}", form)
+    return seen_at(page, "/office/")
+
+
+def try_refusals(stand, page):
+    """A refusal has the page's words, and speaks of what the clerk sees."""
+    stand.office("cancel")
+    stand.office("open")
+    shown = pressed_late(stand, page, "cancel", "close")
+    check("who comes late reads how far the round is, in the words of the page", stand.ask(ask="view")["phase"] == "closed" and
+          "The office has gone on. Round 2: the round is closed. Nothing was changed. Look before you go on." in shown, shown)
+    page.form("/office/language", {"language": "de"}, page="/office/")
+    stand.office("cancel")
+    shown = pressed_late(stand, page, "open", "open", "cancel")
+    check("and in German, too", "Inzwischen ging es weiter. Zurzeit läuft keine Runde. Es wurde nichts geändert." in shown, shown)
+    page.form("/office/language", {"language": "en"}, page="/office/")
+    before = stand.ask(ask="view")["people"]
+    shown = plain(page.form("/office/person", {"ident": PEOPLE[0], "name": "Somebody Else"}, page="/office/register")[2])
+    check("of one new person the page speaks of no line", "This person is in the register already. Look the person up on the page "
+          "People. If this is somebody else, write another identifier." in shown and "Take the line" not in shown, shown)
+    page.form("/office/rooms", {"change": "room", "code": ROOMS[0]}, page="/office/rooms")
+    shown = seen_at(page, "/office/rooms")
+    check("nor of one new room", "This room is in the register already. Look at the page Rooms." in shown and "Take the line" not in
+          shown and stand.ask(ask="view")["people"] == before, shown)
+    shown = flat(page.form("/office/lists", {"kind": "rooms", "label": "again"}, files={"list": f"room\n{ROOMS[0]}\n".encode()})[2])
+    check("but of a list", "Take the line out of the list." in shown, shown)
+
+
 def try_office_words(program):
     """All of it."""
     with Stand(program, TZ="Asia/Kolkata") as stand:
@@ -181,6 +216,7 @@ def try_office_words(program):
         try_wishes(stand)
         try_times(stand, page)
         try_own_texts(stand, page)
+        try_refusals(stand, page)
         check("the page has noted no fault of its own", "rooms-page:" not in stand.log("page"), stand.log("page"))
 
 

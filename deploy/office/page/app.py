@@ -172,13 +172,16 @@ def go_to(address: str) -> NoReturn:
     raise HTTPResponse(status=303, headers={"Location": address})
 
 
-def show(view: str, **values: Any) -> str:
-    """A page of a template. `back` is where its clerk is led after choosing another language; without it there is no choice."""
+def show(view: str, back: str | None = None, **values: Any) -> str:
+    """A page of a template. `back` is the address to which its clerk is led after choosing another language: that of the page,
+    unless it is given. If it is empty, the page offers no choice."""
     # News is for a page that the clerk sees, and not for one that another site loads in a picture's place.
     news = memory.news(clerk(), began()) if request.get_header("Sec-Fetch-Dest", "document") == "document" else []
-    values = {"office": None, "back": request.path if request.method == "GET" else "", **values}
-    return views.render(view, token=token(), press=secrets.token_hex(8), clerk=clerk(), plain=plain, times=times, unbroken=unbroken,
-                        news=news, here=request.path, **values)
+    values = {"office": None, **values}
+    if back is None:
+        back = request.path if request.method == "GET" else ""
+    return views.render(view, back=back, token=token(), press=secrets.token_hex(8), clerk=clerk(), plain=plain, times=times,
+                        unbroken=unbroken, news=news, here=request.path, **values)
 
 
 def download(body: str | bytes, name: str, kind: str = "text/csv; charset=utf-8") -> HTTPResponse:

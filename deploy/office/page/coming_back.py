@@ -14,6 +14,9 @@ from keeper_client import KeeperFault
 from office_view import Office
 
 MOST_NAMED = 10
+# The labels of lists that come back. The lists of people whom the clerk has taken out, so that they take part again, have a label
+# of their own: so the office's file says whose list came back without a note or a withdrawal after it.
+LISTS, TAKES_PART = "choices", "takes-part"
 
 
 class GivenUp(NamedTuple):
@@ -25,8 +28,9 @@ class GivenUp(NamedTuple):
 
 
 class Had(NamedTuple):
-    """What a round had when it was given up, but for `others`, whose identifiers may be another person's by now; and the rooms
-    that were brought back into use since."""
+    """What a round had when it was given up, but for `others`, whose identifiers may be another person's by now; the rooms that
+    were brought back into use since; and the lists that were imported since, by label, with whose choices each has, if that is
+    known."""
 
     number: int
     withdrawn: list[str]
@@ -34,11 +38,17 @@ class Had(NamedTuple):
     choices: dict[str, list[str]]
     others: list[str]
     reopened: set[str]
+    imported: dict[str, list[str] | None]
 
     @property
     def people(self) -> set[str]:
         """Of whom the round has something."""
         return {*self.going, *self.withdrawn, *self.choices}
+
+    def may_be_away(self, ident: str) -> bool:
+        """Whether somebody's list may have come in by an import that was to be followed by a note or a withdrawal."""
+        lists = {label: whose for label, whose in self.imported.items() if whose is None or ident in whose}
+        return bool(lists) and not any(whose and label.startswith(TAKES_PART) for label, whose in lists.items())
 
 
 class Later(NamedTuple):
@@ -55,7 +65,8 @@ class Back(NamedTuple):
     `lists` has also the lists of those who may withdraw or leave again: they come back before that, as it was. Their people
     have no list on record now, or an empty one: the office's file has the same rows of both. `old` has all lists of that
     round, without rooms that nobody may list now. `longer` has those of which only a part is on record, since a room was
-    out of use when they came back, and is in use again.
+    out of use when they came back, and is in use again. `same` are people whose list on record is the one of that round, which
+    came in by an import: it says nothing of what they want now.
     """
 
     going: list[str]
@@ -65,6 +76,7 @@ class Back(NamedTuple):
     never: list[str]
     old: dict[str, list[str]]
     longer: dict[str, list[str]]
+    same: list[str]
 
     @property
     def away(self) -> list[str]:
@@ -93,12 +105,12 @@ def had_in(copy: str) -> Had:
     withdrawn, going = ([ident for ident in found[part] if ident not in others] for part in ("withdrawn", "going"))
     choices = {ident: wishes for ident, wishes in found["choices"].items() if ident not in others}
     lost = sorted(others.intersection(found["withdrawn"] + found["going"] + list(found["choices"])))
-    return Had(found["number"], withdrawn, going, choices, lost, set(found["reopened"]))
+    return Had(found["number"], withdrawn, going, choices, lost, set(found["reopened"]), found["imported"])
 
 
 def what_is_left(office: Office, had: Had) -> Back:
     """What of a round can come back into the round of now."""
-    back = Back([], [], {}, [], [], {ident: usable(office, wishes) for ident, wishes in had.choices.items()}, {})
+    back = Back([], [], {}, [], [], {ident: usable(office, wishes) for ident, wishes in had.choices.items()}, {}, [])
     back.never.extend(_("{person}: the identifier may be another person's by now.", person=ident) for ident in had.others)
     for ident in had.going:
         sort_in(ident, back.going, back, why_not(office, ident, "going"))
@@ -111,7 +123,7 @@ def what_is_left(office: Office, had: Had) -> Back:
         elif person.takes_part and not office.choices.get(ident):
             take_list(ident, wishes, back)
         elif person.takes_part:
-            compare_list(ident, wishes, office.choices[ident], had.reopened, back)
+            compare_list(ident, wishes, office.choices[ident], had, back)
     return back
 
 
@@ -159,21 +171,24 @@ def name_lost(ident: str, rooms: list[str], back: Back) -> None:
         back.never.append(_("{person}: of the list {rooms}, out of use.", person=ident, rooms=" ".join(rooms)))
 
 
-def compare_list(ident: str, wishes: list[str], now: list[str], reopened: set[str], back: Back) -> None:
+def compare_list(ident: str, wishes: list[str], now: list[str], had: Had, back: Back) -> None:
     """A list of somebody who has one on record. If that is a part of it, the rest was out of use when it came back; but if the rest
     was in use all the time, the person has taken it out."""
     back.here.append(_("{person}: a list", person=ident))
     if now != [code for code in wishes if code in now]:
         return
     lacks = {code for code in back.old[ident] if code not in now}
-    if lacks and lacks <= reopened:
+    if lacks and lacks <= had.reopened:
         back.longer[ident] = back.old[ident]
+    if lacks <= had.reopened and had.may_be_away(ident):
+        back.same.append(ident)
     name_lost(ident, [code for code in wishes if code not in now and code not in back.old[ident]], back)
 
 
-def has_come_again(office: Office, ident: str) -> bool:
-    """Whether somebody who took no part has a list now, and no empty one: they seem to want to take part."""
-    return bool(office.choices.get(ident))
+def has_come_again(office: Office, ident: str, back: Back) -> bool:
+    """Whether somebody who took no part has a list now, and no empty one: they seem to want to take part. A list that came back
+    says nothing: what was to follow it may have been stopped."""
+    return bool(office.choices.get(ident)) and ident not in back.same
 
 
 def said_later(office: Office, copy: str) -> list[Later]:
@@ -212,7 +227,7 @@ def missing_of(office: Office, had: Had, newer: set[str]) -> str:
     back = what_is_left(office, had)
     away = {N_("were to leave the college, and take part now ({people})"): back.going,
             N_("had withdrawn, and take part now ({people})"): back.withdrawn}
-    left = {what: [one for one in idents if not has_come_again(office, one)] for what, idents in away.items()}
+    left = {what: [one for one in idents if not has_come_again(office, one, back)] for what, idents in away.items()}
     left[N_("lists that are not back ({people})")] = list(back.lists_but(back.away))
     left[N_("lists without rooms that are in use again ({people})")] = list(back.longer)
     people = {what: [one for one in idents if one not in newer] for what, idents in left.items()}
@@ -224,15 +239,16 @@ def listed(idents: list[str]) -> str:
     return ", ".join(idents) if len(idents) <= MOST_NAMED else plain.people(len(idents))
 
 
-def bodies(lists: dict[str, list[str]]) -> list[tuple[list[str], bytes]]:
-    """Lists of choices as the program imports them, each with its people, and none longer than the program takes."""
-    parts: list[tuple[list[str], bytes]] = []
+def bodies(stem: str, lists: dict[str, list[str]]) -> list[tuple[str, list[str], bytes]]:
+    """Lists of choices as the program imports them, each with the stem of its label and its people, and none longer than the
+    program takes."""
+    parts: list[tuple[str, list[str], bytes]] = []
     people: list[str] = []
     body = head = line_of(plain.KINDS["choices"].header.split(",")).encode()
     for ident, wishes in lists.items():
         line = line_of([ident, " ".join(wishes)]).encode()
         if people and len(body) + len(line) > LONGEST_LIST:
-            parts.append((people, body))
+            parts.append((stem, people, body))
             people, body = [], head
         people, body = [*people, ident], body + line
-    return [*parts, (people, body)] if people else parts
+    return [*parts, (stem, people, body)] if people else parts

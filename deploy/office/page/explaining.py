@@ -30,13 +30,15 @@ class Gone(NamedTuple):
 
 class Facts(NamedTuple):
     """How the result of one participant came about, as the audit found it, and what its sentences need beside that. `out` has the
-    rooms that were not in the round, of those that the person would rather have had."""
+    rooms that were not in the round, of those that the person would rather have had. `own_first` says that no room on the list
+    stood above the own one: then none on it counts."""
 
     ident: str
     found: "audit.Facts"
     places: int
     home: str | None
     has_list: bool
+    own_first: bool
     out: list[str]
     gone: list[Gone]
     got: str | None
@@ -96,7 +98,8 @@ class Explainer:
         home, got, wishes = self.audit.home[ident], self.audit.got[ident], self.audit.handed_in[ident]
         end = min((wishes.index(room) for room in (got, home) if room in wishes), default=len(wishes))
         out = [room for room, _cause in found.struck if room in wishes[:end]]
-        return Facts(ident, found, len(self.place), home, bool(wishes), out, list(map(self.gone, found.gone)), got)
+        own_first = bool(wishes) and not self.audit.list[ident] and not out
+        return Facts(ident, found, len(self.place), home, bool(wishes), own_first, out, list(map(self.gone, found.gone)), got)
 
     def gone(self, found: "audit.Gone") -> Gone:
         """A better room, with what its sentence needs."""
@@ -140,15 +143,15 @@ def outcome_of(facts: Facts) -> str:
     if facts.found.choice:
         return _("In step {step}, {person} got {room}, choice {choice}.",
                  step=facts.found.step, person=facts.ident, room=facts.got, choice=facts.found.choice)
-    if facts.got:
-        text = (_("Nothing better on the list was left, so {person} keeps {room}.", person=facts.ident, room=facts.got)
-                if facts.has_list else
-                _("No list of {person} was on record, or an empty one, so {person} keeps {room}.", person=facts.ident,
-                  room=facts.got))
-    else:
-        text = (_("Nothing on the list was left, so {person} gets no room.", person=facts.ident) if facts.has_list else
+    if not facts.got:
+        return (_("Nothing on the list was left, so {person} gets no room.", person=facts.ident) if facts.has_list else
                 _("No list of {person} was on record, or an empty one, so {person} gets no room.", person=facts.ident))
-    return text
+    if facts.own_first:
+        return _("No room on the list stood above {room}, the own room, so {person} keeps it. What stands below the own room does "
+                 "not count.", person=facts.ident, room=facts.got)
+    return (_("Nothing better on the list was left, so {person} keeps {room}.", person=facts.ident, room=facts.got)
+            if facts.has_list else
+            _("No list of {person} was on record, or an empty one, so {person} keeps {room}.", person=facts.ident, room=facts.got))
 
 
 def to_whom(gone: Gone) -> str:
@@ -189,8 +192,11 @@ def your_outcome(facts: Facts) -> str:
     if facts.found.choice:
         return _("{room}, your choice {choice}, was the best room on your list that you could get.",
                  room=facts.got, choice=facts.found.choice)
-    if facts.got:
-        return (_("You keep {room}, since nothing better on your list was left.", room=facts.got) if facts.has_list else
-                _("You keep {room}, since no list of yours was on record, or an empty one.", room=facts.got))
-    return (_("You get no room, since nothing on your list was left.") if facts.has_list else
-            _("You get no room, since no list of yours was on record, or an empty one."))
+    if not facts.got:
+        return (_("You get no room, since nothing on your list was left.") if facts.has_list else
+                _("You get no room, since no list of yours was on record, or an empty one."))
+    if facts.own_first:
+        return _("You keep {room}, since no room on your list stood above it, your own room. What stands below your own room does "
+                 "not count.", room=facts.got)
+    return (_("You keep {room}, since nothing better on your list was left.", room=facts.got) if facts.has_list else
+            _("You keep {room}, since no list of yours was on record, or an empty one.", room=facts.got))

@@ -10,7 +10,8 @@ from seen import Saw, why_other
 
 import plain
 from app import app, ask, clerk, field, go_to, memory, office_now, show, tell, ticked
-from coming_back import Back, GivenUp, bodies, had_in, has_come_again, listed, rounds, said_later, what_is_left
+from coming_back import (LISTS, TAKES_PART, Back, GivenUp, bodies, had_in, has_come_again, listed, rounds, said_later,
+                         what_is_left)
 from keeper_client import KeeperFault, answers_of
 from list_pages import Job
 from many_pages import bundle_of, carry_out
@@ -59,13 +60,11 @@ def out_of(back: Back, later: list[str]) -> TakenOut:
 
 
 def rows_of(office: Office, back: Back, idents: list[str], out: list[str]) -> list[Row]:
-    """The people of a part of the form. People who have a list on record since are not ticked either; but if the clerk has chosen
-    before, and something stopped it once the lists were back, a list of then says nothing."""
-    found, has_chosen = [], "out" in dict(request.query)
+    """The people of a part of the form. People who have handed in a list since are not ticked either."""
+    found = []
     for ident in idents:
-        again = has_come_again(office, ident) and not (has_chosen and office.choices[ident] == back.old.get(ident))
         note = (_("Taken out: this does not come back") if ident in out else
-                _("Has a list on record in this round") if again else "")
+                _("Has a list on record in this round") if has_come_again(office, ident, back) else "")
         person = office.people[ident]
         found.append(Row(ident, person.name, person.home or _("no room"), not note, note))
     return found
@@ -81,7 +80,7 @@ def given_up(copy: str) -> str:
     out = out_of(back, [ident for one in later for ident in one.people])
     parts = {"going": rows_of(office, back, back.going, out.idents), "withdrawn": rows_of(office, back, back.withdrawn, out.idents)}
     away = [row.ident for rows in parts.values() for row in rows if row.is_ticked]
-    return show("given_up", office=office, given_up=found, back=back, parts=parts, lists=back.lists, out=out.lists,
+    return show("given_up", office=office, given_up=found, left=back, parts=parts, lists=back.lists, out=out.lists,
                 later=[one for one in later if one.people or one.fault], listed=listed,
                 rest=away or back.lists_but(away) or back.longer, saw=office.saw("all", *back.away, *back.longer).mark,
                 others=[one for one in rounds(office) if one.copy != copy])
@@ -104,7 +103,7 @@ def bring_back(copy: str) -> None:
     if why := why_other(office.view, Saw("all", [*back.away, *back.longer], field("saw"))):
         tell("bad", why)
         go_to(place)
-    came, before = Came(), office
+    came, before = Came(takes_part=out.idents), office
     if lists:  # before the withdrawals, as it was: nobody's list is lost by a way back later on
         office = office_now()
         came.take_lists(office, "lists", {ident: wishes for ident, wishes in back.lists.items()
@@ -120,11 +119,13 @@ def bring_back(copy: str) -> None:
 
 @dataclass
 class Came:
-    """What has come in so far, and the fault that has ended this, if any."""
+    """What has come in so far, and the fault that has ended this, if any. `takes_part` are people whose note or withdrawal does not
+    come back."""
 
     WORDS: ClassVar = {"going": N_("who leaves the college: {count} of {all}"), "withdraw": N_("withdrawals: {count} of {all}"),
                        "lists": N_("lists: {count} of {all}"), "longer": N_("rooms of lists: {count} of {all}")}
 
+    takes_part: list[str]
     done: list[str] = own(default_factory=list)
     fault: str = ""
 
@@ -139,9 +140,10 @@ class Came:
 
     def take_lists(self, office: Office, part: str, lists: dict[str, list[str]]) -> None:
         """Imports lists, under a label each if they are too long for one, unless one was handed in after the office was so."""
-        count = 0
-        for people, body in bodies(lists):
-            job = Job("choices", office_now().new_label("choices"), body, office.saw("list", *people))
+        count, again = 0, {ident: wishes for ident, wishes in lists.items() if ident in self.takes_part}
+        rest = {ident: wishes for ident, wishes in lists.items() if ident not in again}
+        for stem, people, body in [*bodies(TAKES_PART, again), *bodies(LISTS, rest)]:
+            job = Job("choices", office_now().new_label(stem), body, office.saw("list", *people))
             self.fault = self.fault or fault_of_list(job)
             if self.fault:
                 break

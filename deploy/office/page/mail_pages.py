@@ -45,10 +45,18 @@ def in_words(at: str) -> str:
     return times.in_words(datetime.datetime.fromisoformat(at))
 
 
+def waiting_in(run: dict[str, Any] | None, office: Office, kind: str) -> int:
+    """How many messages of this kind wait in a run of this round that is under way or was stopped. No other run sends these."""
+    if not run or run["state"] == "ended" or (run["kind"], run["round"]) != (kind, office.number):
+        return 0
+    return int(run["waiting"])
+
+
 @app.get(HOME)
 def mail() -> str:
     """Who has an address, what is being sent, and the kinds of messages."""
-    return show("mail", office=office_now(), mail=ask("mail"), kinds=KINDS, in_words=in_words, stamp_of=stamp_of)
+    return show("mail", office=office_now(), mail=ask("mail"), kinds=KINDS, in_words=in_words, stamp_of=stamp_of,
+                waiting_in=waiting_in)
 
 
 # --- a kind of message
@@ -82,8 +90,8 @@ def kind_page(kind: str, language: str = "", ident: str = "", written: Text | No
         shown = ask("mail-show", kind=kind, language=language, person=ident, link=residents_page(), subject=text.subject,
                     body=text.body)
     return show("mail_kind", office=office, mail=mail_now, kind=kind, of=KINDS[kind], state=state, text=text, chosen=ident,
-                shown=shown, language=language, name_of=name_of, back=f"{HOME}/{kind}/in/{language}", erased=erased,
-                most_subject=LONGEST_SUBJECT, most_body=LONGEST_BODY,
+                waiting_in=waiting_in, shown=shown, language=language, name_of=name_of, back=f"{HOME}/{kind}/in/{language}",
+                erased=erased, most_subject=LONGEST_SUBJECT, most_body=LONGEST_BODY,
                 saw=field("saw") if written else mark_of(state["texts"].get(language)))
 
 

@@ -7,6 +7,7 @@ from typing import NamedTuple
 
 from house_places import here
 from languages import N_, _, ngettext
+from seen import STATES
 
 HOUSE = here().house  # or nothing
 MOST_UNFOLDED = 40
@@ -79,17 +80,17 @@ PAGES = {
 }
 
 PHASES = {
-    "idle": Phase(N_("No round is under way"), N_("No round is under way"),
+    "idle": Phase(N_("No round is under way"), STATES["idle"],
                   N_("Bring rooms, people and homes up to date. Then open the round.")),
-    "open": Phase(N_("The round is open"), N_("Round {number}: the round is open"),
+    "open": Phase(N_("The round is open"), STATES["open"],
                   N_("Residents hand in their lists. When the time is over, close the round.")),
-    "closed": Phase(N_("The round is closed"), N_("Round {number}: the round is closed"),
+    "closed": Phase(N_("The round is closed"), STATES["closed"],
                     N_("The lists are final. Next, draw the order of the participants.")),
-    "drawn": Phase(N_("The order is drawn"), N_("Round {number}: the order is drawn"),
+    "drawn": Phase(N_("The order is drawn"), STATES["drawn"],
                    N_("Next, let the program give the rooms by the lists and the order.")),
-    "ran": Phase(N_("The rooms are given"), N_("Round {number}: the rooms are given"),
+    "ran": Phase(N_("The rooms are given"), STATES["ran"],
                  N_("Only the office sees who gets which room. Check the results, then publish them.")),
-    "published": Phase(N_("The results are published"), N_("Round {number}: the results are published"),
+    "published": Phase(N_("The results are published"), STATES["published"],
                        N_("Each resident sees their own result. Print the letters and the plan of moves. On the day of "
                           "moving, settle the round.")),
 }
@@ -201,6 +202,13 @@ REFUSALS = {
                 N_("Call the administrator, who brings the file to the version of the program.")),
     24: Meaning(N_("This person leaves the college at the end of the round."), N_("Take the line out of the list.")),
     25: Meaning(N_("No list has come in under this label."), N_("The page Lists in has the labels.")),
+}
+# What to do if it is refused by itself, and not as a line of a list.
+ALONE = {
+    4: N_("Look at the page Rooms. If it is another room, write another code."),
+    5: N_("Look the person up on the page People. If this is somebody else, write another identifier."),
+    11: N_("If that was a mistake, press Undo on the page of this person."),
+    24: N_("If that is a mistake, press Undo on the page of this person."),
 }
 
 TOO_LONG = N_("This list is longer than 262,144 bytes. Nothing came in. Split it in two, with a label each.")
@@ -320,6 +328,7 @@ def meaning(text: str) -> Meaning:
     if number == 15:
         return cause(words[4:], "")
     says, to_do = REFUSALS.get(number, Meaning(text.strip(), N_("Look it up in the guide."))).translated()
+    to_do = _(ALONE[number]) if number in ALONE else to_do
     if number == 1 and words[3] in PHASES:
         return Meaning(f"{says} {_(PHASES[words[3]].title)}.", to_do)
     return Meaning(says + (f" ({' '.join(words[3:])})" if number in (3, 7, 12) else ""), to_do)

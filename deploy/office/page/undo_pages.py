@@ -109,7 +109,7 @@ def undo(ident: str) -> str:
 def next_step(office: Office, ident: str, given_up: GivenUp, part: str) -> str:
     """The page of the step that comes after the round was given up."""
     left = what_is_left(office, had_in(given_up.copy))
-    rest = [one for one in left.away if one != ident and not has_come_again(office, one)]
+    rest = [one for one in left.away if one != ident and not has_come_again(office, one, left)]
     step = "open" if office.phase == "idle" else "back" if rest or left.lists_but(rest) or left.longer else "done"
     return show("undo", office=office, person=office.people[ident], left=part == GOING, step=step, before=None,
                 copy=given_up.copy, facts=(), later="")
