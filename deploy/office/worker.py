@@ -19,7 +19,7 @@ from typing import Any
 import times
 from anew import Anew
 from backups import BACK
-from copies import make_whole
+from copies import State, make_whole
 from journal import spoken_of
 from languages import _, in_english, speaking, spoken, what_says
 from lines import NOT_TAKEN, reason_to_copy
@@ -60,7 +60,8 @@ class Change:  # pylint: disable=too-many-instance-attributes  # what is asked f
     saw: Saw | None = None                      # what its sender saw of people
     why_not: Callable[[], str] | None = None    # why it is not made although all this is as it was, or nothing
     language: str = field(default_factory=spoken)  # of its sender
-    copy: str | None = None                     # the name of the copy that was kept before
+    tried: State | None = None                  # of the file, when a copy of it has taken the change
+    copy: str | None = None                     # the name of the copy that was kept before; empty once that is deleted again
     answers: list[Answer] = field(default_factory=list)
     made: int = 0                               # how many of its lines are in effect
     left: str = ""                              # what of it is left to be done, and why; nothing if all is done
@@ -139,6 +140,7 @@ class Worker:  # pylint: disable=too-many-instance-attributes  # the parts of th
 
     def change(self, change: Change) -> Change:
         """Tries a change on a copy, so that nobody notices a refusal. What would be accepted waits for its turn."""
+        change.tried = self.copies.state()
         with self.copies.copied() as copy:
             change.answers = change.carry_out(copy)
         if is_refused(change.answers):
@@ -245,6 +247,8 @@ class Worker:  # pylint: disable=too-many-instance-attributes  # the parts of th
             if change.why_not and (why := change.why_not()):
                 raise Fault(why)
             if self.has_to_copy(change):
+                if self.is_refused_by_now(change):
+                    return
                 change.copy = self.backups.keep(change.kind, change.why, still=True, damaged=change.damaged)
                 self.back = change.copy if change.kind == BACK else self.back
             number = self.journal.begin(change.who, change.line, change.copy)
@@ -260,7 +264,24 @@ class Worker:  # pylint: disable=too-many-instance-attributes  # the parts of th
                 self.note_end(change, number, began, Answer(f"fault: {in_english(fault)}", 3),
                               isinstance(fault, Unanswered))
                 raise
+        self.drop_copy(change)
         self.note_end(change, number, began, change.answers[-1])
+
+    def is_refused_by_now(self, change: Change) -> bool:
+        """Whether a copy refuses a change that waited for its turn, since what came before it has changed the office. Then neither
+        a copy of the office is kept nor an entry of the journal, as if the change had come now."""
+        if change.whole or change.tried and change.tried.is_settled() and change.tried == self.copies.state():
+            return False
+        with self.copies.copied(still=True) as copy:
+            change.answers = change.carry_out(copy)
+        return is_refused(change.answers)
+
+    def drop_copy(self, change: Change) -> None:
+        """Deletes the copy before a change of which the office has taken nothing, since it was changed by hand in between."""
+        if change.copy and not change.whole and all(answer.status in NOT_TAKEN for answer in change.answers):
+            with contextlib.suppress(OSError):
+                self.backups.drop(change.copy)
+                change.copy = ""
 
     def has_to_copy(self, change: Change) -> bool:
         """Whether the office is copied before a change. A list that a line would replace may have come while the line waited."""
@@ -289,9 +310,9 @@ class Worker:  # pylint: disable=too-many-instance-attributes  # the parts of th
         this change, and the one after them as another, if it is `known` how far they came."""
         change.took = self.since(began)
         change.made = 0 if change.whole else sum(answer.status == 0 for answer in change.answers)
-        other = {}
+        other = {"copy": ""} if change.copy == "" else {}  # that it was kept is noted already
         if known and len(change.lines) > 1 and last.status != 0:
-            other = {"who": change.who, "line": change.speak(change.lines[change.made:change.made + 1])}
+            other |= {"who": change.who, "line": change.speak(change.lines[change.made:change.made + 1])}
             if change.made:
                 stands = change.speak(change.lines[:change.made])
                 self.journal.end(number, change.answers[change.made - 1].text, 0, change.took, line=stands)
