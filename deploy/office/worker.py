@@ -28,7 +28,7 @@ from program import Answer, Unanswered, is_refused
 from register import people_in
 from rows import View
 from seen import Rows, Saw, why_stale
-from settings import Fault
+from settings import Fault, NotKnown
 
 FIRST_PAUSE, LONGEST_PAUSE = 0.2, 5.0  # seconds before a server is started again that has ended by itself
 LIVED = 2.0                            # a server that ran for so long has worked: the pause begins anew
@@ -67,6 +67,7 @@ class Change:  # pylint: disable=too-many-instance-attributes  # what is asked f
     left: str = ""                              # what of it is left to be done, and why; nothing if all is done
     took: int = 0                               # milliseconds
     fault: str = ""
+    unknown: bool = False                       # whether nobody knows, with this fault, if it was made
     wanted: threading.Lock = field(default_factory=threading.Lock)  # taken to make the change, or to give it up
     done: threading.Event = field(default_factory=threading.Event)
 
@@ -150,7 +151,7 @@ class Worker:  # pylint: disable=too-many-instance-attributes  # the parts of th
             raise Fault(_("other changes took too long. Nothing was changed: try again."))
         change.done.wait()
         if change.fault:
-            raise Fault(change.fault)
+            raise (NotKnown if change.unknown else Fault)(change.fault)
         return change
 
     def rows(self, still: bool = False) -> Rows:
@@ -221,12 +222,12 @@ class Worker:  # pylint: disable=too-many-instance-attributes  # the parts of th
         # Until it is made, its answers are those of the copy on which it was tried. If nobody knows what went wrong,
         # its sender must not get them.
         with speaking(change.language):
-            change.fault = _("the keeper failed at this line. Look whether it took effect.")
+            change.fault, change.unknown = _("the keeper failed at this line. Look whether it took effect."), True
             try:
                 self.make(change)
                 change.fault = ""
             except Fault as fault:
-                change.fault = what_says(fault)
+                change.fault, change.unknown = what_says(fault), fault.unknown
             except (OSError, sqlite3.Error) as fault:
                 change.fault = _("the disk or the memory did not serve ({why}). Look whether this took effect.", why=fault)
             finally:

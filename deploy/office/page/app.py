@@ -31,7 +31,7 @@ import plain
 import presses
 import views
 from codes import unbroken
-from keeper_client import Answer, KeeperFault, WasAnothers
+from keeper_client import Answer, KeeperFault, Unsure, WasAnothers
 from memory import Memory
 from office_view import Office
 from sheet_books import is_book
@@ -194,9 +194,15 @@ def ask(question: str, **fields: Any) -> dict[str, Any]:
     return keeper_client.ask(question, clerk(), **fields)
 
 
+def not_done(fault: KeeperFault) -> str:
+    """Why the keeper has not done something; or what went wrong, if nobody knows whether it has."""
+    why = plain.begun(str(fault))
+    return why if isinstance(fault, Unsure) else _("This could not be done. {why}", why=why)
+
+
 def tell_fault(fault: KeeperFault) -> None:
-    """Tells the clerk why the keeper has not done something."""
-    tell("bad", _("This could not be done. {why}", why=plain.begun(str(fault))))
+    """Tells the clerk so."""
+    tell("bad", not_done(fault))
 
 
 def is_done(question: str, **fields: Any) -> bool:
