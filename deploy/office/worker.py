@@ -18,7 +18,7 @@ from typing import Any
 
 import times
 from anew import Anew
-from backups import BACK
+from backups import BACK, Backups
 from copies import State, make_whole
 from journal import spoken_of
 from languages import _, in_english, speaking, spoken, what_says
@@ -90,6 +90,19 @@ class Change:  # pylint: disable=too-many-instance-attributes  # what is asked f
         """Ends a change that is not made."""
         self.fault = fault
         self.done.set()
+
+
+def since(began: float) -> int:
+    """Milliseconds."""
+    return round(1000 * (time.monotonic() - began))
+
+
+def drop_copy(backups: Backups, change: Change) -> None:
+    """Deletes the copy before a change of which the office has taken nothing, since it was changed by hand in between."""
+    if change.copy and not change.whole and all(answer.status in NOT_TAKEN for answer in change.answers):
+        with contextlib.suppress(OSError):
+            backups.drop(change.copy)
+            change.copy = ""
 
 
 class Server:
@@ -265,7 +278,7 @@ class Worker:  # pylint: disable=too-many-instance-attributes  # the parts of th
                 self.note_end(change, number, began, Answer(f"fault: {in_english(fault)}", 3),
                               isinstance(fault, Unanswered))
                 raise
-        self.drop_copy(change)
+        drop_copy(self.backups, change)
         self.note_end(change, number, began, change.answers[-1])
 
     def is_refused_by_now(self, change: Change) -> bool:
@@ -276,13 +289,6 @@ class Worker:  # pylint: disable=too-many-instance-attributes  # the parts of th
         with self.copies.copied(still=True) as copy:
             change.answers = change.carry_out(copy)
         return is_refused(change.answers)
-
-    def drop_copy(self, change: Change) -> None:
-        """Deletes the copy before a change of which the office has taken nothing, since it was changed by hand in between."""
-        if change.copy and not change.whole and all(answer.status in NOT_TAKEN for answer in change.answers):
-            with contextlib.suppress(OSError):
-                self.backups.drop(change.copy)
-                change.copy = ""
 
     def has_to_copy(self, change: Change) -> bool:
         """Whether the office is copied before a change. A list that a line would replace may have come while the line waited."""
@@ -309,7 +315,7 @@ class Worker:  # pylint: disable=too-many-instance-attributes  # the parts of th
     def note_end(self, change: Change, number: str, began: float, last: Answer, known: bool = True) -> None:
         """Notes in the journal how a change ended. Of several lines that were not all carried out it has those that were as
         this change, and the one after them as another, if it is `known` how far they came."""
-        change.took = self.since(began)
+        change.took = since(began)
         change.made = 0 if change.whole else sum(answer.status == 0 for answer in change.answers)
         other = {"copy": ""} if change.copy == "" else {}  # that it was kept is noted already
         if known and len(change.lines) > 1 and last.status != 0:
@@ -331,11 +337,6 @@ class Worker:  # pylint: disable=too-many-instance-attributes  # the parts of th
                 raise Fault(_("the office that comes of this is none ({said}). Nothing was changed.", said=looked.text.strip()))
             self.place.put(copy, held, change.before_put)
             return answers
-
-    @staticmethod
-    def since(began: float) -> int:
-        """Milliseconds."""
-        return round(1000 * (time.monotonic() - began))
 
     # --- the server
 

@@ -116,7 +116,11 @@ def try_away(stand, between, page):
     before_the_end(between)
     answer = kill_during(stand, between, lambda: yes(page, shown, held), back=False)
     status, _, down = page.get(answer[1]["location"])
-    check("while the keeper is away the form cannot be shown", status == 503, down)
+    check("while the keeper is away the form cannot be shown", status == 503 and "This is not possible now" in down, down)
+    fields = dict(re.findall(r'type="hidden" name="(token|seen)" value="([^"]*)"', shown))
+    status, _, down = page.post("/office/copies", fields)
+    check("and of a step the page says to look whether it was carried out", status == 503 and "not possible" not in down
+          and "Look whether this was carried out" in down, down)
     stand.start()
     shown = page.get(answer[1]["location"])[2]
     check("afterwards it has the people, and the page says that new keys may be lost, and what to do",

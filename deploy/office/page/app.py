@@ -286,7 +286,7 @@ def once(callback: Callable[..., Any]) -> Callable[..., Any]:
             memory.tell_again(clerk(), outcome.news, str(outcome.answer.get_header("Location", "")).rpartition("/")[2])
         answer = outcome.answer
         if answer is None:
-            return HTTPResponse(down(_(FAILED)), 500)
+            return HTTPResponse(down(_(FAILED), True), 500)
         return HTTPResponse(answer.body, answer.status_line, answer.headerlist) if isinstance(answer, HTTPResponse) else answer
     return pressed
 
@@ -309,9 +309,9 @@ app.install(once)
 
 # --- what goes wrong
 
-def down(why: str) -> str:
-    """The page of what cannot be shown or done."""
-    return views.render("down", plain=plain, why=plain.begun(why))
+def down(why: str, unsure: bool = False) -> str:
+    """The page of what cannot be shown or done, or of which nobody knows whether it was done."""
+    return views.render("down", plain=plain, why=plain.begun(why), unsure=unsure)
 
 
 def tell_keeper_faults(callback: Callable[..., Any]) -> Callable[..., Any]:
@@ -321,7 +321,7 @@ def tell_keeper_faults(callback: Callable[..., Any]) -> Callable[..., Any]:
         try:
             return callback(*words, **named)
         except KeeperFault as fault:
-            return HTTPResponse(down(str(fault)), 503)
+            return HTTPResponse(down(str(fault), request.method == "POST" and isinstance(fault, Unsure)), 503)
     return shown
 
 
@@ -359,7 +359,7 @@ class Guarded:  # pylint: disable=too-few-public-methods  # a WSGI application i
             place = traceback.extract_tb(fault.__traceback__)[-1]
             where = f"{Path(place.filename).name}:{place.lineno}"
             print(f"rooms-page: {type(fault).__name__} at {where}", file=sys.stderr, flush=True)
-            body = down(_(FAILED)).encode()
+            body = down(_(FAILED), True).encode()
             start("500 Internal Server Error",
                   [("Content-Type", "text/html; charset=utf-8"), ("Content-Length", str(len(body)))])
             return [body]
