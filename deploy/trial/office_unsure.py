@@ -105,8 +105,8 @@ def try_removed(stand, between, page):
     before_the_end(between)
     kill_during(stand, between, lambda: page.post(place, form))
     shown = flat(page.get("/office/register")[2])
-    check("in German, too", "Niemand weiß, ob der Schritt ausgeführt wurde" in shown and not any(one in shown for one in NOT_DONE),
-          shown[:2000])
+    check("in German, too", "Niemand weiß, ob der Schritt ausgeführt wurde" in shown
+          and not any(one in shown for one in NOT_DONE), shown[:2000])
     page.form("/office/language", {"language": "en", "back": "/office/"}, page="/office/")
 
 

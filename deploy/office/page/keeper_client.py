@@ -46,8 +46,8 @@ def ask(question: str, who: str, patience: float = PATIENCE, **fields: Any) -> d
     try:
         reply = answer_to({"ask": question, "who": who, "speaks": spoken(), **fields}, SOCKET, patience)
     except (OSError, ValueError) as fault:
-        raise Unsure(_("The keeper of the office's file does not answer. Nobody knows whether the last step was carried out. Wait a "
-                       "minute. Then look at the overview and in the journal before you try again."), False) from fault
+        raise Unsure(_("The keeper of the office's file does not answer. Nobody knows whether the last step was carried out. Wait "
+                       "a minute. Then look at the overview and in the journal before you try again."), False) from fault
     if not isinstance(reply, dict):
         raise Unsure(_("The keeper of the office's file ended during this step. Nobody knows whether it was carried out. Look at "
                        "the overview and in the journal before you try again."), True)
