@@ -155,7 +155,11 @@ class Backups:
     def drop_old(self) -> None:
         """Deletes the copies that are too old, and the oldest ones of each kind."""
         for name in self.old(self.days()):
-            shutil.rmtree(self.folder / name)
+            self.drop(name)
+
+    def drop(self, name: str) -> None:
+        """Deletes a copy."""
+        shutil.rmtree(self.folder / name)
 
     def take(self, name: str, target: Path) -> None:
         """Puts a kept copy over another copy, as one file."""

@@ -88,9 +88,22 @@ def journal_text(noted: list[dict[str, Any]], count: int) -> str:
     return "".join(f"{on_one_line(change_text(entry))}\n" for entry in list(entries.values())[-count:])
 
 
+def keys_again_text(people: list[str], command: str) -> str:
+    """Whose keys are those of the copy again to which the office went back, and by which command a new one is made."""
+    whose = "one person has" if len(people) == 1 else f"{len(people)} people have"
+    return (f"{whose} the key of the copy again, and the key of before does not work: {' '.join(people)}. If a key was lost, or "
+            f"others know it, make a new one: {command}")
+
+
+def come_again_text(people: list[str]) -> str:
+    """Who is in the register again since the office went back to a copy."""
+    whose = "one person is" if len(people) == 1 else f"{len(people)} people are"
+    return f"{whose} in the register again, with the key of the copy: {' '.join(people)}"
+
+
 def change_text(entry: dict[str, Any]) -> str:
     """One change, with its answer."""
-    more = f"  (before: {entry['copy']})" if "copy" in entry else ""
+    more = f"  (before: {entry['copy']})" if entry.get("copy") else ""
     answer = entry.get("answer", "").replace("\n", "; ")
     said = f"noted: {entry['note']}" if "note" in entry else f"{entry.get('line', '')}  ->  {answer}{more}"
     return f"{entry.get('at')}  {entry.get('who', '')}: {said}"

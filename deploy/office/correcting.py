@@ -27,7 +27,7 @@ from office import Office
 from program import NOT_UNDERSTOOD, Answer, is_refused
 from register import homes_in
 from rows import rows_of
-from settings import Fault
+from settings import Fault, NotKnown
 from worker import Change, Worker
 
 # The parts of a correction in the order in which they are made. A key may be another person's by now; the program refuses a name
@@ -60,7 +60,7 @@ def unchanged(why: str) -> Fault:
 def refusal(lines: list[str], answers: list[Answer]) -> Fault:
     """The fault of lines of which none was carried out: why not the last one that was answered, by a copy or by the office."""
     why = why_refused(lines[len(answers) - 1], answers[-1])
-    return Fault(why) if answers[-1].status == UNAVAILABLE else unchanged(why)
+    return NotKnown(why) if answers[-1].status == UNAVAILABLE else unchanged(why)
 
 
 def lines_for(person: str, values: dict[str, str]) -> list[str]:

@@ -4,7 +4,8 @@ wishes for, unless a clerk writes it into a note.
 Each entry is a line of JSON, and on the disk before the keeper goes on. A change has two: one before it begins,
 with `n`, `at`, `who` and `line` (and `copy`, if the office was copied first), and one after it has ended, with
 the same `n`, `answer`, `status` and `ms`. If some of several lines took effect, and not all, the second entry has these under
-`line`, and the line that did not is a change of its own. What a clerk notes is under `note`, so it is never taken for a change.
+`line`, and the line that did not is a change of its own. If the copy was deleted again, since the office took nothing of the
+change, the second entry has an empty `copy`. What a clerk notes is under `note`, so it is never taken for a change.
 """
 
 import contextlib

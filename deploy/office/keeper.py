@@ -86,7 +86,7 @@ class RequestHandler(socketserver.StreamRequestHandler):
             with self.server.answering:
                 answer = self.answer(request)
         except Fault as why:
-            answer = {"fault": str(why)}
+            answer = {"fault": str(why), **({"unknown": True} if why.unknown else {})}
         except FileNotFoundError as why:
             answer = {"fault": _("there is no file {path}", path=why.filename)}
         except (OSError, sqlite3.Error) as why:

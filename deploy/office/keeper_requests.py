@@ -28,7 +28,8 @@
 | set-accounts | rule, list | as `accounts`; `list` for the rule `list` alone |
 
 By `seen` and `saw` the sender says what it saw of the round and of people; if that is so no more, nothing is changed
-(seen.py). An answer is a text and a status of the program. `fault` is why something cannot be done, in the language `speaks`.
+(seen.py). An answer is a text and a status of the program. `fault` is why something cannot be done, in the language `speaks`; with
+`unknown` nobody knows whether it was done.
 By `again` the sender says whose identifiers are those of the same people as before. If somebody else comes under a former
 identifier, nothing is changed, and beside the fault `former` has each such identifier, with the name that it stood for (former.py).
 """

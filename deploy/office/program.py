@@ -16,7 +16,7 @@ from typing import NamedTuple
 from languages import _
 from line_run import Ended, LineRun, is_skipped, status_of
 from lines import SEED, UNAVAILABLE, name_shows_a_key, shows_a_key, verb_of
-from settings import Fault, Settings
+from settings import Fault, NotKnown, Settings
 
 FURTHER, MOST = 0.02, 2_000  # seconds for each further line of a bundle, and for how many of them at most
 PATIENCE = 5.0               # seconds until a program by hand has to have closed the office's file
@@ -38,9 +38,9 @@ EARLIER = ("refused 22 OtherVersion 1", "refused 22 OtherVersion 2")  # of files
 class Unanswered(Fault):
     """The program gave no answer to a line. `answers` has those to the lines before it."""
 
-    def __init__(self, why: str, answers: list[Answer]) -> None:
+    def __init__(self, why: str, answers: list[Answer], unknown: bool) -> None:
         super().__init__(why)
-        self.answers = answers
+        self.answers, self.unknown = answers, unknown
 
 
 def is_refused(answers: list[Answer]) -> bool:
@@ -92,7 +92,7 @@ class Program:
         try:
             done = subprocess.run(line, stdin=subprocess.DEVNULL, capture_output=True, timeout=limit, check=False)
         except subprocess.TimeoutExpired as fault:
-            raise Fault(_("{why} Look whether the line took effect.", why=late(limit))) from fault
+            raise NotKnown(_("{why} Look whether the line took effect.", why=late(limit))) from fault
         return Answer((done.stdout + done.stderr).decode("utf-8", "replace"), done.returncode)
 
     def tell(self, line: str, file: Path) -> Answer:
@@ -118,7 +118,7 @@ class Program:
             if file != self.settings.file:
                 raise
             why = _("{why} {made} of {count} lines were carried out before.", why=fault, made=len(answers), count=len(lines))
-            raise Unanswered(why, answers) from fault
+            raise Unanswered(why, answers, unknown=bool(answers)) from fault
         finally:
             run.close()
         if run.said and is_refused(answers):
@@ -155,14 +155,15 @@ class Program:
             why = late(run.seconds)
         else:
             why = _("the program ended before it had answered ({said}).", said=run.said.strip() or run.process.returncode)
-        if file != self.settings.file or run.handed == 1:
+        unknown = file == self.settings.file and run.handed > 1
+        if not unknown:
             why = _("{why} Nothing was changed.", why=why)
         elif count == 1:
             why = _("{why} Look whether the line took effect.", why=why)
         else:
             why = _("{why} {made} of {count} lines were carried out before. Look whether the next one took effect, too.",
                     why=why, made=len(answers), count=count)
-        return Unanswered(why, answers)
+        return Unanswered(why, answers, unknown)
 
     def bring_in(self, kind: str, label: str, body: bytes, file: Path) -> Answer:
         """Imports a list. The program reads it from a file in memory, which is gone afterwards."""

@@ -14,6 +14,14 @@ from languages import _
 class Fault(Exception):
     """The keeper cannot do what was asked for. The text says why, and what the clerk can do."""
 
+    unknown = False  # whether nobody knows if it was done all the same
+
+
+class NotKnown(Fault):
+    """Something went wrong, and nobody knows whether what was asked for was done."""
+
+    unknown = True
+
 
 def unwritten(what: str, fault: OSError) -> Fault:
     """The fault of something that could not be written, before anything was changed. What that is, is translated here."""

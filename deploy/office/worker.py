@@ -18,8 +18,8 @@ from typing import Any
 
 import times
 from anew import Anew
-from backups import BACK
-from copies import make_whole
+from backups import BACK, Backups
+from copies import State, make_whole
 from journal import spoken_of
 from languages import _, in_english, speaking, spoken, what_says
 from lines import NOT_TAKEN, reason_to_copy
@@ -28,7 +28,7 @@ from program import Answer, Unanswered, is_refused
 from register import people_in
 from rows import View
 from seen import Rows, Saw, why_stale
-from settings import Fault
+from settings import Fault, NotKnown
 
 FIRST_PAUSE, LONGEST_PAUSE = 0.2, 5.0  # seconds before a server is started again that has ended by itself
 LIVED = 2.0                            # a server that ran for so long has worked: the pause begins anew
@@ -60,12 +60,14 @@ class Change:  # pylint: disable=too-many-instance-attributes  # what is asked f
     saw: Saw | None = None                      # what its sender saw of people
     why_not: Callable[[], str] | None = None    # why it is not made although all this is as it was, or nothing
     language: str = field(default_factory=spoken)  # of its sender
-    copy: str | None = None                     # the name of the copy that was kept before
+    tried: State | None = None                  # of the file, when a copy of it has taken the change
+    copy: str | None = None                     # the name of the copy that was kept before; empty once that is deleted again
     answers: list[Answer] = field(default_factory=list)
     made: int = 0                               # how many of its lines are in effect
     left: str = ""                              # what of it is left to be done, and why; nothing if all is done
     took: int = 0                               # milliseconds
     fault: str = ""
+    unknown: bool = False                       # whether nobody knows, with this fault, if it was made
     wanted: threading.Lock = field(default_factory=threading.Lock)  # taken to make the change, or to give it up
     done: threading.Event = field(default_factory=threading.Event)
 
@@ -88,6 +90,19 @@ class Change:  # pylint: disable=too-many-instance-attributes  # what is asked f
         """Ends a change that is not made."""
         self.fault = fault
         self.done.set()
+
+
+def since(began: float) -> int:
+    """Milliseconds."""
+    return round(1000 * (time.monotonic() - began))
+
+
+def drop_copy(backups: Backups, change: Change) -> None:
+    """Deletes the copy before a change of which the office has taken nothing, since it was changed by hand in between."""
+    if change.copy and not change.whole and all(answer.status in NOT_TAKEN for answer in change.answers):
+        with contextlib.suppress(OSError):
+            backups.drop(change.copy)
+            change.copy = ""
 
 
 class Server:
@@ -139,6 +154,7 @@ class Worker:  # pylint: disable=too-many-instance-attributes  # the parts of th
 
     def change(self, change: Change) -> Change:
         """Tries a change on a copy, so that nobody notices a refusal. What would be accepted waits for its turn."""
+        change.tried = self.copies.state()
         with self.copies.copied() as copy:
             change.answers = change.carry_out(copy)
         if is_refused(change.answers):
@@ -148,7 +164,7 @@ class Worker:  # pylint: disable=too-many-instance-attributes  # the parts of th
             raise Fault(_("other changes took too long. Nothing was changed: try again."))
         change.done.wait()
         if change.fault:
-            raise Fault(change.fault)
+            raise (NotKnown if change.unknown else Fault)(change.fault)
         return change
 
     def rows(self, still: bool = False) -> Rows:
@@ -219,12 +235,12 @@ class Worker:  # pylint: disable=too-many-instance-attributes  # the parts of th
         # Until it is made, its answers are those of the copy on which it was tried. If nobody knows what went wrong,
         # its sender must not get them.
         with speaking(change.language):
-            change.fault = _("the keeper failed at this line. Look whether it took effect.")
+            change.fault, change.unknown = _("the keeper failed at this line. Look whether it took effect."), True
             try:
                 self.make(change)
                 change.fault = ""
             except Fault as fault:
-                change.fault = what_says(fault)
+                change.fault, change.unknown = what_says(fault), fault.unknown
             except (OSError, sqlite3.Error) as fault:
                 change.fault = _("the disk or the memory did not serve ({why}). Look whether this took effect.", why=fault)
             finally:
@@ -245,6 +261,8 @@ class Worker:  # pylint: disable=too-many-instance-attributes  # the parts of th
             if change.why_not and (why := change.why_not()):
                 raise Fault(why)
             if self.has_to_copy(change):
+                if self.is_refused_by_now(change):
+                    return
                 change.copy = self.backups.keep(change.kind, change.why, still=True, damaged=change.damaged)
                 self.back = change.copy if change.kind == BACK else self.back
             number = self.journal.begin(change.who, change.line, change.copy)
@@ -260,7 +278,17 @@ class Worker:  # pylint: disable=too-many-instance-attributes  # the parts of th
                 self.note_end(change, number, began, Answer(f"fault: {in_english(fault)}", 3),
                               isinstance(fault, Unanswered))
                 raise
+        drop_copy(self.backups, change)
         self.note_end(change, number, began, change.answers[-1])
+
+    def is_refused_by_now(self, change: Change) -> bool:
+        """Whether a copy refuses a change that waited for its turn, since what came before it has changed the office. Then neither
+        a copy of the office is kept nor an entry of the journal, as if the change had come now."""
+        if change.whole or change.tried and change.tried.is_settled() and change.tried == self.copies.state():
+            return False
+        with self.copies.copied(still=True) as copy:
+            change.answers = change.carry_out(copy)
+        return is_refused(change.answers)
 
     def has_to_copy(self, change: Change) -> bool:
         """Whether the office is copied before a change. A list that a line would replace may have come while the line waited."""
@@ -287,11 +315,11 @@ class Worker:  # pylint: disable=too-many-instance-attributes  # the parts of th
     def note_end(self, change: Change, number: str, began: float, last: Answer, known: bool = True) -> None:
         """Notes in the journal how a change ended. Of several lines that were not all carried out it has those that were as
         this change, and the one after them as another, if it is `known` how far they came."""
-        change.took = self.since(began)
+        change.took = since(began)
         change.made = 0 if change.whole else sum(answer.status == 0 for answer in change.answers)
-        other = {}
+        other = {"copy": ""} if change.copy == "" else {}  # that it was kept is noted already
         if known and len(change.lines) > 1 and last.status != 0:
-            other = {"who": change.who, "line": change.speak(change.lines[change.made:change.made + 1])}
+            other |= {"who": change.who, "line": change.speak(change.lines[change.made:change.made + 1])}
             if change.made:
                 stands = change.speak(change.lines[:change.made])
                 self.journal.end(number, change.answers[change.made - 1].text, 0, change.took, line=stands)
@@ -309,11 +337,6 @@ class Worker:  # pylint: disable=too-many-instance-attributes  # the parts of th
                 raise Fault(_("the office that comes of this is none ({said}). Nothing was changed.", said=looked.text.strip()))
             self.place.put(copy, held, change.before_put)
             return answers
-
-    @staticmethod
-    def since(began: float) -> int:
-        """Milliseconds."""
-        return round(1000 * (time.monotonic() - began))
 
     # --- the server
 

@@ -7,6 +7,7 @@ This run alone: /usr/bin/python3 deploy/trial/bundles.py PROGRAM
 import re
 import sys
 import threading
+from concurrent.futures import ThreadPoolExecutor
 from pathlib import Path
 
 from beside import copies_of
@@ -125,6 +126,34 @@ def try_by_hand(stand, between):
           shown[:3000])
     homes = {row[0]: row[2] for row in stand.ask(ask="view")["people"] if row[2]}
     check("which is so", homes == {"P8": "A-8"}, homes)
+
+
+def try_at_once(stand, between):
+    """Three clerks close the round at once, and then somebody takes a room away by hand just before a clerk does it."""
+    copies = names_of_copies(stand)
+    between.before_next("sleep 2")
+    with ThreadPoolExecutor(3) as pool:
+        told = [pool.submit(stand.command, "do", "close")]
+        until(lambda: Path(f"{between.act}.done").exists(), 30, "the first of three lines")
+        told += [pool.submit(stand.command, "do", "close") for _ in range(2)]
+        first, *others = [one.result() for one in told]
+    check("of three lines at once the first is carried out, after a copy", first[0] == 0 and "is kept" in first[2], first)
+    check("the others are refused, and nothing is said of a copy", others == [(1, "refused 1 BadPhase closed\n", "")] * 2, others)
+    made = [why for name, why in names_of_copies(stand).items() if name not in copies]
+    check("only the first has kept one", made == ["before close, by root"], made)
+    check("and is in the journal", [one[0] for one in noted(stand, 2)].count("close") == 1, noted(stand, 2))
+    stand.office("cancel")
+    copies = names_of_copies(stand)
+    between.before_next(between.by_hand("leave P8"))
+    told = stand.command("do", "leave", "P8")
+    check("a line that is refused in the office itself has no copy either", told[0] == 1 and not told[2]
+          and names_of_copies(stand) == copies, (told, names_of_copies(stand)))
+    check("nor does the journal name one", "(before: " not in stand.command("journal", "1")[1], stand.command("journal", "1"))
+
+
+def names_of_copies(stand):
+    """The kept copies, and why each is kept."""
+    return {name: why for name, _size, why in stand.ask(ask="backups")["backups"]}
 
 
 def held_by(page, form):
@@ -251,6 +280,7 @@ def try_bundles(program, sizes=(True, False)):
         try_ended(stand, between)
         try_replaced(stand, between)
         try_keys(stand, between)
+        try_at_once(stand, between)
     with Stand(program) as stand:
         between = Between(stand)
         stand.start()

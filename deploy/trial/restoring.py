@@ -182,6 +182,39 @@ def other_people(stand):
               and told[1].rstrip().endswith(": T02") == said, told)
 
 
+def old_keys(stand):
+    """Everybody has another key since the copy, one person was removed, and then the office is damaged, or gone."""
+    stand.fill(["A-1"], ["T01", "T02", "T03"])
+    stand.start()
+    copy = stand.ask(ask="backup")["name"]
+    stand.ask(ask="keys", keys={"T01": key_of("new1"), "T02": key_of("new2")})
+    stand.ask(ask="do", lines=["remove T03"])
+    stand.stop_keeper()
+    told = restore(stand, stand.data / "backups" / copy)
+    said = told[1].partition("in place: ")[2]
+    check("rooms-restore says whose keys are those of the copy again, and what makes new ones", told[0] == 0 and
+          "2 people have the key of the copy again, and the key of before does not work: T01 T02." in said
+          and said.count("rooms-office key PERSON") == 1, told)
+    check("and who is in the register again", "one person is in the register again, with the key of the copy: T03\n" in said, told)
+    check("which is so", {key_of("T01"), key_of("T02"), key_of("T03")} == keys_in_file(stand))
+    told = restore(stand, stand.data / "backups" / copy)
+    check("nothing is said of keys if none changes", told[1].rstrip().endswith(f"in place: {stand.file}"), told)
+    stand.file.write_bytes(os.urandom(9000))
+    for what, begin in (("damaged", "the office that was there cannot be read as a whole"), ("gone", "no office was there")):
+        told = restore(stand, stand.data / "backups" / copy)
+        check(f"of an office that is {what} it says that nobody knows whose keys were changed, and what to do", told[0] == 0 and
+              f"{begin}, so nobody here knows whose keys were changed after the copy was made." in told[1]
+              and "keys that were made later do not" in told[1] and "rooms-office key PERSON" in told[1], told)
+        stand.file.unlink()
+    check("no key was printed", "key000000000" not in told[1] + said, told)
+
+
+def keys_in_file(stand):
+    """All keys of the office, by SQLite."""
+    with contextlib.closing(sqlite3.connect(stand.file)) as database:
+        return {key for key, in database.execute("SELECT passkey FROM person")}
+
+
 def try_restoring(program):
     """All of it."""
     if not can_restore():
@@ -198,6 +231,8 @@ def try_restoring(program):
         in_journal(stand)
     with Stand(program) as stand:
         other_people(stand)
+    with Stand(program) as stand:
+        old_keys(stand)
     units()
 
 

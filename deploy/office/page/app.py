@@ -31,7 +31,7 @@ import plain
 import presses
 import views
 from codes import unbroken
-from keeper_client import Answer, KeeperFault, WasAnothers
+from keeper_client import Answer, KeeperFault, Unsure, WasAnothers
 from memory import Memory
 from office_view import Office
 from sheet_books import is_book
@@ -197,9 +197,15 @@ def ask(question: str, **fields: Any) -> dict[str, Any]:
     return keeper_client.ask(question, clerk(), **fields)
 
 
+def not_done(fault: KeeperFault) -> str:
+    """Why the keeper has not done something; or what went wrong, if nobody knows whether it has."""
+    why = plain.begun(str(fault))
+    return why if isinstance(fault, Unsure) else _("This could not be done. {why}", why=why)
+
+
 def tell_fault(fault: KeeperFault) -> None:
-    """Tells the clerk why the keeper has not done something."""
-    tell("bad", _("This could not be done. {why}", why=plain.begun(str(fault))))
+    """Tells the clerk so."""
+    tell("bad", not_done(fault))
 
 
 def is_done(question: str, **fields: Any) -> bool:
@@ -283,7 +289,7 @@ def once(callback: Callable[..., Any]) -> Callable[..., Any]:
             memory.tell_again(clerk(), outcome.news, str(outcome.answer.get_header("Location", "")).rpartition("/")[2])
         answer = outcome.answer
         if answer is None:
-            return HTTPResponse(down(_(FAILED)), 500)
+            return HTTPResponse(down(_(FAILED), True), 500)
         return HTTPResponse(answer.body, answer.status_line, answer.headerlist) if isinstance(answer, HTTPResponse) else answer
     return pressed
 
@@ -306,9 +312,9 @@ app.install(once)
 
 # --- what goes wrong
 
-def down(why: str) -> str:
-    """The page of what cannot be shown or done."""
-    return views.render("down", plain=plain, why=plain.begun(why))
+def down(why: str, unsure: bool = False) -> str:
+    """The page of what cannot be shown or done, or of which nobody knows whether it was done."""
+    return views.render("down", plain=plain, why=plain.begun(why), unsure=unsure)
 
 
 def tell_keeper_faults(callback: Callable[..., Any]) -> Callable[..., Any]:
@@ -318,7 +324,7 @@ def tell_keeper_faults(callback: Callable[..., Any]) -> Callable[..., Any]:
         try:
             return callback(*words, **named)
         except KeeperFault as fault:
-            return HTTPResponse(down(str(fault)), 503)
+            return HTTPResponse(down(str(fault), request.method == "POST" and isinstance(fault, Unsure)), 503)
     return shown
 
 
@@ -356,7 +362,7 @@ class Guarded:  # pylint: disable=too-few-public-methods  # a WSGI application i
             place = traceback.extract_tb(fault.__traceback__)[-1]
             where = f"{Path(place.filename).name}:{place.lineno}"
             print(f"rooms-page: {type(fault).__name__} at {where}", file=sys.stderr, flush=True)
-            body = down(_(FAILED)).encode()
+            body = down(_(FAILED), True).encode()
             start("500 Internal Server Error",
                   [("Content-Type", "text/html; charset=utf-8"), ("Content-Length", str(len(body)))])
             return [body]

@@ -16,6 +16,14 @@ class KeeperFault(Exception):
     """The keeper did not answer, or could not do what it was asked to do. The text is for the clerk."""
 
 
+class Unsure(KeeperFault):
+    """Nobody knows whether what the keeper was asked for was carried out. `is_over` if at least nothing more comes of it."""
+
+    def __init__(self, why: str, is_over: bool) -> None:
+        super().__init__(why)
+        self.is_over = is_over
+
+
 class WasAnothers(KeeperFault):
     """People would come under identifiers that were somebody else's: `former` has each of these, with the name that it stood for,
     or none. The clerk may say that they are the same people."""
@@ -38,13 +46,15 @@ def ask(question: str, who: str, patience: float = PATIENCE, **fields: Any) -> d
     try:
         reply = answer_to({"ask": question, "who": who, "speaks": spoken(), **fields}, SOCKET, patience)
     except (OSError, ValueError) as fault:
-        raise KeeperFault(_("The keeper of the office's file does not answer. Nobody knows whether the last step was "
-                            "carried out. Wait a minute, and look before you try again.")) from fault
+        raise Unsure(_("The keeper of the office's file does not answer. Nobody knows whether the last step was carried out. Wait "
+                       "a minute. Then look at the overview and in the journal before you try again."), False) from fault
     if not isinstance(reply, dict):
-        raise KeeperFault(_("The keeper of the office's file ended during this step. Nobody knows whether it was "
-                            "carried out. Look before you try again."))
+        raise Unsure(_("The keeper of the office's file ended during this step. Nobody knows whether it was carried out. Look at "
+                       "the overview and in the journal before you try again."), True)
     if "former" in reply:
         raise WasAnothers(str(reply["fault"]), reply["former"])
+    if reply.get("unknown"):
+        raise Unsure(str(reply["fault"]), True)
     if "fault" in reply:
         raise KeeperFault(str(reply["fault"]))
     return reply

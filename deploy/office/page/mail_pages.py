@@ -12,7 +12,7 @@ from seen import stamp_of
 from told import mark_of
 
 import explaining
-from app import app, ask, field, go_to, office_now, residents_page, show, tell, text_of
+from app import app, ask, field, go_to, office_now, residents_page, show, tell, tell_fault, text_of
 from keeper_client import KeeperFault
 from office_view import Office
 from people_pages import person_of
@@ -35,7 +35,7 @@ def done(question: str, **fields: Any) -> bool:
     try:
         ask(question, **fields)
     except KeeperFault as fault:
-        tell("bad", _("This could not be done: {why}", why=fault))
+        tell_fault(fault)
         return False
     return True
 

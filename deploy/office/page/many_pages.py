@@ -8,9 +8,10 @@ from journal import KEY, masked, masked_line
 from languages import N_, _, ngettext
 from seen import Saw
 
+import keys_made
 import plain
-from app import app, ask, attempt, clerk, field, go_to, memory, office_now, show, tell, text_of, ticked
-from keeper_client import Answer, KeeperFault, answers_of
+from app import app, ask, attempt, clerk, field, go_to, memory, not_done, office_now, show, tell, text_of, ticked
+from keeper_client import Answer, KeeperFault, Unsure, answers_of
 from office_view import Office
 from questions import must_be_sure
 from slips import show_once
@@ -219,13 +220,16 @@ def make_keys(job: Many) -> None:
     try:
         reply = ask("keys", keys=keys, seen=field("seen"), saw=job.bundle.saw)
     except KeeperFault as fault:
-        tell("bad", _("This could not be done. {fault}", fault=plain.begun(str(fault))))
-        tell_changed(job, Came(0, 0, str(fault)))
-        go_to(sent_again(job))
+        made = keys_made.after(fault, keys)
+        if not made:
+            tell_changed(job, Came(0, 0, str(fault), isinstance(fault, Unsure)))
+            go_to(sent_again(job))
+        reply = {"corrected": len(made)}
     made, onward = job.idents[:reply["corrected"]], "/office/register"
+    if len(made) < len(job.idents):
+        onward = sent_again(job._replace(idents=job.idents[len(made):]))
     if "refused" in reply:
         line, why = reply["refused"]
-        onward = sent_again(job._replace(idents=job.idents[len(made):]))
         tell("bad", _("New keys were made for the first {people} of {count} people, who have slips here. At the line {line} it "
                       "ended: {why} The form behind the slips has the others.", people=len(made), count=len(job.idents), line=line,
                       why=plain.begun(why)))
@@ -234,16 +238,18 @@ def make_keys(job: Many) -> None:
 
 def tell_changed(job: Many, came: "Came") -> None:
     """Names those of whom something was changed meanwhile, if that is why nothing was done."""
-    if not came.lines and (changed := changed_since(job)):
+    if not came.lines and not came.unsure and (changed := changed_since(job)):
         tell("bad", _("Changed since you looked: {people}.", people=", ".join(changed)))
 
 
 class Came(NamedTuple):
-    """For how many people a bundle was carried out, how many of its lines were, and what ended it, or nothing."""
+    """For how many people a bundle was carried out, how many of its lines were, and what ended it, or nothing. `unsure` if nobody
+    knows whether it was carried out."""
 
     people: int
     lines: int
     fault: str
+    unsure: bool = False
 
 
 def carry_out(bundle: Bundle) -> Came:
@@ -251,7 +257,7 @@ def carry_out(bundle: Bundle) -> Came:
     try:
         reply = ask("do", lines=bundle.lines, seen=field("seen"), saw=bundle.saw)
     except KeeperFault as fault:
-        return Came(0, 0, str(fault))
+        return Came(0, 0, not_done(fault), isinstance(fault, Unsure))
     answers, count = answers_of(reply), reply["made"]
     made, left = ({line.split()[1] for line in part} for part in (bundle.lines[:count], bundle.lines[count:]))
     return Came(len(made - left), count, "" if reply["done"] else refused_at(bundle.lines[len(answers) - 1], answers[-1]))
@@ -265,6 +271,6 @@ def refused_at(line: str, answer: Answer) -> str:
 def ended_after(came: Came, count: int) -> str:
     """What the clerk reads of a bundle that was not carried out for all."""
     if not came.lines:
-        return _("This could not be done. {why}", why=plain.begun(came.fault))
+        return came.fault
     return _("This was done for the first {people} of {count} people. The office was changed meanwhile, and does not take the "
              "rest. {fault} Look how far it came before you go on.", people=came.people, count=count, fault=came.fault)

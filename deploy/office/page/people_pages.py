@@ -11,9 +11,10 @@ from mail_words import LONGEST_ADDRESS
 from plan_of_moves import NONE
 
 import explaining
+import keys_made
 import plain
-from app import app, attempt, change, clerk, field, go_to, is_done, memory, office_now, saw, show, tell, text_of, ticked
-from keeper_client import WasAnothers
+from app import app, ask, attempt, change, clerk, field, go_to, is_done, memory, office_now, saw, show, tell, text_of, ticked
+from keeper_client import KeeperFault, WasAnothers
 from kept_beside import erased_with
 from mail_lists import address_of
 from office_view import Office, Person
@@ -135,14 +136,9 @@ def set_grade(ident: str) -> None:
 def correct_name(ident: str) -> None:
     """Corrects a person's name."""
     place = person_of(office_now(), ident)
-    if correct("name", ident, text_of("name")):
+    if is_done("correct", person=ident, seen=field("seen"), saw=saw("name", ident), name=text_of("name")):
         tell("good", _("The name is corrected."))
     go_to(place)
-
-
-def correct(part: str, ident: str, value: str) -> bool:
-    """Gives a person another name or key. Whether that was done; else the clerk reads why not."""
-    return is_done("correct", person=ident, seen=field("seen"), saw=saw(part, ident), **{part: value})
 
 
 def question_of(office: Office, ident: str, act: str) -> Question | None:
@@ -213,10 +209,19 @@ def change_person(ident: str, act: str) -> None:
     elif act == "remove" and change("do", lines=[*leave, f"remove {ident}"], saw=saw("all", ident)):
         go_to("/office/register")
     elif act == "key":
-        key = secrets.token_hex(16)
-        if correct("key", ident, key):
-            show_once([(ident, person.name, key)], place)
+        make_key(person, place)
     go_to(place)
+
+
+def make_key(person: Person, place: str) -> None:
+    """Makes a new key for somebody, and shows the slip. If the keeper did not answer, the page looks whether it was made."""
+    key = secrets.token_hex(16)
+    try:
+        ask("correct", person=person.ident, key=key, seen=field("seen"), saw=saw("key", person.ident))
+    except KeeperFault as fault:
+        if not keys_made.after(fault, {person.ident: key}):
+            return
+    show_once([(person.ident, person.name, key)], place)
 
 
 @app.post("/office/person")
