@@ -148,7 +148,7 @@ class Worker:  # pylint: disable=too-many-instance-attributes  # the parts of th
             raise Fault(_("other changes took too long. Nothing was changed: try again."))
         change.done.wait()
         if change.fault:
-            raise Fault(change.fault)
+            raise Fault(_("{why} Besides: {left}", why=change.fault, left=change.left) if change.left else change.fault)
         return change
 
     def rows(self, still: bool = False) -> Rows:
