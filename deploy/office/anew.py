@@ -27,6 +27,7 @@ class Anew:
     def __init__(self, office: Office) -> None:
         self.program, self.copies, self.place = office.program, office.copies, office.copies.place
         self.mark = beside(self.copies.file, ".anew")
+        self.failed = False  # the last time
 
     def begin(self) -> None:
         """Notes on the disk that the file is to be written anew. If that fails, nothing may be erased yet."""
@@ -43,7 +44,9 @@ class Anew:
         try:
             self.write()
             replace_file(self.mark, None)
+            self.failed = False
         except (Fault, OSError, sqlite3.Error) as fault:
+            self.failed = True
             return _("what was erased may still be in free pages of the office's file, since the file could not be written anew "
                      "({why}). The keeper tries it again when it starts, and after the next list that is blanked.",
                      why=reason_of(fault))

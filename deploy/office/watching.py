@@ -52,9 +52,14 @@ def fault_of_past(ended: dict[str, Any] | None) -> str:
     return f"the server ended by itself with status {ended['status']} at {ended['at']} (so far {ended['times']})"
 
 
+def fault_of_anew(failed: bool) -> str:
+    """What is wrong with the office's file, if it could not be written anew."""
+    return "what was erased may still be in the office's file, which could not be written anew" if failed else ""
+
+
 def watch(office: Office, worker: Worker) -> dict[str, Any]:
     """What is wrong, and the age in seconds of the newest copy that was asked for."""
     age = office.backups.age()
     found = [fault_of_server(office.settings.port), fault_of_disk(beside(office.settings.file, ".watch")),
-             fault_of_copies(age), fault_of_past(worker.ended())]
+             fault_of_copies(age), fault_of_past(worker.ended()), fault_of_anew(worker.anew.failed)]
     return {"faults": [fault for fault in found if fault], "age": max(0.0, age or 0.0)}

@@ -164,7 +164,8 @@ class Worker:  # pylint: disable=too-many-instance-attributes  # the parts of th
             raise Fault(_("other changes took too long. Nothing was changed: try again."))
         change.done.wait()
         if change.fault:
-            raise (NotKnown if change.unknown else Fault)(change.fault)
+            why = _("{why} Besides: {left}", why=change.fault, left=change.left) if change.left else change.fault
+            raise (NotKnown if change.unknown else Fault)(why)
         return change
 
     def rows(self, still: bool = False) -> Rows:

@@ -7,6 +7,7 @@ This run alone: /usr/bin/python3 deploy/trial/erased.py PROGRAM
 import base64
 import contextlib
 import errno
+import re
 import shutil
 import sqlite3
 import sys
@@ -17,6 +18,7 @@ from unittest import mock
 from beside import copies_of
 from between import Between
 from bundles import noted
+from full import small_disk
 from kills import content, servers_of
 from office_forms import flat
 from office_requests import Page
@@ -92,11 +94,21 @@ def try_lines(stand):
                                                                    "changed."}, answer)
 
 
-def try_open(stand, page):
-    """Another program has the file open, so no other file can take its place: the clerk reads that something is left to be done."""
-    bring(stand, "b1", "b2")
-    remove(stand, "b1", "b2")
+def alarms(stand):
+    """How many alarms of the watch say that the file could not be written anew."""
+    return sum("could not be written anew" in one for one in stand.ask(ask="watch")["faults"])
+
+
+def try_open(stand, between, page):
+    """Another program has the file open, so no other file can take its place: the clerk reads that something is left to be done,
+    and so does the administrator."""
+    bring(stand, "b1", "b2", "b3")
+    remove(stand, "b1", "b2", "b3")
     with open(stand.file, "rb"):
+        between.before_next("kill -9 $REAL", after=1)
+        said = stand.ask(ask="do", lines=["blank b3", "blank b2"])["fault"]
+        check("so it is if the program dies in the middle", "1 of 2 lines were carried out before." in said
+              and "Besides: what was erased may still be in free pages" in said and blanked_in(stand)[-1] == "b3", said)
         answer = stand.ask(ask="blank", label="b1")
         said = answer.get("unkept", "")
         left = "may still be in free pages" in said and "(another program has it open: as root, `lslocks`" in said
@@ -107,11 +119,14 @@ def try_open(stand, page):
         page.form("/office/blank/b1", page="/office/blank/b1")
         shown = flat(page.get("/office/lists")[2])
         check("and the page", "The list b1 is blank." in shown and "What was erased may still be in free pages" in shown, shown)
-        check("which is so", holds(stand, "b1") and not is_written_anew(stand))
+        check("which is so", holds(stand, "b1") and holds(stand, "b3") and not is_written_anew(stand))
+        stand.stop_keeper()
+        stand.start()
+        check("the watch says so, also after another start of the keeper", alarms(stand) == 1)
         check("residents have their server", stand.until_listening(stand.server_port) is None and stand.server())
     check("another line changes nothing of that", stand.office("room B-2") == "ok\n" and not is_written_anew(stand))
     check("the next list that is blanked takes it along", "unkept" not in stand.ask(ask="blank", label="b2") and
-          not holds(stand, "b1") and not holds(stand, "b2") and is_written_anew(stand))
+          not any(holds(stand, label) for label in ("b1", "b2", "b3")) and is_written_anew(stand) and not alarms(stand))
 
 
 def try_killed(stand, between):
@@ -209,16 +224,62 @@ def try_faults():
                   and rooms_of(settings.file) == ["OLD"])
 
 
+def try_full(program):
+    """The disk is full in the middle of lines: the clerk reads how far they came, and nothing else."""
+    with small_disk() as disk:
+        if disk is None:
+            print("      a disk that is full in the middle was not tried: it takes the right to mount")
+            return
+        with Stand(program, data=disk) as stand:
+            between = Between(stand)
+            stand.start()
+            stand.start_page()
+            stand.start_proxy()
+            try_full_between(stand, between, Page(stand), disk / "filler")
+
+
+def try_full_between(stand, between, page, filler):
+    """The same in an office whose disk this file fills. The log has room for some lines all the same."""
+    fill = f"cat /dev/zero > {filler} 2> /dev/null"
+    bring(stand, "e1", "e2")
+    text = " ".join(f"E2{number}" for number in range(10, PEOPLE))
+    shown = page.form("/office/many", {"act": "remove", "text": text}, page="/office/many")[2]
+    held = re.search(r'name="held" value="(\w+)"', shown)
+    between.before_next(fill, after=3)
+    page.post("/office/many/do", {**page.hidden("/office/many", "/office/many"), "held": held[1] if held else ""})
+    filler.unlink()
+    shown, gone = flat(page.get("/office/register")[2]), 2 * PEOPLE - len(stand.ask(ask="view")["people"])
+    check("of many who are removed the page says how many were, and not that nothing was changed", 0 < gone < PEOPLE - 10 and
+          f"This was done for the first {gone} of {PEOPLE - 10} people, and not for the rest. At the line remove E2{gone + 10} it "
+          "ended: The file, the disk or the memory failed." in shown and "Nothing was changed" not in shown, (gone, shown[:2000]))
+    body = base64.b64encode("person,grade\nE110,2\n".encode()).decode()
+    labels = [f"e{number}" for number in range(3, 23)]
+    for label in labels:
+        check(f"the list {label} comes in", stand.ask(ask="import", kind="grades", label=label, body=body).get("done"))
+    for after, said in ((2, "Only a part of this was carried out."), (0, "The file, the disk or the memory failed.")):
+        check("the log begins anew", stand.ask(ask="blank", label="e2") == {"blanked": "e2"})
+        between.before_next(fill, after)
+        page.form("/office/forget/E110", page="/office/forget/E110")
+        filler.unlink()
+        shown = flat(page.get("/office/about/E110")[2])
+        check(f"of a person who is forgotten the page says: {said}", f"{said} " in shown and "The file, the disk or the memory "
+              "failed. Look whether the change was made." in shown and "Nothing was changed" not in shown, shown[:2000])
+    check("which is so", not set(labels) <= set(blanked_in(stand)))
+    page.form("/office/forget/E110", page="/office/forget/E110")
+    check("with room again it is done", {"e1", *labels} <= set(blanked_in(stand)) and is_written_anew(stand))
+
+
 def try_erased(program):
     """All of it."""
     try_faults()
+    try_full(program)
     with Stand(program) as stand:
         between = Between(stand)
         stand.start()
         stand.start_page()
         stand.start_proxy()
         try_lines(stand)
-        try_open(stand, Page(stand))
+        try_open(stand, between, Page(stand))
         try_killed(stand, between)
         try_forget(stand, between)
         try_same(stand)

@@ -177,10 +177,15 @@ def try_correct(stand, between):
         check(f"the keeper refuses {values}", said in answer.get("fault", ""), answer)
     between.before_next(between.by_hand("remove T041"), after=1)
     answer = stand.ask(ask="correct", person="T042", name="Ann Li", key=f"{KEY}42")
-    check("a line by hand that finds the file in use changes nothing", answer.get("corrected") == "T042", answer)
+    check("a line by hand that finds the file in use changes nothing", answer.get("corrected") == "T042" and
+          "T041" in keys_of(stand), answer)
     check("a person gets both", works(stand, f"{KEY}42") and ["T042", "Ann Li"] in
           [row[:2] for row in stand.ask(ask="view")["people"]])
     check("in one entry of the journal", noted(stand, 1) == [("correct T042: name and key", "ok", 0)], noted(stand, 1))
+    between.before_next("kill -9 $REAL", after=1)
+    answer = stand.ask(ask="correct", person="T043", name="Ann Li", key=f"{KEY}43")
+    check("if the program dies between the two, the keeper says that the first one stands", "1 of 2 lines were carried out before."
+          in answer["fault"] and works(stand, f"{KEY}43"), answer)
 
 
 def try_new_keys(program):

@@ -176,10 +176,9 @@ def forget(ident: str) -> None:
     except KeeperFault as fault:
         tell_fault(fault)
         go_to(place)
-    why = plain.meaning(answers_of(reply)[-1].text)
     if reply["done"]:
         tell("good", _("{person} is forgotten, as far as this can be done at once. This page says what is left.", person=ident))
     else:
-        tell("bad", plain.done_in_part(why) if reply["made"] else _("Nothing was changed. {why}", why=why))
+        tell("bad", plain.not_done(reply["made"], *answers_of(reply)[-1]))
     tell_unkept(reply)
     go_to(place)

@@ -24,7 +24,6 @@ from bottle import HTTPResponse, request
 
 import times
 from languages import ENGLISH, N_, _, accepted, first_of, languages, speak, spoken
-from lines import UNAVAILABLE
 
 import keeper_client
 import plain
@@ -252,12 +251,7 @@ def change(question: str, **fields: Any) -> bool:
     answers = keeper_client.answers_of(reply)
     last = answers[-1]
     if not reply["done"]:
-        # If the file, the disk or the memory failed, the change may have been made: then `meaning` says to look.
-        why = plain.meaning(last.text)
-        if reply.get("made"):
-            tell("bad", plain.done_in_part(why))
-        else:
-            tell("bad", str(why) if last.status == UNAVAILABLE else _("Nothing was changed. {why}", why=why))
+        tell("bad", plain.not_done(reply.get("made", 0), *last))
         return False
     tell("good", plain.done(last.text))
     tell_unkept(reply)

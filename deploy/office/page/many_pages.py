@@ -6,6 +6,7 @@ from typing import Any, NamedTuple, NoReturn
 
 from journal import KEY, masked, masked_line
 from languages import N_, _, ngettext
+from lines import UNAVAILABLE
 from seen import Saw
 
 import keys_made
@@ -264,13 +265,14 @@ def carry_out(bundle: Bundle) -> Came:
 
 
 def refused_at(line: str, answer: Answer) -> str:
-    """What the clerk reads of a line of many that was refused."""
-    return _("The line {line} is refused: {why}", line=masked_line(line), why=plain.meaning(answer.text))
+    """What the clerk reads of a line of many that was not carried out, or of which nobody knows it."""
+    text = N_("At the line {line} it ended: {why}") if answer.status == UNAVAILABLE else N_("The line {line} is refused: {why}")
+    return _(text, line=masked_line(line), why=plain.meaning(answer.text))
 
 
 def ended_after(came: Came, count: int) -> str:
     """What the clerk reads of a bundle that was not carried out for all."""
     if not came.lines:
         return came.fault
-    return _("This was done for the first {people} of {count} people. The office was changed meanwhile, and does not take the "
-             "rest. {fault} Look how far it came before you go on.", people=came.people, count=count, fault=came.fault)
+    return _("This was done for the first {people} of {count} people, and not for the rest. {fault} Look how far it came before "
+             "you go on.", people=came.people, count=count, fault=came.fault)

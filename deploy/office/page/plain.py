@@ -7,6 +7,7 @@ from typing import NamedTuple
 
 from house_places import here
 from languages import N_, _, ngettext
+from lines import UNAVAILABLE
 from seen import STATES
 
 HOUSE = here().house  # or nothing
@@ -307,10 +308,16 @@ def done(text: str) -> str:
     return _(texts[words[0]], number=number) if words[0] in texts else text.strip()
 
 
-def done_in_part(why: Meaning) -> str:
-    """What a clerk reads of several lines of which the office has carried out the first ones, and why not the next one."""
-    return _("Only a part of this was carried out, since the office was changed meanwhile. Then it was refused: {why} Look before "
-             "you go on.", why=why)
+def not_done(made: int, text: str, status: int) -> str:
+    """What a clerk reads of lines of which the office has carried out so many, and not the next one, which has this answer. If the
+    file, the disk or the memory failed, that one may have been carried out, too: `meaning` says to look."""
+    why, failed = meaning(text), status == UNAVAILABLE
+    if made and failed:
+        return _("Only a part of this was carried out. {why}", why=why)
+    if made:
+        return _("Only a part of this was carried out, since the office was changed meanwhile. Then it was refused: {why} Look "
+                 "before you go on.", why=why)
+    return str(why) if failed else _("Nothing was changed. {why}", why=why)
 
 
 def meaning(text: str) -> Meaning:
