@@ -133,10 +133,10 @@ def try_at_once(stand, between):
     copies = names_of_copies(stand)
     between.before_next("sleep 2")
     with ThreadPoolExecutor(3) as pool:
-        told = [pool.submit(stand.command, "do", "close")]
+        asked = [pool.submit(stand.command, "do", "close")]
         until(lambda: Path(f"{between.act}.done").exists(), 30, "the first of three lines")
-        told += [pool.submit(stand.command, "do", "close") for _ in range(2)]
-        first, *others = [one.result() for one in told]
+        asked += [pool.submit(stand.command, "do", "close") for _ in range(2)]
+        first, *others = [one.result() for one in asked]
     check("of three lines at once the first is carried out, after a copy", first[0] == 0 and "is kept" in first[2], first)
     check("the others are refused, and nothing is said of a copy", others == [(1, "refused 1 BadPhase closed\n", "")] * 2, others)
     made = [why for name, why in names_of_copies(stand).items() if name not in copies]

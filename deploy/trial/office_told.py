@@ -11,9 +11,7 @@ import http.client
 import json
 import re
 import socket
-import socketserver
 import sys
-import threading
 from pathlib import Path
 
 # The repository stays as it is.
@@ -24,9 +22,9 @@ import some_pictures
 from office_again import flat
 from office_requests import EDGE, Page
 from stand import HOST, Stand, check, unchecked
+from told_apart import TOLD, try_separation
 
 ROOMS = ["N-101", "N-102", "N-103", "S-201", "S-202"]
-TOLD = "/told/told.json"
 PLACE = "/office/told"
 # As an office has it: in German, with semicolons, in the character set of Windows, and with a column too many.
 LIST = ("Zimmer;Gebäude;Etage;Größe (m²);Warmmiete;Ausstattung;Hausmeister\r\n"
@@ -101,48 +99,6 @@ def try_nothing(stand, resident):
     check("nobody may send anything there", resident.post(TOLD, {"x": "y"})[0] == 405)
     check("not even in the body of a question", resident.ask("GET", TOLD, b"x" * 10)[0] == 413)
     check("who has no password comes to no form", resident.get(PLACE)[0] == 401 and resident.post(f"{PLACE}/words", {})[0] == 401)
-
-
-def try_separation(stand, resident):
-    """Whatever is in the folder, the proxy says of what kind it is: no page takes it for a script."""
-    folder, name = stand.folder / "told", "f" * 32 + ".jpg"
-    (folder / name).write_bytes(b"alert('script')")
-    status, fields, _ = resident.get(f"/told/{name}")
-    check("a script in the folder is served as a picture, which no page runs", (status, fields["content-type"],
-          fields["x-content-type-options"]) == (200, "image/jpeg", "nosniff"), fields)
-    (folder / name).unlink()
-    (folder / name).symlink_to("/etc/passwd")
-    check("no link leads out of the folder", resident.get(f"/told/{name}")[0] == 404)
-    (folder / name).unlink()
-    try_liar(stand, resident)
-
-
-class Liar(socketserver.StreamRequestHandler):
-    """Answers as somebody may who has taken over the server of what residents read."""
-
-    def handle(self):
-        """Answers any request with a script."""
-        self.rfile.readline()
-        self.wfile.write(b"HTTP/1.1 200 OK\r\nContent-Type: text/javascript\r\nSet-Cookie: a=b\r\nContent-Length: 8\r\n"
-                         b"Connection: close\r\n\r\nalert(1)")
-
-
-def try_liar(stand, resident):
-    """A server of what residents read that gives out scripts."""
-    stand.end(stand.told)
-    place = Path(stand.environment["ROOMS_TOLD_SOCKET"])
-    place.unlink(missing_ok=True)
-    with socketserver.UnixStreamServer(str(place), Liar) as server:
-        threading.Thread(target=server.serve_forever, daemon=True).start()
-        for path, kind in ((TOLD, "application/json"), (f"/told/{'a' * 32}.jpg", "image/jpeg")):
-            status, fields, text = resident.get(path)
-            check(f"{path} is no script, whatever its server says", (status, fields["content-type"], text)
-                  == (200, kind, "alert(1)") and "set-cookie" not in fields, fields)
-        for path in ("/portal.js", "/told.js", "/"):
-            check(f"{path} does not come from it", "alert(1)" not in resident.get(path)[2])
-        server.shutdown()
-    place.unlink()
-    stand.start_told()
 
 
 # --- notice and contact
