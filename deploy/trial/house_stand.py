@@ -66,14 +66,11 @@ class HouseStand(Stand):
         own = [name for name in ("index.html", "texts.js", "rooms.csv")
                if f" /etc/rooms/houses/{self.house}/portal/{name} " in text]
         super().start_proxy(*changes, *((f"/etc/rooms/houses/{self.house}/portal/{name} ",
-                                         f"{self.machine}/etc/rooms/houses/{self.house}/portal/{name} ") for name in own),
-                            *self.shared_files(text))
+                                         f"{self.machine}/etc/rooms/houses/{self.house}/portal/{name} ") for name in own))
 
-    @staticmethod
-    def shared_files(text):
-        """The files of the page that all houses share: in the trial those of the repository."""
-        found = {word for word in text.split() if word.startswith("/usr/share/rooms/portal/")}
-        return [(f"{word} ", f"{DEPLOY / 'portal'}/{Path(word).name} ") for word in sorted(found)]
+    def with_portal(self, text):
+        """The files of the page that all houses share are in the trial those of the repository."""
+        return text.replace("/usr/share/rooms/portal/", f"{DEPLOY / 'portal'}/")
 
     def make_certificate(self, *kind):
         """By the command that an administrator uses."""

@@ -244,7 +244,7 @@ class Stand:  # pylint: disable=too-many-instance-attributes,too-many-public-met
             if text.count(old) != 1:
                 fail(f"haproxy.cfg has {text.count(old)} times {old!r}")
             text = text.replace(old, new)
-        text = text.replace("/srv/rooms/portal", str(self.portal))
+        text = self.with_portal(text)
         settings = self.folder / "haproxy.cfg"
         settings.write_text(text, encoding="utf-8")
         subprocess.run(["haproxy", "-q", "-c", "-f", settings], check=True)
@@ -269,6 +269,10 @@ class Stand:  # pylint: disable=too-many-instance-attributes,too-many-public-met
     def until_proxied(self):
         """Waits until HAProxy takes connections."""
         self.until_listening(self.port)
+
+    def with_portal(self, text):
+        """The proxy's file with the folder of the residents' page, which also has what clerks read if their page is away."""
+        return text.replace("/srv/rooms/portal", str(self.portal))
 
     def proxy_file(self):
         """The repository's file."""
