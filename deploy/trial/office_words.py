@@ -198,8 +198,6 @@ def try_refusals(stand, page):
     shown = seen_at(page, "/office/rooms")
     check("nor of one new room", "This room is in the register already. Look at the page Rooms." in shown and "Take the line" not in
           shown and stand.ask(ask="view")["people"] == before, shown)
-    shown = flat(page.form("/office/lists", {"kind": "rooms", "label": "again"}, files={"list": f"room\n{ROOMS[0]}\n".encode()})[2])
-    check("but of a list", "Take the line out of the list." in shown, shown)
 
 
 def try_office_words(program):
