@@ -2,6 +2,8 @@
 that: before it answers lines in the office's own file, or after some of them.
 """
 
+from pathlib import Path
+
 PROGRAM = """#!/usr/bin/python3
 import os, shlex, subprocess, sys, time
 os.environ["KEEPER"] = str(os.getppid())
@@ -47,7 +49,9 @@ class Between:
 
     def before_next(self, words, after=0):
         """Has a line of the shell carried out before the next lines in the office's file; or after so many of these, while the
-        program has the file, as the process $REAL. The process $KEEPER is the keeper, whose own first line is a `round`."""
+        program has the file, as the process $REAL. The process $KEEPER is the keeper, whose own first line is a `round`. Once it
+        begins, there is a file ACT.done."""
+        Path(f"{self.act}.done").unlink(missing_ok=True)
         self.act.write_text(f"{after + 1 if after else 0}\n{words}", encoding="utf-8")
 
     def by_hand(self, *lines):

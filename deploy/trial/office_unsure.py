@@ -41,7 +41,6 @@ def kill_during(stand, between, press, waits=None, back=True):
 
 def before_the_end(between, after=0):
     """Lets the program wait before its next lines in the office's file, or after so many of them."""
-    Path(f"{between.act}.done").unlink(missing_ok=True)
     between.before_next(LONG, after)
 
 
