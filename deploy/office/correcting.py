@@ -49,7 +49,8 @@ def why_refused(line: str, answer: Answer) -> str:
         return _("nobody has the identifier {person}.", person=repr(what))
     if number == ["6"]:
         return _("another person has this key.")
-    return _("the program does not take this name or key ({said}).", said=said)
+    return _("the program does not take this name or key ({said}). A name is not empty and has at most 60 bytes, of which a letter "
+             "with an accent takes two; a key has 16 to 64 small letters and digits.", said=said)
 
 
 def unchanged(why: str) -> Fault:

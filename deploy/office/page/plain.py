@@ -191,7 +191,7 @@ REFUSALS = {
     12: Meaning(N_("The number of words is not the number of participants."), N_("Draw again.")),
     13: Meaning(N_("A limit is reached: 2,000 rooms, 2,000 people, 200 lists, or 262,144 bytes in a list."),
                 N_("Split a long list in two.")),
-    14: Meaning(N_("Another list was imported under this label."), N_("Choose another label.")),
+    14: Meaning(N_("Another list was imported under this label, or the list was blanked since."), N_("Choose another label.")),
     16: Meaning(N_("This person takes no part in the round."), N_("Choose a participant.")),
     17: Meaning(N_("This round is not over, or there was no such round."), N_("Choose a round that is settled.")),
     18: Meaning(N_("This room is in use."), N_("There is nothing to bring back.")),
