@@ -171,7 +171,7 @@ def try_way_back(stand):
 def try_correct(stand, between):
     """What the keeper refuses of a name and a key of one person, and what stands if the office is changed between the two."""
     for values, said in (({"person": "T041 Ann", "name": "Li"}, "nobody has the identifier 'T041 Ann'. Nothing was changed."),
-                         ({"person": "T041", "name": "Ann  Li"}, "does not take this name or key (not understood). Nothing"),
+                         ({"person": "T041", "name": "Ann  Li"}, "does not take this name or key (not understood). A name"),
                          *(({"person": "T041", **{part: value}}, "does not take this name or key") for part, value in WRONG)):
         answer = stand.ask(ask="correct", **values)
         check(f"the keeper refuses {values}", said in answer.get("fault", ""), answer)
