@@ -3,8 +3,8 @@ use Rattle.std.specs.Prelude.{◌≡◌, ℕ, ◌≤◌, ◌⊎◌, List, Option
 use Rattle.std.specs.declared.io.Error.{Error}
 use Rattle.office_cli.specs.Importing.{ImportsFrom, list_limit}
 use Rattle.office_lines.specs.Printing.{PrintsUnavailable}
-use Rattle.office_store.specs.declared.requests.Answer.{Answer}
-use Rattle.office_store.specs.declared.requests.Request.{Request}
+use Rattle.office_core.specs.declared.requests.Answer.{Answer}
+use Rattle.office_core.specs.declared.requests.Request.{Request}
 use Rattle.room_types.specs.Streams.{Output}
 use Rattle.room_types.specs.Texts.{Text}
 use Rattle.resident_http.specs.server.Unused.{IsUnused}

@@ -4,6 +4,7 @@ pub mod Laws
 pub mod Query
 pub mod Refusal
 pub mod Replies
+pub mod Requests
 pub use Rattle.office_state.specs.Change
 pub use Rattle.office_state.specs.Empty
 pub use Rattle.office_state.specs.Office

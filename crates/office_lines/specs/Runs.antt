@@ -1,9 +1,9 @@
 -- The responses that a handler may give to lines.
 use Rattle.std.specs.Prelude.{◌≡◌, ℕ, Bool, true, false, not, ◌⊎◌, max, List, [], ◌∷◌}
 use Rattle.std.specs.List.{flat_map}
-use Rattle.office_store.specs.declared.requests.Request.{Request}
-use Rattle.office_store.specs.declared.requests.Answer.{Answer}
-use Rattle.office_store.specs.declared.requests.Answer.TheVariants.{Unavailable}
+use Rattle.office_core.specs.declared.requests.Request.{Request}
+use Rattle.office_core.specs.declared.requests.Answer.{Answer}
+use Rattle.office_core.specs.declared.requests.Answer.TheVariants.{Unavailable}
 use Rattle.office_lines.specs.declared.line.ParsedLine.{ParsedLine}
 use Rattle.office_lines.specs.declared.line.ParsedLine.TheVariants.{Ignored, Valid, Invalid}
 use Rattle.office_lines.specs.declared.render.response.Response.{Response}

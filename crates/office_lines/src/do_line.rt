@@ -8,7 +8,7 @@ use crate::limits::LINE_LIMIT;
 use crate::line::handle_line;
 use crate::print::{print, print_unavailable};
 use crate::render::{NOT_UNDERSTOOD, Response, UNAVAILABLE, exit_status, text_of};
-use office_store::Handler;
+use office_core::Handler;
 use room_types::Watched;
 use std::alloc::Global;
 use std::io::Write;

@@ -10,7 +10,7 @@ ghost use Rattle.office_lines.specs.Runs.{Step};
 use crate::parse::requests::{verb_of, words_to_command};
 use crate::parse::word_fault::WordFault;
 use crate::render::Response;
-use office_store::{Answer, Handler, Request};
+use office_core::{Answer, Handler, Request};
 use room_types::OutOfMemory;
 use std::alloc::{AllocError, Global};
 

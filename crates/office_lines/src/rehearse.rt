@@ -12,7 +12,7 @@ use crate::ending::{Ending, Rehearsed};
 use crate::limits::{CHUNK_LIMIT, READ_LIMIT};
 use crate::render::UNAVAILABLE;
 use crate::session::Session;
-use office_store::Handler;
+use office_core::Handler;
 use room_types::Watched;
 use std::alloc::Global;
 use std::io::{Read, Write};

@@ -4,8 +4,8 @@ use Rattle.office_state.specs.Change.{applied, change_allocates}
 use Rattle.office_state.specs.declared.change.Change.{Change}
 use Rattle.office_state.specs.declared.office.Office.{Office}
 use Rattle.office_core.specs.Command.{changes_of}
-use Rattle.office_store.specs.declared.requests.Request.{Request}
-use Rattle.office_store.specs.declared.requests.Request.TheVariants as request
+use Rattle.office_core.specs.declared.requests.Request.{Request}
+use Rattle.office_core.specs.declared.requests.Request.TheVariants as request
 
 -- Applying the changes in turn needs memory for at least one of them.
 abbrev pub changes_allocate : Office → List Change → Bool

@@ -10,9 +10,9 @@ use Rattle.office_schema.specs.tables.Crashes.{LeavesNothingNew, ShowsCommitted}
 use Rattle.office_schema.specs.tables.Tables.{AreHeld}
 use Rattle.office_store.specs.Desk.{DeskState, HandlesAt, Shows}
 use Rattle.office_store.specs.LawfulSteps.{HandlesLawfully}
-use Rattle.office_store.specs.Requests.{IsRun, office_after}
-use Rattle.office_store.specs.declared.requests.Answer.{Answer}
-use Rattle.office_store.specs.declared.requests.Request.{Request}
+use Rattle.office_core.specs.Requests.{IsRun, office_after}
+use Rattle.office_core.specs.declared.requests.Answer.{Answer}
+use Rattle.office_core.specs.declared.requests.Request.{Request}
 
 module _ {S : Type 0} (g : Ghosts S) where
   -- In this run of requests, which begins at the desk `old` when the office is `office`, a fault closed the connection

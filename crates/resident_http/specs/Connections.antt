@@ -6,8 +6,8 @@ use Rattle.room_types.specs.Streams.{Input, Output, Puts, input_of, output_of}
 use Rattle.room_types.specs.Watched.{counted, watched_ended, watched_inner}
 use Rattle.room_types.specs.declared.stream.Stream.{Ghosts as Calls}
 use Rattle.room_types.specs.declared.watched.Watched.{Watched}
-use Rattle.office_store.specs.declared.requests.Answer.{Answer as DeskAnswer}
-use Rattle.office_store.specs.declared.requests.Request.{Request}
+use Rattle.office_core.specs.declared.requests.Answer.{Answer as DeskAnswer}
+use Rattle.office_core.specs.declared.requests.Request.{Request}
 use Rattle.resident_requests.specs.Answers.{Answer, bytes_of}
 use Rattle.resident_requests.specs.Asks.{Asked, Asks, is_more, more}
 use Rattle.resident_http.specs.Calls.{FailsToRead, FindsEnd, Reads, ReadsAll, Sends}

@@ -7,8 +7,8 @@ use Rattle.room_types.specs.declared.rows.RoomRow.{RoomRow}
 use Rattle.office_core.specs.declared.refusal.Refusal.{Refusal}
 use Rattle.office_core.specs.declared.refusal.Refusal.TheVariants as refusal
 use Rattle.office_core.specs.declared.reply.Standing.{Standing}
-use Rattle.office_store.specs.declared.requests.Answer.{Answer as DeskAnswer}
-use Rattle.office_store.specs.declared.requests.Answer.TheVariants as desk
+use Rattle.office_core.specs.declared.requests.Answer.{Answer as DeskAnswer}
+use Rattle.office_core.specs.declared.requests.Answer.TheVariants as desk
 use Rattle.resident_requests.specs.Answers.{Answer}
 use Rattle.resident_requests.specs.Bodies.{rooms_data, standing_data}
 use Rattle.resident_requests.specs.Faults.{fault_answer, fault_name, success_answer}

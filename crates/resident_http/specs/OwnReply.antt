@@ -5,7 +5,7 @@ use Rattle.room_types.specs.Texts.{Text}
 use Rattle.office_state.specs.Office.{choices_of, has_withdrawn, is_going, is_taken, owner, recorded_result}
 use Rattle.office_state.specs.Office.Phases.{is_published}
 use Rattle.office_state.specs.declared.office.Office.{Office}
-use Rattle.office_store.specs.Requests.{Handles}
+use Rattle.office_core.specs.Requests.{Handles}
 use Rattle.resident_requests.specs.Answers.{Answer}
 use Rattle.resident_requests.specs.Asks.{Asks, ask}
 use Rattle.resident_http.specs.Serving.{Serves}

@@ -10,10 +10,10 @@ use Rattle.office_core.specs.declared.query.Query.TheVariants as query
 use Rattle.office_core.specs.declared.refusal.Refusal.TheVariants.{UnknownPerson}
 use Rattle.office_core.specs.declared.reply.Reply.TheVariants as reply
 use Rattle.office_core.specs.declared.reply.Standing.{Standing}
-use Rattle.office_store.specs.declared.requests.Answer.{Answer as DeskAnswer}
-use Rattle.office_store.specs.declared.requests.Answer.TheVariants as desk
-use Rattle.office_store.specs.declared.requests.Request.{Request}
-use Rattle.office_store.specs.declared.requests.Request.TheVariants as request
+use Rattle.office_core.specs.declared.requests.Answer.{Answer as DeskAnswer}
+use Rattle.office_core.specs.declared.requests.Answer.TheVariants as desk
+use Rattle.office_core.specs.declared.requests.Request.{Request}
+use Rattle.office_core.specs.declared.requests.Request.TheVariants as request
 use Rattle.resident_requests.specs.Answers.{Answer}
 use Rattle.resident_requests.specs.Asks.{Asked, Asks, ask, fault, more}
 use Rattle.resident_requests.specs.Bodies.{choices_data, choices_of_body, withdrawn_data}

@@ -5,7 +5,7 @@ ghost use Rattle.sqlite.specs.State.{HasCleanDisk};
 ghost use Rattle.sqlite.specs.Steps.{over_memory};
 ghost use Rattle.office_state.specs.declared.office.Office.{Office as AnyOffice};
 ghost use Rattle.office_store.specs.Desk.{HandlesAt, Shows, Represents};
-ghost use Rattle.office_store.specs.Requests.{Handles};
+ghost use Rattle.office_core.specs.Requests.{Handles};
 ghost use Rattle.office_schema.specs.tables.Steps.{Follows};
 ghost use Rattle.room_types.specs.Watched.{IsFresh, StopsAtEnd, watched_reads};
 ghost use Rattle.resident_http.specs.Connections.{ServesConnection, connection_limit, connection_of};

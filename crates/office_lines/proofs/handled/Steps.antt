@@ -1,7 +1,7 @@
 -- If each request to a concrete handler simulates one to an abstract handler, so does each line.
 use Rattle.std.proofs.Common.{ℕ, Bool, List, inl, inr, refl, sym, subst}
-use Rattle.office_store.specs.declared.requests.Answer.{Answer}
-use Rattle.office_store.specs.declared.requests.Request.{Request}
+use Rattle.office_core.specs.declared.requests.Answer.{Answer}
+use Rattle.office_core.specs.declared.requests.Request.{Request}
 use Rattle.office_lines.specs.Runs.{Answers}
 use Rattle.office_lines.specs.parse.Parsing.{begins_request, parsed_line}
 use Rattle.office_lines.specs.SingleLines.{DoesText, DoesWords}

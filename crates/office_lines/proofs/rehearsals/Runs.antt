@@ -1,8 +1,8 @@
 -- Runs of lines, one after another.
 use Rattle.std.proofs.Common.{◌≡◌, ◌≤◌, ◌<◌, ◌+◌, ℕ, Bool, true, false, inr, refl, List, [], ◌∷◌, ◌++◌, length, max, ◌∙◌, ap, subst, arith, length-append}
 use Rattle.std.proofs.lemmas.List.Concat.{flat_map-append}
-use Rattle.office_store.specs.declared.requests.Answer.{Answer}
-use Rattle.office_store.specs.declared.requests.Request.{Request}
+use Rattle.office_core.specs.declared.requests.Answer.{Answer}
+use Rattle.office_core.specs.declared.requests.Request.{Request}
 use Rattle.office_lines.specs.declared.render.response.Response.{Response}
 use Rattle.office_lines.specs.render.Texts.{text_of, exit_status}
 use Rattle.office_lines.specs.Lines.{init}
@@ -10,7 +10,7 @@ use Rattle.office_lines.specs.parse.Parsing.{begins_request, is_ignored, parsed_
 use Rattle.office_lines.specs.declared.line.ParsedLine.{ParsedLine}
 use Rattle.office_lines.specs.declared.line.ParsedLine.TheVariants.{Ignored, Valid, Invalid}
 use Rattle.office_lines.specs.declared.render.response.Response.TheVariants.{Answered}
-use Rattle.office_store.specs.declared.requests.Answer.TheVariants.{Unavailable}
+use Rattle.office_core.specs.declared.requests.Answer.TheVariants.{Unavailable}
 use Rattle.office_lines.specs.Runs.{Answers, Run, Step, texts_of, last_is_made, greatest_status}
 
 module _ {H : Type 0} (handles : H → Request → Answer → H → Type 0) where

@@ -1,7 +1,7 @@
 -- If each request to a concrete handler simulates one to an abstract handler, so does a rehearsal.
 use Rattle.std.proofs.Common.{ℕ, List, [], ◌∷◌, refl, sym, subst}
-use Rattle.office_store.specs.declared.requests.Answer.{Answer}
-use Rattle.office_store.specs.declared.requests.Request.{Request}
+use Rattle.office_core.specs.declared.requests.Answer.{Answer}
+use Rattle.office_core.specs.declared.requests.Request.{Request}
 use Rattle.office_lines.specs.Lines.{ended_lines, lines_of}
 use Rattle.office_lines.specs.Rehearsals.{PartOfInput, Rehearses, WholeInput, WholeLines}
 use Rattle.office_lines.specs.Runs.{Run}

@@ -6,8 +6,8 @@ use Rattle.office_lines.specs.declared.render.response.Response.{Response}
 use Rattle.office_lines.specs.declared.ending.Ending.{Ending}
 use Rattle.office_lines.specs.declared.ending.Ending.TheVariants.{Ended, ReadFault, WriteFault, NoMemory}
 use Rattle.office_lines.specs.declared.session.Session.{Session}
-use Rattle.office_store.specs.declared.requests.Answer.{Answer}
-use Rattle.office_store.specs.declared.requests.Request.{Request}
+use Rattle.office_core.specs.declared.requests.Answer.{Answer}
+use Rattle.office_core.specs.declared.requests.Request.{Request}
 use Rattle.office_lines.specs.Lines.{is_short, is_line_end, line_limit, chunk_limit, read_limit, init, unended}
 use Rattle.room_types.specs.Streams.{Input, Output, Puts}
 use Rattle.room_types.specs.Watched.{counted}

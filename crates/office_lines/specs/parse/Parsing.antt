@@ -5,7 +5,7 @@ use Rattle.std.specs.Str.{is_utf8}
 use Rattle.std.specs.Str.Lines.{strip_carriage_return}
 use Rattle.room_types.specs.Texts.{Text}
 use Rattle.office_lines.specs.parse.Requests.{names_request, request_of}
-use Rattle.office_store.specs.declared.requests.Request.{Request}
+use Rattle.office_core.specs.declared.requests.Request.{Request}
 use Rattle.office_lines.specs.declared.line.ParsedLine.{ParsedLine}
 use Rattle.office_lines.specs.declared.line.ParsedLine.TheVariants.{Ignored, Valid, Invalid}
 

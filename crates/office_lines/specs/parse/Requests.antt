@@ -10,8 +10,8 @@ use Rattle.office_lines.specs.parse.Verbs.{verb_of}
 use Rattle.office_lines.specs.declared.parse.requests.Verb.{Verb}
 use Rattle.office_lines.specs.declared.parse.requests.Verb.TheVariants as verb
 use Rattle.office_lines.specs.parse.Values.{all_of, choices_in, in_grammar, joined, only, round_number}
-use Rattle.office_store.specs.declared.requests.Request.{Request}
-use Rattle.office_store.specs.declared.requests.Request.TheVariants.{Office, Ask}
+use Rattle.office_core.specs.declared.requests.Request.{Request}
+use Rattle.office_core.specs.declared.requests.Request.TheVariants.{Office, Ask}
 
 -- `room CODE`
 abbrev pub add_room : List Text → Option Request

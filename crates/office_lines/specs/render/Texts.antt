@@ -1,8 +1,8 @@
 -- The text and the status of a response.
 use Rattle.std.specs.Prelude.{ℕ, Bool, true, false, ⊤, [], ◌∷◌, codes}
 use Rattle.room_types.specs.Texts.{Text}
-use Rattle.office_store.specs.Requests.{AnswerAscends}
-use Rattle.office_store.specs.declared.requests.Answer.TheVariants.{Reply, Refused, Unavailable}
+use Rattle.office_core.specs.Requests.{AnswerAscends}
+use Rattle.office_core.specs.declared.requests.Answer.TheVariants.{Reply, Refused, Unavailable}
 use Rattle.office_lines.specs.declared.render.response.Response.{Response}
 use Rattle.office_lines.specs.declared.render.response.Response.TheVariants.{Nothing, Answered, NotUnderstood}
 use Rattle.office_lines.specs.render.RefusalTexts.{refusal_text}

@@ -10,8 +10,7 @@ use crate::parse::values::{
     choices_in, drawn_words, grade_of, name_of, only_value, round_number, value_of,
 };
 use crate::parse::word_fault::WordFault;
-use office_core::{Command, Query};
-use office_store::Request;
+use office_core::{Command, Query, Request};
 use std::alloc::Global;
 
 /// The kind of request that the first word of a line names. Each variant is named after this word: `Room` after

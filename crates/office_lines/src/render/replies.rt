@@ -8,9 +8,8 @@ ghost use Rattle.office_lines.specs.render.Replies.{going_text, reply_text, resu
 use crate::render::order_lines::order_text;
 use crate::render::refusals::refusal_text;
 use crate::render::response::Response;
-use office_core::{Reply, Standing};
+use office_core::{Answer, Reply, Standing};
 use office_lists::{move_day_text, or_none, people_text, results_text, rooms_text};
-use office_store::Answer;
 use room_types::{OutOfMemory, PersonId, Phase, RoomCode};
 use std::alloc::{AllocError, Global};
 use std::borrow::CowStr;

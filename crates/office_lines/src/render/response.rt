@@ -1,5 +1,5 @@
 //! The response to an input line.
-use office_store::Answer;
+use office_core::Answer;
 
 /// The response to an input line.
 #[derive(Drop)]

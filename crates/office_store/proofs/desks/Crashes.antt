@@ -11,9 +11,9 @@ use Rattle.office_schema.specs.rows.Tables.{rows_of}
 use Rattle.office_schema.specs.tables.Tables.{AreHeld, HoldsOffice}
 use Rattle.office_store.specs.Crashes.{LeavesAfterRequest, LeavesAfterRun, LeavesNothingOnceClosed, LeavesOffice, LeavesWhatIsShown}
 use Rattle.office_store.specs.Desk.{DeskState, HandlesAt, Represents}
-use Rattle.office_store.specs.Requests.{IsRun, office_after}
-use Rattle.office_store.specs.declared.requests.Answer.{Answer}
-use Rattle.office_store.specs.declared.requests.Request.{Request}
+use Rattle.office_core.specs.Requests.{IsRun, office_after}
+use Rattle.office_core.specs.declared.requests.Answer.{Answer}
+use Rattle.office_core.specs.declared.requests.Request.{Request}
 use Rattle.office_store.proofs.desks.Requests.{represents_if_shown, shows_if_open}
 use Rattle.office_store.proofs.desks.Runs.{run_follows, step_represented}
 

@@ -28,11 +28,12 @@ use Rattle.office_store.proofs.desks.Certain.{false_is_not_true}
 use Rattle.office_store.specs.Caching.{changes_allocate}
 use Rattle.office_store.specs.Desk.{CommitsRequest, DeskState, HandlesAt, IsAnsweredBy, UpdatesCache, Shows, Represents}
 use Rattle.office_store.specs.Certain.{is_certain}
-use Rattle.office_store.specs.Requests.{Handles, IsStored, answer_unless, answer_to, changes_nothing, office_after, office_unless, stores_nothing}
-use Rattle.office_store.specs.declared.requests.Answer.{Answer}
-use Rattle.office_store.specs.declared.requests.Answer.TheVariants.{Reply, Unavailable}
-use Rattle.office_store.specs.declared.requests.Request.{Request}
-use Rattle.office_store.specs.declared.requests.Request.TheVariants as request
+use Rattle.office_core.specs.Requests.{Handles, answer_unless, answer_to, office_after, office_unless}
+use Rattle.office_store.specs.Storing.{IsStored, changes_nothing, stores_nothing}
+use Rattle.office_core.specs.declared.requests.Answer.{Answer}
+use Rattle.office_core.specs.declared.requests.Answer.TheVariants.{Reply, Unavailable}
+use Rattle.office_core.specs.declared.requests.Request.{Request}
+use Rattle.office_core.specs.declared.requests.Request.TheVariants as request
 
 -- the office that is cached after changes in turn, if any
 cached_after : (taken after : Option Office) (office : Office) (changes : List Change) → taken ≡ Some office

@@ -7,8 +7,8 @@ use Rattle.office_core.specs.declared.command.Command.TheVariants.{SetChoices, W
 use Rattle.office_core.specs.declared.reply.Standing.{Standing}
 use Rattle.serde_json.specs.Written.{compact_text}
 use Rattle.room_types.specs.declared.stream.Stream.{Ghosts as Calls}
-use Rattle.office_store.specs.declared.requests.Answer.{Answer as DeskAnswer}
-use Rattle.office_store.specs.declared.requests.Request.{Request}
+use Rattle.office_core.specs.declared.requests.Answer.{Answer as DeskAnswer}
+use Rattle.office_core.specs.declared.requests.Request.{Request}
 use Rattle.resident_requests.specs.Answers.{Answer}
 use Rattle.resident_requests.specs.Asks.{Asked, ask, fault, more}
 use Rattle.resident_requests.specs.Bodies.{choices_data, choices_of_body, withdrawn_data}

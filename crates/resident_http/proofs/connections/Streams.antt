@@ -11,8 +11,8 @@ use Rattle.room_types.specs.Streams.{Output, Puts, count_after}
 use Rattle.room_types.specs.Watched.{counted}
 use Rattle.room_types.specs.declared.stream.Stream.{Ghosts as Calls}
 use Rattle.room_types.proofs.watched_bytes.Streams.{or_known}
-use Rattle.office_store.specs.declared.requests.Answer.{Answer as DeskAnswer}
-use Rattle.office_store.specs.declared.requests.Request.{Request}
+use Rattle.office_core.specs.declared.requests.Answer.{Answer as DeskAnswer}
+use Rattle.office_core.specs.declared.requests.Request.{Request}
 use Rattle.resident_requests.specs.Asks.{Asked, Asks, ask, fault, is_more, more, seen}
 use Rattle.resident_requests.specs.declared.ask.AskState.{AskState}
 use Rattle.resident_requests.specs.declared.ask.AskState.TheVariants as state

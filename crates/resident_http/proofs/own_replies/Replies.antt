@@ -29,10 +29,10 @@ use Rattle.office_core.specs.declared.refusal.Refusal.TheVariants.{BadPhase, Goi
 use Rattle.office_core.specs.declared.reply.Reply.{Reply}
 use Rattle.office_core.specs.declared.reply.Reply.TheVariants as reply
 use Rattle.office_core.specs.declared.reply.Standing.{Standing}
-use Rattle.office_store.specs.Requests.{Handles, answer_unless, answer_from, office_unless}
-use Rattle.office_store.specs.declared.requests.Answer.{Answer as DeskAnswer}
-use Rattle.office_store.specs.declared.requests.Answer.TheVariants as desk
-use Rattle.office_store.specs.declared.requests.Request.TheVariants as request
+use Rattle.office_core.specs.Requests.{Handles, answer_unless, answer_from, office_unless}
+use Rattle.office_core.specs.declared.requests.Answer.{Answer as DeskAnswer}
+use Rattle.office_core.specs.declared.requests.Answer.TheVariants as desk
+use Rattle.office_core.specs.declared.requests.Request.TheVariants as request
 use Rattle.resident_requests.specs.Answers.{Answer}
 use Rattle.resident_requests.specs.Asks.{Asks, ask, fault, more}
 use Rattle.resident_requests.specs.Bodies.{choices_data, choices_of_body, room_data, withdrawn_data}

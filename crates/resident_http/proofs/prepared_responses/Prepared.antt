@@ -1,7 +1,7 @@
 -- Prepared responses and what holds of them.
 use Rattle.std.proofs.Common.{Result, Ok, Err, inr, refl}
-use Rattle.office_store.specs.declared.requests.Answer.{Answer as DeskAnswer}
-use Rattle.office_store.specs.declared.requests.Request.{Request}
+use Rattle.office_core.specs.declared.requests.Answer.{Answer as DeskAnswer}
+use Rattle.office_core.specs.declared.requests.Request.{Request}
 use Rattle.resident_requests.specs.Answers.{Answer}
 use Rattle.resident_requests.specs.Routes.{Wanted, forbidden, unknown, wanted, wrong_method}
 use Rattle.resident_http.specs.DueResponses.{unavailable_answer}

@@ -1,6 +1,6 @@
 use Rattle.std.proofs.Common.{inl, subst}
 use Rattle.office_core.specs.declared.query.Query.TheVariants as query
-use Rattle.office_store.specs.declared.requests.Request.TheVariants as request
+use Rattle.office_core.specs.declared.requests.Request.TheVariants as request
 use Rattle.resident_http.specs.Serving.{Authorizes}
 use Rattle.resident_http.proofs.prepared_responses.Prepared.{WithAnswer-weaker}
 use Rattle.resident_http.proofs.answering.authenticate.Goals as goal

@@ -5,9 +5,9 @@ use Rattle.office_state.specs.Office.Invariants.{IsLawful}
 use Rattle.office_schema.specs.tables.Crashes.{LeavesOldOr}
 use Rattle.office_db.proofs.found_offices.Following.{reads-refl}
 use Rattle.office_store.specs.Desk.{CommitsRequest, HandlesAt, UpdatesCache}
-use Rattle.office_store.specs.Requests.{changes_nothing}
-use Rattle.office_store.specs.declared.requests.Answer.TheVariants.{Reply, Unavailable}
-use Rattle.office_store.specs.declared.requests.Request.TheVariants.{Office as Request-Office}
+use Rattle.office_store.specs.Storing.{changes_nothing}
+use Rattle.office_core.specs.declared.requests.Answer.TheVariants.{Reply, Unavailable}
+use Rattle.office_core.specs.declared.requests.Request.TheVariants.{Office as Request-Office}
 use Rattle.office_store.proofs.desks.Certain.{changes_are_stored, false_is_not_true}
 use Rattle.office_store.proofs.desks.Requests.{cached_office_answers, carried_out, changes_something, command_committed, no_length, nothing_stored, represents_still, stays_cached, unavailable_keeps_desk, unavailable_uncached}
 use Rattle.office_store.proofs.desk.Desk.execute.Goals as goal
