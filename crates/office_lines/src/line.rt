@@ -1,13 +1,13 @@
 //! Parses one line and passes its request to a handler.
-ghost use Rattle.std.specs.Prelude.{◌≡◌, ◌&&◌, IfOk, OnErr, false, map, true};
-ghost use Rattle.std.specs.Str.{is_utf8};
+ghost use Rattle.std.specs.Prelude.{◌≡◌, IfOk, OnErr, false, map, true};
 ghost use Rattle.std.specs.Str.Lines.{strip_carriage_return};
-ghost use Rattle.office_lines.specs.parse.Parsing.{begins_request, parsed_line, parsed_text, parsed_words, words_of, is_blank, is_ignored};
+ghost use Rattle.office_lines.specs.parse.Parsing.{begins_request, is_blank, is_comment, is_ignored};
+ghost use Rattle.office_lines.specs.parse.Parsing.{parsed_line, parsed_words, words_of};
 ghost use Rattle.office_lines.specs.parse.Requests.{names_request};
 ghost use Rattle.office_lines.specs.render.Texts.{ResponseAscends};
 ghost use Rattle.office_lines.specs.Runs.{Step};
 
-use crate::parse::requests::{verb_of, words_to_command};
+use crate::parse::requests::{names_form, words_to_command};
 use crate::parse::word_fault::WordFault;
 use crate::render::Response;
 use office_core::{Answer, Handler, Request};
@@ -52,10 +52,24 @@ pub fn parse_line(alloc: Global, line: &[u8]) -> Result<ParsedLine, OutOfMemory>
     ensures not_ignored { OnErr result (is_ignored (parsed_line line.now) ≡ false) }
     ensures named { OnErr result (begins_request line.now ≡ true) }
 {
-    if !line.is_empty() && line[0] == b'#' {
+    if is_comment(line) {
         return Ok(ParsedLine::Ignored);
     }
-    parse_text(alloc, strip_carriage_return(line))
+    let text = strip_carriage_return(line);
+    if is_blank(text) {
+        return Ok(ParsedLine::Ignored);
+    }
+    match str::from_utf8(text) {
+        Ok(text) => parse_request(alloc, text),
+        Err(_) => Ok(ParsedLine::Invalid),
+    }
+}
+
+// Returns whether the line begins with `#`.
+fn is_comment(line: &[u8]) -> bool
+    ensures { result ≡ is_comment line.now }
+{
+    !line.is_empty() && line[0] == b'#'
 }
 
 // Drops one carriage return at the end of the line.
@@ -68,22 +82,6 @@ fn strip_carriage_return(line: &[u8]) -> &[u8]
     line
 }
 
-// Parses a line that is no comment. The caller has dropped the carriage return at its end.
-#[tactic(auto, unfolding(crate::specs::parse::Parsing::parsed_text))]
-fn parse_text(alloc: Global, text: &[u8]) -> Result<ParsedLine, OutOfMemory>
-    ensures meaning { IfOk result (λ parsed. parsed ≡ parsed_text text.now) }
-    ensures not_ignored { OnErr result (is_ignored (parsed_text text.now) ≡ false) }
-    ensures named { OnErr result ((is_utf8 text.now && names_request (words_of text.now)) ≡ true) }
-{
-    if is_blank(text) {
-        return Ok(ParsedLine::Ignored);
-    }
-    match str::from_utf8(text) {
-        Ok(text) => parse_request(alloc, text),
-        Err(_) => Ok(ParsedLine::Invalid),
-    }
-}
-
 // Returns whether the text is empty or only spaces.
 fn is_blank(text: &[u8]) -> bool
     ensures { result ≡ is_blank text.now }
@@ -91,24 +89,28 @@ fn is_blank(text: &[u8]) -> bool
     text.iter().all(|b| *b == b' ')
 }
 
-// Parses UTF-8 text. Checks the first word before it allocates the list of words.
+// Parses UTF-8 text. Cuts it into a list of words, which allocates, only if the first word names a request.
 fn parse_request(alloc: Global, text: &str) -> Result<ParsedLine, OutOfMemory>
     ensures meaning { IfOk result (λ parsed. parsed ≡ parsed_words (words_of text.now)) }
     ensures named { OnErr result (names_request (words_of text.now) ≡ true) }
 {
-    if !names_request(text) {
+    if !names_request(alloc, text) {
         return Ok(ParsedLine::Invalid);
     }
     let words = words_of(alloc, text)?;
-    parse_words(alloc, &words)
+    match words_to_command(alloc, &words) {
+        Ok(request) => Ok(ParsedLine::Valid(request)),
+        Err(WordFault::NotUnderstood) => Ok(ParsedLine::Invalid),
+        Err(WordFault::OutOfMemory) => Err(OutOfMemory {}),
+    }
 }
 
-// Returns whether the first word names a request.
-fn names_request(text: &str) -> bool
+// Returns whether the first word names a request. Allocates nothing.
+fn names_request(alloc: Global, text: &str) -> bool
     ensures { result ≡ names_request (words_of text.now) }
 {
     match text.split(' ').find(|word| !word.is_empty()) {
-        Some(word) => verb_of(word).is_some(),
+        Some(word) => names_form(alloc, word),
         None => false,
     }
 }
@@ -120,15 +122,4 @@ fn words_of(alloc: Global, text: &str) -> Result<Vec<&str>, AllocError>
     text.split(' ')
         .filter(|word| !word.is_empty())
         .collect(alloc)
-}
-
-fn parse_words(alloc: Global, words: &[&str]) -> Result<ParsedLine, OutOfMemory>
-    ensures { IfOk result
-        (λ parsed. parsed ≡ parsed_words (map (λ word. word.now) words.now)) }
-{
-    match words_to_command(alloc, words) {
-        Ok(request) => Ok(ParsedLine::Valid(request)),
-        Err(WordFault::NotUnderstood) => Ok(ParsedLine::Invalid),
-        Err(WordFault::OutOfMemory) => Err(OutOfMemory {}),
-    }
 }

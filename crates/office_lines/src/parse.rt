@@ -4,5 +4,5 @@ pub mod requests;
 pub mod values;
 pub mod word_fault;
 
-pub use crate::parse::requests::{Verb, verb_of, words_to_command};
+pub use crate::parse::requests::words_to_command;
 pub use crate::parse::word_fault::WordFault;

@@ -38,7 +38,7 @@ abbrev pub parsed_words : List Text → ParsedLine
 parsed_words words = parsed_request (request_of words)
 
 -- parses a line that is no comment; the carriage return at its end has been dropped
-unfoldable pub parsed_text : List ℕ → ParsedLine
+abbrev pub parsed_text : List ℕ → ParsedLine
 parsed_text text = if is_blank text then Ignored else if is_utf8 text then parsed_words (words_of text) else Invalid
 
 -- parses a line; ignores one carriage return at the end of the line

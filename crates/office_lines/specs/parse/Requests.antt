@@ -1,14 +1,12 @@
 -- How the words of a line are parsed into a request.
-use Rattle.std.specs.Prelude.{Bool, false, ◌&&◌, List, [], ◌∷◌, length, ◌==◌, nat_le, Option, Some, None, is_some, option_and_then, option_map}
+use Rattle.std.specs.Prelude.{ℕ, Bool, false, ◌&&◌, List, [], ◌∷◌, length, ◌==◌, nat_le, Option, Some, None, codes, if◌then◌else◌, is_some, option_and_then, option_map}
+use Rattle.std.specs.Str.{bytes_eq}
 use Rattle.room_types.specs.Grades.{grade_of}
 use Rattle.room_types.specs.Grammars.{is_key, is_label, is_name, is_person_id, is_room_code}
 use Rattle.room_types.specs.Texts.{Text}
 use Rattle.room_types.specs.Words.{word_of}
 use Rattle.office_core.specs.declared.command.Command.TheVariants.{AddPerson, AddRoom, Blank, Cancel, CloseRound, Draw, Going, Leave, OpenRound, Publish, Remove, Reopen, Run, SetChoices, SetGrade, SetHome, SetKey, SetName, Settle, Shut, Withdraw}
 use Rattle.office_core.specs.declared.query.Query.TheVariants.{Me, Moves, Order, People, Results, Rooms, Round, WhatIf}
-use Rattle.office_lines.specs.parse.Verbs.{verb_of}
-use Rattle.office_lines.specs.declared.parse.requests.Verb.{Verb}
-use Rattle.office_lines.specs.declared.parse.requests.Verb.TheVariants as verb
 use Rattle.office_lines.specs.parse.Values.{all_of, choices_in, in_grammar, joined, only, round_number}
 use Rattle.office_core.specs.declared.requests.Request.{Request}
 use Rattle.office_core.specs.declared.requests.Request.TheVariants.{Office, Ask}
@@ -25,9 +23,14 @@ add_person (person ∷ key ∷ name) =
     (in_grammar is_key key)) (in_grammar is_person_id person)
 add_person _ = None
 
+-- the request that a person's identifier and one more value make
+abbrev pub of_person : {X : Type 0} → (Text → X → Request) → Text → Option X → Option Request
+of_person request person value =
+    option_and_then (λ id. option_map (λ x. request id x) value) (in_grammar is_person_id person)
+
 -- `home ID CODE`
 abbrev pub set_home : List Text → Option Request
-set_home (person ∷ room ∷ []) = option_and_then (λ id. option_map (λ code. Office (SetHome id code)) (in_grammar is_room_code room)) (in_grammar is_person_id person)
+set_home (person ∷ room ∷ []) = of_person (λ id code. Office (SetHome id code)) person (in_grammar is_room_code room)
 set_home _ = None
 
 -- `leave ID`
@@ -40,17 +43,17 @@ remove words = option_map (λ person. Office (Remove person)) (only is_person_id
 
 -- `grade ID G`, where G is one decimal digit
 abbrev pub set_grade : List Text → Option Request
-set_grade (person ∷ grade ∷ []) = option_and_then (λ id. option_map (λ value. Office (SetGrade id value)) (grade_of grade)) (in_grammar is_person_id person)
+set_grade (person ∷ grade ∷ []) = of_person (λ id value. Office (SetGrade id value)) person (grade_of grade)
 set_grade _ = None
 
 -- `name ID NAME..`; the words after the identifier are the name
 abbrev pub set_name : List Text → Option Request
-set_name (person ∷ name) = option_and_then (λ id. option_map (λ n. Office (SetName id n)) (in_grammar is_name (joined name))) (in_grammar is_person_id person)
+set_name (person ∷ name) = of_person (λ id n. Office (SetName id n)) person (in_grammar is_name (joined name))
 set_name [] = None
 
 -- `key ID KEY`
 abbrev pub set_key : List Text → Option Request
-set_key (person ∷ key ∷ []) = option_and_then (λ id. option_map (λ k. Office (SetKey id k)) (in_grammar is_key key)) (in_grammar is_person_id person)
+set_key (person ∷ key ∷ []) = of_person (λ id k. Office (SetKey id k)) person (in_grammar is_key key)
 set_key _ = None
 
 -- `blank LABEL`
@@ -67,7 +70,7 @@ reopen words = option_map (λ room. Office (Reopen room)) (only is_room_code wor
 
 -- `choose ID CODE..`, with zero or more codes
 abbrev pub set_choices : List Text → Option Request
-set_choices (person ∷ rooms) = option_and_then (λ id. option_map (λ choices. Office (SetChoices id choices)) (choices_in rooms)) (in_grammar is_person_id person)
+set_choices (person ∷ rooms) = of_person (λ id choices. Office (SetChoices id choices)) person (choices_in rooms)
 set_choices [] = None
 
 -- `withdraw ID`
@@ -93,45 +96,13 @@ ask_me words = option_map (λ key. Ask (Me key)) (only is_key words)
 
 -- `whatif ID CODE..`, with zero or more codes
 abbrev pub ask_what_if : List Text → Option Request
-ask_what_if (person ∷ rooms) = option_and_then (λ id. option_map (λ choices. Ask (WhatIf id choices)) (choices_in rooms)) (in_grammar is_person_id person)
+ask_what_if (person ∷ rooms) = of_person (λ id choices. Ask (WhatIf id choices)) person (choices_in rooms)
 ask_what_if [] = None
 
 -- the request, if no words follow the first word of the line
 abbrev pub without_arguments : Request → List Text → Option Request
 without_arguments request [] = Some request
 without_arguments request (word ∷ rest) = None
-
--- the request that the words after the first word make, if any; the first word names the kind `verb`
-abbrev pub request_after_word : Verb → List Text → Option Request
-request_after_word verb.Room rest = add_room rest
-request_after_word verb.Person rest = add_person rest
-request_after_word verb.Home rest = set_home rest
-request_after_word verb.Leave rest = leave rest
-request_after_word verb.Remove rest = remove rest
-request_after_word verb.Grade rest = set_grade rest
-request_after_word verb.Name rest = set_name rest
-request_after_word verb.Key rest = set_key rest
-request_after_word verb.Blank rest = blank rest
-request_after_word verb.Shut rest = shut rest
-request_after_word verb.Reopen rest = reopen rest
-request_after_word verb.Open rest = without_arguments (Office OpenRound) rest
-request_after_word verb.Close rest = without_arguments (Office CloseRound) rest
-request_after_word verb.Run rest = without_arguments (Office Run) rest
-request_after_word verb.Publish rest = without_arguments (Office Publish) rest
-request_after_word verb.Settle rest = without_arguments (Office Settle) rest
-request_after_word verb.Cancel rest = without_arguments (Office Cancel) rest
-request_after_word verb.Choose rest = set_choices rest
-request_after_word verb.Withdraw rest = withdraw rest
-request_after_word verb.Going rest = going rest
-request_after_word verb.Draw rest = draw rest
-request_after_word verb.Rooms rest = without_arguments (Ask Rooms) rest
-request_after_word verb.People rest = without_arguments (Ask People) rest
-request_after_word verb.Round rest = without_arguments (Ask Round) rest
-request_after_word verb.Order rest = without_arguments (Ask Order) rest
-request_after_word verb.Results rest = without_arguments (Ask Results) rest
-request_after_word verb.Moves rest = ask_moves rest
-request_after_word verb.Me rest = ask_me rest
-request_after_word verb.WhatIf rest = ask_what_if rest
 
 -- there is a first word, and it is in the grammar
 abbrev pub first_in : (Text → Bool) → List Text → Bool
@@ -142,56 +113,87 @@ first_in is_text (word ∷ rest) = is_text word
 abbrev pub is_drawn_word : Text → Bool
 is_drawn_word word = is_some (word_of word)
 
--- Whether parsing the words after the first word, the values of the request, may allocate. It may if the number of
--- values fits the kind of request, and the first value is in its grammar. Parsing never allocates for a request
--- without values, nor for a `moves` request.
-abbrev pub copies : Verb → List Text → Bool
-copies verb.Room rest = is_some (add_room rest)
-copies verb.Person rest = nat_le 3 (length rest) && first_in is_person_id rest
-copies verb.Home rest = length rest == 2 && first_in is_person_id rest
-copies verb.Leave rest = is_some (leave rest)
-copies verb.Remove rest = is_some (remove rest)
-copies verb.Grade rest = length rest == 2 && first_in is_person_id rest
-copies verb.Name rest = nat_le 2 (length rest) && first_in is_person_id rest
-copies verb.Key rest = length rest == 2 && first_in is_person_id rest
-copies verb.Blank rest = is_some (blank rest)
-copies verb.Shut rest = is_some (shut rest)
-copies verb.Reopen rest = is_some (reopen rest)
-copies verb.Open rest = false
-copies verb.Close rest = false
-copies verb.Run rest = false
-copies verb.Publish rest = false
-copies verb.Settle rest = false
-copies verb.Cancel rest = false
-copies verb.Choose rest = first_in is_person_id rest
-copies verb.Withdraw rest = is_some (withdraw rest)
-copies verb.Going rest = is_some (going rest)
-copies verb.Draw rest = first_in is_drawn_word rest
-copies verb.Rooms rest = false
-copies verb.People rest = false
-copies verb.Round rest = false
-copies verb.Order rest = false
-copies verb.Results rest = false
-copies verb.Moves rest = false
-copies verb.Me rest = is_some (ask_me rest)
-copies verb.WhatIf rest = first_in is_person_id rest
+-- there are two words, and the first is the identifier of a person
+abbrev pub is_person_pair : List Text → Bool
+is_person_pair words = length words == 2 && first_in is_person_id words
 
--- whether parsing the words after the first word may allocate; never if the first word names no request
-abbrev pub allocates_after : Option Verb → List Text → Bool
+-- there are at least `least` words, and the first is the identifier of a person
+abbrev pub begins_with_person : ℕ → List Text → Bool
+begins_with_person least words = nat_le least (length words) && first_in is_person_id words
+
+-- A form of requests. `request` is the request that the words after the first word make, if any. `copies` says whether
+-- parsing these words, the values of the request, may allocate. It may if the number of values fits the form, and the
+-- first value is in its grammar. Parsing never allocates for a request without values, nor for a `moves` request.
+pub record Form : Type 0 where
+  pub request : List Text → Option Request
+  pub copies : List Text → Bool
+
+abbrev pub form : (List Text → Option Request) → (List Text → Bool) → Form
+form request copies = record { request = request; copies = copies }
+
+-- the form of requests whose only value is a text
+abbrev pub one_value : (List Text → Option Request) → Form
+one_value request = form request (λ rest. is_some (request rest))
+
+-- the form of a request without values
+abbrev pub bare : Request → Form
+bare request = form (without_arguments request) (λ rest. false)
+
+-- the form of requests that the word names as the first word of a line, if any
+abbrev pub form_of : Text → Option Form
+form_of word =
+    if bytes_eq word (codes "room") then Some (one_value add_room)
+    else if bytes_eq word (codes "person") then Some (form add_person (begins_with_person 3))
+    else if bytes_eq word (codes "home") then Some (form set_home is_person_pair)
+    else if bytes_eq word (codes "leave") then Some (one_value leave)
+    else if bytes_eq word (codes "remove") then Some (one_value remove)
+    else if bytes_eq word (codes "grade") then Some (form set_grade is_person_pair)
+    else if bytes_eq word (codes "name") then Some (form set_name (begins_with_person 2))
+    else if bytes_eq word (codes "key") then Some (form set_key is_person_pair)
+    else if bytes_eq word (codes "blank") then Some (one_value blank)
+    else if bytes_eq word (codes "shut") then Some (one_value shut)
+    else if bytes_eq word (codes "reopen") then Some (one_value reopen)
+    else if bytes_eq word (codes "open") then Some (bare (Office OpenRound))
+    else if bytes_eq word (codes "close") then Some (bare (Office CloseRound))
+    else if bytes_eq word (codes "run") then Some (bare (Office Run))
+    else if bytes_eq word (codes "publish") then Some (bare (Office Publish))
+    else if bytes_eq word (codes "settle") then Some (bare (Office Settle))
+    else if bytes_eq word (codes "cancel") then Some (bare (Office Cancel))
+    else if bytes_eq word (codes "choose") then Some (form set_choices (first_in is_person_id))
+    else if bytes_eq word (codes "withdraw") then Some (one_value withdraw)
+    else if bytes_eq word (codes "going") then Some (one_value going)
+    else if bytes_eq word (codes "draw") then Some (form draw (first_in is_drawn_word))
+    else if bytes_eq word (codes "rooms") then Some (bare (Ask Rooms))
+    else if bytes_eq word (codes "people") then Some (bare (Ask People))
+    else if bytes_eq word (codes "round") then Some (bare (Ask Round))
+    else if bytes_eq word (codes "order") then Some (bare (Ask Order))
+    else if bytes_eq word (codes "results") then Some (bare (Ask Results))
+    else if bytes_eq word (codes "moves") then Some (form ask_moves (λ rest. false))
+    else if bytes_eq word (codes "me") then Some (one_value ask_me)
+    else if bytes_eq word (codes "whatif") then Some (form ask_what_if (first_in is_person_id))
+    else None
+
+-- the request that the words after the first word make, if any; never if the first word names no form
+abbrev pub request_after : Option Form → List Text → Option Request
+request_after None rest = None
+request_after (Some form) rest = form.request rest
+
+-- whether parsing the words after the first word may allocate; never if the first word names no form
+abbrev pub allocates_after : Option Form → List Text → Bool
 allocates_after None rest = false
-allocates_after (Some verb) rest = copies verb rest
+allocates_after (Some form) rest = form.copies rest
 
 -- whether parsing the words as a request may allocate
 abbrev pub allocates : List Text → Bool
 allocates [] = false
-allocates (first ∷ rest) = allocates_after (verb_of first) rest
+allocates (first ∷ rest) = allocates_after (form_of first) rest
 
 -- the request that the words make, if any
 abbrev pub request_of : List Text → Option Request
 request_of [] = None
-request_of (first ∷ rest) = option_and_then (λ verb. request_after_word verb rest) (verb_of first)
+request_of (first ∷ rest) = request_after (form_of first) rest
 
--- there is a first word, and it names a request
+-- there is a first word, and it names a form of requests
 abbrev pub names_request : List Text → Bool
 names_request [] = false
-names_request (first ∷ rest) = is_some (verb_of first)
+names_request (first ∷ rest) = is_some (form_of first)

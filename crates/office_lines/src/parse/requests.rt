@@ -1,10 +1,12 @@
-//! Parses the words of a line into a request. The first word, its verb, names the kind of request.
-ghost use Rattle.std.specs.Prelude.{◌≡◌, false, map};
+//! Parses the words of a line into a request. The first word names the form of the request.
+ghost use Rattle.std.specs.Prelude.{◌≡◌, IfSome, false, is_some, map};
+ghost use Rattle.room_types.specs.Grammars.{is_person_id};
 ghost use Rattle.office_lines.specs.parse.Understanding.{Understands, OutOfMemoryOnlyIf};
-ghost use Rattle.office_lines.specs.parse.Requests.{add_person, add_room, without_arguments, ask_me, ask_moves, ask_what_if, blank, draw, going, leave, remove, reopen, request_after_word, request_of, set_choices, set_grade, set_home, set_key, set_name, shut, withdraw};
-ghost use Rattle.office_lines.specs.parse.Requests.{copies, allocates};
-ghost use Rattle.office_lines.specs.parse.Verbs.{verb_of};
-ghost use Rattle.office_lines.specs.declared.parse.requests.Verb.TheVariants as verb;
+ghost use Rattle.office_lines.specs.parse.Requests.{add_person, add_room, ask_me, ask_moves, ask_what_if, blank, draw};
+ghost use Rattle.office_lines.specs.parse.Requests.{going, leave, remove, reopen, set_choices, set_grade, set_home};
+ghost use Rattle.office_lines.specs.parse.Requests.{set_key, set_name, shut, withdraw, without_arguments};
+ghost use Rattle.office_lines.specs.parse.Requests.{begins_with_person, first_in, is_drawn_word, is_person_pair};
+ghost use Rattle.office_lines.specs.parse.Requests.{allocates, allocates_after, form_of, request_after, request_of};
 
 use crate::parse::values::{
     choices_in, drawn_words, grade_of, name_of, only_value, round_number, value_of,
@@ -12,79 +14,6 @@ use crate::parse::values::{
 use crate::parse::word_fault::WordFault;
 use office_core::{Command, Query, Request};
 use std::alloc::Global;
-
-/// The kind of request that the first word of a line names. Each variant is named after this word: `Room` after
-/// `room`, and `WhatIf` after `whatif`.
-#[derive(Clone, Copy, Debug, PartialEq, Eq, Drop)]
-pub enum Verb {
-    Room,
-    Person,
-    Home,
-    Leave,
-    Remove,
-    Grade,
-    Name,
-    Key,
-    Blank,
-    Shut,
-    Reopen,
-    Open,
-    Close,
-    Run,
-    Publish,
-    Settle,
-    Cancel,
-    Choose,
-    Withdraw,
-    Going,
-    Draw,
-    Rooms,
-    People,
-    Round,
-    Order,
-    Results,
-    Moves,
-    Me,
-    WhatIf,
-}
-
-/// Returns the kind of request that `word` names as the first word of a line, or `None` if `word` names no kind.
-pub fn verb_of(word: &str) -> Option<Verb>
-    ensures { result ≡ verb_of word.now }
-{
-    match word {
-        "room" => Some(Verb::Room),
-        "person" => Some(Verb::Person),
-        "home" => Some(Verb::Home),
-        "leave" => Some(Verb::Leave),
-        "remove" => Some(Verb::Remove),
-        "grade" => Some(Verb::Grade),
-        "name" => Some(Verb::Name),
-        "key" => Some(Verb::Key),
-        "blank" => Some(Verb::Blank),
-        "shut" => Some(Verb::Shut),
-        "reopen" => Some(Verb::Reopen),
-        "open" => Some(Verb::Open),
-        "close" => Some(Verb::Close),
-        "run" => Some(Verb::Run),
-        "publish" => Some(Verb::Publish),
-        "settle" => Some(Verb::Settle),
-        "cancel" => Some(Verb::Cancel),
-        "choose" => Some(Verb::Choose),
-        "withdraw" => Some(Verb::Withdraw),
-        "going" => Some(Verb::Going),
-        "draw" => Some(Verb::Draw),
-        "rooms" => Some(Verb::Rooms),
-        "people" => Some(Verb::People),
-        "round" => Some(Verb::Round),
-        "order" => Some(Verb::Order),
-        "results" => Some(Verb::Results),
-        "moves" => Some(Verb::Moves),
-        "me" => Some(Verb::Me),
-        "whatif" => Some(Verb::WhatIf),
-        _ => None,
-    }
-}
 
 /// Parses the words of a line into a request.
 ///
@@ -99,56 +28,72 @@ pub fn words_to_command(alloc: Global, words: &[&str]) -> Result<Request, WordFa
     ensures understands { Understands (request_of (map (λ word. word.now) words.now)) result }
     ensures memory { OutOfMemoryOnlyIf (allocates (map (λ word. word.now) words.now)) result }
 {
-    let [first, rest @ ..] = words else {
-        return Err(WordFault::NotUnderstood);
-    };
-    let verb = verb_of(first).ok_or(WordFault::NotUnderstood)?;
-    request_after_word(alloc, verb, rest)
+    match words {
+        [first, rest @ ..] => {
+            request_after_word(alloc, first, rest).unwrap_or(Err(WordFault::NotUnderstood))
+        }
+        [] => Err(WordFault::NotUnderstood),
+    }
 }
 
-// Parses the words that follow the first word of a line, which names the kind `verb`.
-fn request_after_word(alloc: Global, verb: Verb, rest: &[&str]) -> Result<Request, WordFault>
-    ensures understands { Understands
-        (request_after_word verb (map (λ word. word.now) rest.now)) result }
-    ensures memory { OutOfMemoryOnlyIf (copies verb (map (λ word. word.now) rest.now)) result }
+/// Returns whether this word, as the first word of a line, names a form of requests. For that it parses a line of this
+/// word alone, which never allocates.
+pub(crate) fn names_form(alloc: Global, word: &str) -> bool
+    ensures { result ≡ is_some (form_of word.now) }
 {
-    match verb {
-        Verb::Room => parse_add_room(alloc, rest),
-        Verb::Person => parse_add_person(alloc, rest),
-        Verb::Home => parse_set_home(alloc, rest),
-        Verb::Leave => parse_leave(alloc, rest),
-        Verb::Remove => parse_remove(alloc, rest),
-        Verb::Grade => parse_set_grade(alloc, rest),
-        Verb::Name => parse_set_name(alloc, rest),
-        Verb::Key => parse_set_key(alloc, rest),
-        Verb::Blank => parse_blank(alloc, rest),
-        Verb::Shut => parse_shut(alloc, rest),
-        Verb::Reopen => parse_reopen(alloc, rest),
-        Verb::Open => without_arguments(rest, Request::Office(Command::OpenRound)),
-        Verb::Close => without_arguments(rest, Request::Office(Command::CloseRound)),
-        Verb::Run => without_arguments(rest, Request::Office(Command::Run)),
-        Verb::Publish => without_arguments(rest, Request::Office(Command::Publish)),
-        Verb::Settle => without_arguments(rest, Request::Office(Command::Settle)),
-        Verb::Cancel => without_arguments(rest, Request::Office(Command::Cancel)),
-        Verb::Choose => parse_set_choices(alloc, rest),
-        Verb::Withdraw => parse_withdraw(alloc, rest),
-        Verb::Going => parse_going(alloc, rest),
-        Verb::Draw => parse_draw(alloc, rest),
-        Verb::Rooms => without_arguments(rest, Request::Ask(Query::Rooms)),
-        Verb::People => without_arguments(rest, Request::Ask(Query::People)),
-        Verb::Round => without_arguments(rest, Request::Ask(Query::Round)),
-        Verb::Order => without_arguments(rest, Request::Ask(Query::Order)),
-        Verb::Results => without_arguments(rest, Request::Ask(Query::Results)),
-        Verb::Moves => parse_moves(rest),
-        Verb::Me => parse_me(alloc, rest),
-        Verb::WhatIf => parse_what_if(alloc, rest),
+    request_after_word(alloc, word, &[]).is_some()
+}
+
+// Parses the words that follow the first word of a line. Returns `None` if the first word names no request.
+fn request_after_word(
+    alloc: Global,
+    first: &str,
+    rest: &[&str],
+) -> Option<Result<Request, WordFault>>
+    ensures named { is_some result ≡ is_some (form_of first.now) }
+    ensures understands { IfSome result (λ parsed. Understands
+        (request_after (form_of first.now) (map (λ word. word.now) rest.now)) parsed) }
+    ensures memory { IfSome result (λ parsed. OutOfMemoryOnlyIf
+        (allocates_after (form_of first.now) (map (λ word. word.now) rest.now)) parsed) }
+{
+    match first {
+        "room" => Some(parse_add_room(alloc, rest)),
+        "person" => Some(parse_add_person(alloc, rest)),
+        "home" => Some(parse_set_home(alloc, rest)),
+        "leave" => Some(parse_leave(alloc, rest)),
+        "remove" => Some(parse_remove(alloc, rest)),
+        "grade" => Some(parse_set_grade(alloc, rest)),
+        "name" => Some(parse_set_name(alloc, rest)),
+        "key" => Some(parse_set_key(alloc, rest)),
+        "blank" => Some(parse_blank(alloc, rest)),
+        "shut" => Some(parse_shut(alloc, rest)),
+        "reopen" => Some(parse_reopen(alloc, rest)),
+        "open" => Some(without_arguments(rest, Request::Office(Command::OpenRound))),
+        "close" => Some(without_arguments(rest, Request::Office(Command::CloseRound))),
+        "run" => Some(without_arguments(rest, Request::Office(Command::Run))),
+        "publish" => Some(without_arguments(rest, Request::Office(Command::Publish))),
+        "settle" => Some(without_arguments(rest, Request::Office(Command::Settle))),
+        "cancel" => Some(without_arguments(rest, Request::Office(Command::Cancel))),
+        "choose" => Some(parse_set_choices(alloc, rest)),
+        "withdraw" => Some(parse_withdraw(alloc, rest)),
+        "going" => Some(parse_going(alloc, rest)),
+        "draw" => Some(parse_draw(alloc, rest)),
+        "rooms" => Some(without_arguments(rest, Request::Ask(Query::Rooms))),
+        "people" => Some(without_arguments(rest, Request::Ask(Query::People))),
+        "round" => Some(without_arguments(rest, Request::Ask(Query::Round))),
+        "order" => Some(without_arguments(rest, Request::Ask(Query::Order))),
+        "results" => Some(without_arguments(rest, Request::Ask(Query::Results))),
+        "moves" => Some(parse_moves(rest)),
+        "me" => Some(parse_me(alloc, rest)),
+        "whatif" => Some(parse_what_if(alloc, rest)),
+        _ => None,
     }
 }
 
 fn parse_add_room(alloc: Global, words: &[&str]) -> Result<Request, WordFault>
     ensures understands { Understands (add_room (map (λ word. word.now) words.now)) result }
-    ensures memory { OutOfMemoryOnlyIf (copies verb.Room (map (λ word. word.now) words.now))
-        result }
+    ensures memory { OutOfMemoryOnlyIf
+        (is_some (add_room (map (λ word. word.now) words.now))) result }
 {
     let room = only_value(alloc, words)?;
     Ok(Request::Office(Command::AddRoom { room }))
@@ -157,8 +102,8 @@ fn parse_add_room(alloc: Global, words: &[&str]) -> Result<Request, WordFault>
 // The words after the key, joined by one space, are the name.
 fn parse_add_person(alloc: Global, words: &[&str]) -> Result<Request, WordFault>
     ensures understands { Understands (add_person (map (λ word. word.now) words.now)) result }
-    ensures memory { OutOfMemoryOnlyIf (copies verb.Person (map (λ word. word.now) words.now))
-        result }
+    ensures memory { OutOfMemoryOnlyIf
+        (begins_with_person 3 (map (λ word. word.now) words.now)) result }
 {
     match words {
         [person, key, name @ ..] if !name.is_empty() => {
@@ -178,8 +123,7 @@ fn parse_add_person(alloc: Global, words: &[&str]) -> Result<Request, WordFault>
 
 fn parse_set_home(alloc: Global, words: &[&str]) -> Result<Request, WordFault>
     ensures understands { Understands (set_home (map (λ word. word.now) words.now)) result }
-    ensures memory { OutOfMemoryOnlyIf (copies verb.Home (map (λ word. word.now) words.now))
-        result }
+    ensures memory { OutOfMemoryOnlyIf (is_person_pair (map (λ word. word.now) words.now)) result }
 {
     match words {
         [person, room] => {
@@ -193,8 +137,7 @@ fn parse_set_home(alloc: Global, words: &[&str]) -> Result<Request, WordFault>
 
 fn parse_leave(alloc: Global, words: &[&str]) -> Result<Request, WordFault>
     ensures understands { Understands (leave (map (λ word. word.now) words.now)) result }
-    ensures memory { OutOfMemoryOnlyIf (copies verb.Leave (map (λ word. word.now) words.now))
-        result }
+    ensures memory { OutOfMemoryOnlyIf (is_some (leave (map (λ word. word.now) words.now))) result }
 {
     let person = only_value(alloc, words)?;
     Ok(Request::Office(Command::Leave { person }))
@@ -202,8 +145,8 @@ fn parse_leave(alloc: Global, words: &[&str]) -> Result<Request, WordFault>
 
 fn parse_remove(alloc: Global, words: &[&str]) -> Result<Request, WordFault>
     ensures understands { Understands (remove (map (λ word. word.now) words.now)) result }
-    ensures memory { OutOfMemoryOnlyIf (copies verb.Remove (map (λ word. word.now) words.now))
-        result }
+    ensures memory { OutOfMemoryOnlyIf
+        (is_some (remove (map (λ word. word.now) words.now))) result }
 {
     let person = only_value(alloc, words)?;
     Ok(Request::Office(Command::Remove { person }))
@@ -211,8 +154,7 @@ fn parse_remove(alloc: Global, words: &[&str]) -> Result<Request, WordFault>
 
 fn parse_set_grade(alloc: Global, words: &[&str]) -> Result<Request, WordFault>
     ensures understands { Understands (set_grade (map (λ word. word.now) words.now)) result }
-    ensures memory { OutOfMemoryOnlyIf (copies verb.Grade (map (λ word. word.now) words.now))
-        result }
+    ensures memory { OutOfMemoryOnlyIf (is_person_pair (map (λ word. word.now) words.now)) result }
 {
     match words {
         [person, grade] => {
@@ -227,8 +169,8 @@ fn parse_set_grade(alloc: Global, words: &[&str]) -> Result<Request, WordFault>
 // The words after the identifier, joined by one space, are the name.
 fn parse_set_name(alloc: Global, words: &[&str]) -> Result<Request, WordFault>
     ensures understands { Understands (set_name (map (λ word. word.now) words.now)) result }
-    ensures memory { OutOfMemoryOnlyIf (copies verb.Name (map (λ word. word.now) words.now))
-        result }
+    ensures memory { OutOfMemoryOnlyIf
+        (begins_with_person 2 (map (λ word. word.now) words.now)) result }
 {
     match words {
         [person, name @ ..] if !name.is_empty() => {
@@ -242,8 +184,7 @@ fn parse_set_name(alloc: Global, words: &[&str]) -> Result<Request, WordFault>
 
 fn parse_set_key(alloc: Global, words: &[&str]) -> Result<Request, WordFault>
     ensures understands { Understands (set_key (map (λ word. word.now) words.now)) result }
-    ensures memory { OutOfMemoryOnlyIf (copies verb.Key (map (λ word. word.now) words.now))
-        result }
+    ensures memory { OutOfMemoryOnlyIf (is_person_pair (map (λ word. word.now) words.now)) result }
 {
     match words {
         [person, key] => {
@@ -257,8 +198,7 @@ fn parse_set_key(alloc: Global, words: &[&str]) -> Result<Request, WordFault>
 
 fn parse_blank(alloc: Global, words: &[&str]) -> Result<Request, WordFault>
     ensures understands { Understands (blank (map (λ word. word.now) words.now)) result }
-    ensures memory { OutOfMemoryOnlyIf (copies verb.Blank (map (λ word. word.now) words.now))
-        result }
+    ensures memory { OutOfMemoryOnlyIf (is_some (blank (map (λ word. word.now) words.now))) result }
 {
     let label = only_value(alloc, words)?;
     Ok(Request::Office(Command::Blank { label }))
@@ -266,8 +206,7 @@ fn parse_blank(alloc: Global, words: &[&str]) -> Result<Request, WordFault>
 
 fn parse_shut(alloc: Global, words: &[&str]) -> Result<Request, WordFault>
     ensures understands { Understands (shut (map (λ word. word.now) words.now)) result }
-    ensures memory { OutOfMemoryOnlyIf (copies verb.Shut (map (λ word. word.now) words.now))
-        result }
+    ensures memory { OutOfMemoryOnlyIf (is_some (shut (map (λ word. word.now) words.now))) result }
 {
     let room = only_value(alloc, words)?;
     Ok(Request::Office(Command::Shut { room }))
@@ -275,8 +214,8 @@ fn parse_shut(alloc: Global, words: &[&str]) -> Result<Request, WordFault>
 
 fn parse_reopen(alloc: Global, words: &[&str]) -> Result<Request, WordFault>
     ensures understands { Understands (reopen (map (λ word. word.now) words.now)) result }
-    ensures memory { OutOfMemoryOnlyIf (copies verb.Reopen (map (λ word. word.now) words.now))
-        result }
+    ensures memory { OutOfMemoryOnlyIf
+        (is_some (reopen (map (λ word. word.now) words.now))) result }
 {
     let room = only_value(alloc, words)?;
     Ok(Request::Office(Command::Reopen { room }))
@@ -284,8 +223,8 @@ fn parse_reopen(alloc: Global, words: &[&str]) -> Result<Request, WordFault>
 
 fn parse_set_choices(alloc: Global, words: &[&str]) -> Result<Request, WordFault>
     ensures understands { Understands (set_choices (map (λ word. word.now) words.now)) result }
-    ensures memory { OutOfMemoryOnlyIf (copies verb.Choose (map (λ word. word.now) words.now))
-        result }
+    ensures memory { OutOfMemoryOnlyIf
+        (first_in is_person_id (map (λ word. word.now) words.now)) result }
 {
     match words {
         [person, rooms @ ..] => {
@@ -299,8 +238,8 @@ fn parse_set_choices(alloc: Global, words: &[&str]) -> Result<Request, WordFault
 
 fn parse_withdraw(alloc: Global, words: &[&str]) -> Result<Request, WordFault>
     ensures understands { Understands (withdraw (map (λ word. word.now) words.now)) result }
-    ensures memory { OutOfMemoryOnlyIf (copies verb.Withdraw (map (λ word. word.now) words.now))
-        result }
+    ensures memory { OutOfMemoryOnlyIf
+        (is_some (withdraw (map (λ word. word.now) words.now))) result }
 {
     let person = only_value(alloc, words)?;
     Ok(Request::Office(Command::Withdraw { person }))
@@ -308,8 +247,7 @@ fn parse_withdraw(alloc: Global, words: &[&str]) -> Result<Request, WordFault>
 
 fn parse_going(alloc: Global, words: &[&str]) -> Result<Request, WordFault>
     ensures understands { Understands (going (map (λ word. word.now) words.now)) result }
-    ensures memory { OutOfMemoryOnlyIf (copies verb.Going (map (λ word. word.now) words.now))
-        result }
+    ensures memory { OutOfMemoryOnlyIf (is_some (going (map (λ word. word.now) words.now))) result }
 {
     let person = only_value(alloc, words)?;
     Ok(Request::Office(Command::Going { person }))
@@ -317,8 +255,8 @@ fn parse_going(alloc: Global, words: &[&str]) -> Result<Request, WordFault>
 
 fn parse_draw(alloc: Global, words: &[&str]) -> Result<Request, WordFault>
     ensures understands { Understands (draw (map (λ word. word.now) words.now)) result }
-    ensures memory { OutOfMemoryOnlyIf (copies verb.Draw (map (λ word. word.now) words.now))
-        result }
+    ensures memory { OutOfMemoryOnlyIf
+        (first_in is_drawn_word (map (λ word. word.now) words.now)) result }
 {
     let words = drawn_words(alloc, words)?;
     Ok(Request::Office(Command::Draw { words }))
@@ -326,8 +264,7 @@ fn parse_draw(alloc: Global, words: &[&str]) -> Result<Request, WordFault>
 
 fn parse_moves(words: &[&str]) -> Result<Request, WordFault>
     ensures understands { Understands (ask_moves (map (λ word. word.now) words.now)) result }
-    ensures memory { OutOfMemoryOnlyIf (copies verb.Moves (map (λ word. word.now) words.now))
-        result }
+    ensures memory { OutOfMemoryOnlyIf false result }
 {
     match words {
         [round] => {
@@ -340,7 +277,8 @@ fn parse_moves(words: &[&str]) -> Result<Request, WordFault>
 
 fn parse_me(alloc: Global, words: &[&str]) -> Result<Request, WordFault>
     ensures understands { Understands (ask_me (map (λ word. word.now) words.now)) result }
-    ensures memory { OutOfMemoryOnlyIf (copies verb.Me (map (λ word. word.now) words.now)) result }
+    ensures memory { OutOfMemoryOnlyIf
+        (is_some (ask_me (map (λ word. word.now) words.now))) result }
 {
     let key = only_value(alloc, words)?;
     Ok(Request::Ask(Query::Me(key)))
@@ -348,8 +286,8 @@ fn parse_me(alloc: Global, words: &[&str]) -> Result<Request, WordFault>
 
 fn parse_what_if(alloc: Global, words: &[&str]) -> Result<Request, WordFault>
     ensures understands { Understands (ask_what_if (map (λ word. word.now) words.now)) result }
-    ensures memory { OutOfMemoryOnlyIf (copies verb.WhatIf (map (λ word. word.now) words.now))
-        result }
+    ensures memory { OutOfMemoryOnlyIf
+        (first_in is_person_id (map (λ word. word.now) words.now)) result }
 {
     match words {
         [person, rooms @ ..] => {
