@@ -1,5 +1,6 @@
 -- Reading the fields of a record.
-use Rattle.std.proofs.Common.{◌≡◌, ◌∙◌, ◌<◌, ◌≤◌, ◌++◌, ◌==◌, ◌&&◌, Bor, Bool, true, false, ℕ, suc, List, [], ◌∷◌, length, map, drop, get_or, drop-cons, Some, refl, sym, ap, rules, tests}
+use Rattle.std.proofs.Common.{◌≡◌, ◌∙◌, ◌<◌, ◌≤◌, ◌++◌, ◌==◌, ◌&&◌, Bor, Bool, true, false, ℕ, suc, List, [], ◌∷◌}
+use Rattle.std.proofs.Common.{length, map, drop, get_or, drop-cons, Some, refl, sym, ap, rules, tests}
 use Rattle.std.proofs.lemmas.Bool.{and_parts, false_from_ne_true}
 use Rattle.std.proofs.lemmas.List.{drop_all}
 use Rattle.std.proofs.lemmas.Str.{IsUtf8-from_is_utf8, is_utf8-from_IsUtf8}
@@ -27,9 +28,11 @@ pub record AreCodes (words : List (Bor Text)) (i : ℕ) (codes : List Text) : Ty
 
 pub all_codes : (words : List (Bor Text)) (i : ℕ) (codes : List Text) → length words ≤ i → AreCodes words i codes
     → list_all is_room_code (texts words) ≡ true
-all_codes words i codes all are = sym are.good ∙ ap (λ (ws : List (Bor Text)). list_all is_room_code (texts ws)) (drop_all i words all)
+all_codes words i codes all are =
+    sym are.good ∙ ap (λ (ws : List (Bor Text)). list_all is_room_code (texts ws)) (drop_all i words all)
 
-pub no_code : (words : List (Bor Text)) (i : ℕ) (d : Bor Text) (codes : List Text) → i < length words → AreCodes words i codes
+pub no_code : (words : List (Bor Text)) (i : ℕ) (d : Bor Text) (codes : List Text) → i < length words
+    → AreCodes words i codes
     → is_room_code (get_or words i d).now ≡ false → list_all is_room_code (texts words) ≡ false
 no_code words i d codes low are bad =
     sym are.good ∙ ap (λ (ws : List (Bor Text)). list_all is_room_code (texts ws)) (drop-cons words i d low)
@@ -50,8 +53,16 @@ all_text (f ∷ fs) all =
 same_count : (m n : ℕ) → m ≡ n → (m == n) ≡ true
 same_count m n e = search (rules, tests)
 
-pub no_text : {X : Type 0} (form : ListForm X) (fields : Record) → length fields ≡ length form.header → ¬ (AllText fields) → cause_of form fields ≡ Some NotText
-no_text form fields same bad = rw (same_count (length fields) (length form.header) same, false_from_ne_true (list_all is_utf8 fields) (λ e. bad (all_text fields e))) refl
+pub no_text : {X : Type 0} (form : ListForm X) (fields : Record) → length fields ≡ length form.header
+    → ¬ (AllText fields) → cause_of form fields ≡ Some NotText
+no_text form fields same bad =
+    rw (
+      same_count (length fields) (length form.header) same,
+      false_from_ne_true (list_all is_utf8 fields)
+          (λ e. bad (all_text fields e)),
+    ) refl
 
-pub cause_of_text : {X : Type 0} (form : ListForm X) (fields : Record) → length fields ≡ length form.header → AllText fields → cause_of form fields ≡ field_cause form fields
-cause_of_text form fields same text = rw (same_count (length fields) (length form.header) same, all_utf8 fields text) refl
+pub cause_of_text : {X : Type 0} (form : ListForm X) (fields : Record) → length fields ≡ length form.header
+    → AllText fields → cause_of form fields ≡ field_cause form fields
+cause_of_text form fields same text =
+    rw (same_count (length fields) (length form.header) same, all_utf8 fields text) refl

@@ -5,7 +5,8 @@ use Rattle.csv.specs.Reading.{Reached, default_config, strip_bom}
 use Rattle.csv.specs.Writing.{escaped, fields_text, is_blank, read_back}
 use Rattle.csv.specs.declared.parser.State.TheVariants as st
 use Rattle.csv.proofs.RoundTrip.{read-write}
-use Rattle.office_lists.specs.Exports.{AreReadBack, IsReadBack, export, export_bytes, grade_fields, header_of, move_fields, person_fields, record_bytes, room_fields}
+use Rattle.office_lists.specs.Exports.{AreReadBack, IsReadBack, export, export_bytes, grade_fields, header_of}
+use Rattle.office_lists.specs.Exports.{move_fields, person_fields, record_bytes, room_fields}
 use Rattle.office_lists.specs.Records.{Record, records_of}
 use Rattle.office_lists.specs.declared.exports.ExportKind.{ExportKind}
 use Rattle.office_lists.specs.declared.exports.ExportKind.TheVariants.{Rooms, People, Moves, Grades}
@@ -40,7 +41,8 @@ same_header People = refl
 same_header Moves = refl
 same_header Grades = refl
 
-same_rows : {Row : Type 0} (fields : Row → Record) (rows : List Row) → ((row : Row) → read_back (fields row) ≡ fields row)
+same_rows : {Row : Type 0} (fields : Row → Record) (rows : List Row)
+    → ((row : Row) → read_back (fields row) ≡ fields row)
     → map read_back (map fields rows) ≡ map fields rows
 same_rows fields [] same = refl
 same_rows fields (row ∷ rows) same = rw (same row, same_rows fields rows same) refl

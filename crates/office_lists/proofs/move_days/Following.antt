@@ -1,5 +1,7 @@
 -- Each entry has exactly one wave.
-use Rattle.std.proofs.Common.{◌≡◌, ℕ, zero, suc, ◌+◌, ◌<◌, ◌≤◌, true, false, ◌||◌, List, [], ◌∷◌, length, map, get_or, Option, None, Some, MatchOption, refl, sym, ap, ◌∙◌, subst, inl, inr, ◌⊎◌, arith, eqb, eqb-true, eq-eqb, ne_eqb}
+use Rattle.std.proofs.Common.{◌≡◌, ℕ, zero, suc, ◌+◌, ◌<◌, ◌≤◌, true, false, ◌||◌, List, [], ◌∷◌, length, map, get_or}
+use Rattle.std.proofs.Common.{Option, None, Some, MatchOption, refl, sym, ap, ◌∙◌, subst, inl, inr, ◌⊎◌, arith, eqb}
+use Rattle.std.proofs.Common.{eqb-true, eq-eqb, ne_eqb}
 use Rattle.std.specs.Prelude.{option_and_then, unwrap_or}
 use Rattle.std.specs.Option.{option_map, option_map_or}
 use Rattle.std.specs.List.{AllByRecursion, IsDistinct, list_any, range_with_len}
@@ -27,10 +29,14 @@ pigeonhole : (f : ℕ → ℕ) (m n : ℕ) → ((k : ℕ) → k < m → f k < n)
 pigeonhole f m n into apart =
     let xs = map f (range_with_len 0 m) in
     let many : length xs ≡ m = length-map-range_with_len f 0 m in
-    let at : (k d : ℕ) → k < m → get_or xs k d ≡ f k = λ k d small. get_or-map-range_with_len f 0 m k k d small (omega arith) in
+    let at : (k d : ℕ) → k < m → get_or xs k d ≡ f k =
+    λ k d small. get_or-map-range_with_len f 0 m k k d small (omega arith) in
     let distinct : IsDistinct eqb xs = IsDistinct-from_apart eqb xs (λ i j d before within.
-    ne_eqb (get_or xs i d) (get_or xs j d) (λ same. apart i j before (omega arith) (sym (at i d (omega arith)) ∙ same ∙ at j d (omega arith)))) in
-    let below : AllByRecursion (λ x. x < n) xs = recursion_from_All (λ x. x < n) xs (λ k d within. subst (λ x. x < n) (sym (at k d (omega arith))) (into k (omega arith))) in
+    ne_eqb (get_or xs i d) (get_or xs j d)
+    (λ same. apart i j before (omega arith) (sym (at i d (omega arith)) ∙ same ∙ at j d (omega arith)))) in
+    let below : AllByRecursion (λ x. x < n) xs =
+    recursion_from_All (λ x. x < n) xs
+    (λ k d within. subst (λ x. x < n) (sym (at k d (omega arith))) (into k (omega arith))) in
     let few : length xs ≤ n = length-le_from_distinct_below xs n distinct (λ q among. any_below q n xs below among) in
     omega arith
 
@@ -104,7 +110,8 @@ module _ (ends : List ℕ) (ls : List (Option ℕ)) where
       elim (next ls i) as (λ o. next ls i ≡ o → ⊥) [
         | None ↦ λ e. cc (sym (followed-end ls c i e) ∙ r)
         | Some j ↦ λ e.
-            no_return n c j (number-back n i j e h) (ap (option_and_then (next ls)) (sym (followed-next ls c i j e) ∙ r) ∙ e)
+            no_return n c j (number-back n i j e h)
+            (ap (option_and_then (next ls)) (sym (followed-next ls c i j e) ∙ r) ∙ e)
       ] refl
 
   -- an entry has at most one wave
@@ -117,21 +124,27 @@ module _ (ends : List ℕ) (ls : List (Option ℕ)) where
   number-from_length : (k n i : ℕ) → chain_number ends ls k i ≡ Some n → HasNumber ends ls n i
   number-from_length zero n i e = cc
   number-from_length (suc k) n i e =
-      elim (next ls i) as (λ o. next ls i ≡ o → option_map_or (λ j. option_map (λ number. suc number) (chain_number ends ls k j)) o (Some (end_number_at ends i)) ≡ Some n → HasNumber ends ls n i) [
+      elim (next ls i) as
+      (λ o. next ls i ≡ o → option_map_or (λ j. option_map (λ number. suc number) (chain_number ends ls k j)) o
+      (Some (end_number_at ends i)) ≡ Some n → HasNumber ends ls n i) [
         | None ↦ λ none f. number-end n i none (sym (same_Some (end_number_at ends i) n f))
-        | Some j ↦ λ some f. elim (chain_number ends ls k j) as (λ o. chain_number ends ls k j ≡ o → option_map (λ number. suc number) o ≡ Some n → HasNumber ends ls n i) [
-          | None ↦ λ g h. cc
-          | Some m ↦ λ g h. subst (λ number. HasNumber ends ls number i) (same_Some (suc m) n h) (number-later m i j some (number-from_length k m j g))
-        ] refl f
+        | Some j ↦ λ some f. elim (chain_number ends ls k j) as (λ o. chain_number ends ls k j ≡ o
+            → option_map (λ number. suc number) o ≡ Some n → HasNumber ends ls n i) [
+              | None ↦ λ g h. cc
+              | Some m ↦ λ g h. subst (λ number. HasNumber ends ls number i) (same_Some (suc m) n h)
+                  (number-later m i j some (number-from_length k m j g))
+            ] refl f
       ] refl e
 
   module _ (apart : AreInjective ls) (low : (i : ℕ) → end_number_at ends i ≤ 1) where
     -- the numbers fall by one with each leaver
-    number-after : (c n i : ℕ) → i < length ls → c < n → HasNumber ends ls n i → (x : ℕ) × (m : ℕ) × (followed ls c i ≡ Some x) × (x < length ls) × HasNumber ends ls m x × (m + c ≡ n)
+    number-after : (c n i : ℕ) → i < length ls → c < n → HasNumber ends ls n i → (x : ℕ) × (m : ℕ)
+        × (followed ls c i ≡ Some x) × (x < length ls) × HasNumber ends ls m x × (m + c ≡ n)
     number-after zero n i in' below h = (i, n, refl, in', h, omega arith)
     number-after (suc c) zero i in' below h = absurd (omega arith)
     number-after (suc c) (suc n) i in' below h =
-        elim (next ls i) as (λ o. next ls i ≡ o → (x : ℕ) × (m : ℕ) × (followed ls (suc c) i ≡ Some x) × (x < length ls) × HasNumber ends ls m x × (m + suc c ≡ suc n)) [
+        elim (next ls i) as (λ o. next ls i ≡ o → (x : ℕ) × (m : ℕ) × (followed ls (suc c) i ≡ Some x) × (x < length ls)
+        × HasNumber ends ls m x × (m + suc c ≡ suc n)) [
           | None ↦ λ e. let is = number-only (suc n) i e h in absurd (omega (arith, low i))
           | Some j ↦ λ e.
               let rest = number-after c n j (apart.within i j e) (omega arith) (number-back n i j e h) in
@@ -142,39 +155,50 @@ module _ (ends : List ℕ) (ls : List (Option ℕ)) where
     pub number-le : (n i : ℕ) → i < length ls → HasNumber ends ls n i → n ≤ length ls
     number-le n i in' h =
         pigeonhole (λ c. unwrap_or (followed ls c i) 0) n (length ls)
-        (λ k low. let at = number-after k n i in' low h in subst (λ x. x < length ls) (sym (ap (λ o. unwrap_or o 0) at.2)) at.3)
+        (λ k low. let at = number-after k n i in' low h in
+        subst (λ x. x < length ls) (sym (ap (λ o. unwrap_or o 0) at.2)) at.3)
         (λ a b before low same.
         let first = number-after a n i in' (omega arith) h in
         let second = number-after b n i in' low h in
-        let one : first.0 ≡ second.0 = sym (ap (λ o. unwrap_or o 0) first.2) ∙ same ∙ ap (λ o. unwrap_or o 0) second.2 in
-        let number : first.1 ≡ second.1 = one_number first.1 second.1 second.0 (subst (HasNumber ends ls first.1) one first.4) second.4 in
+        let one : first.0 ≡ second.0 =
+        sym (ap (λ o. unwrap_or o 0) first.2) ∙ same ∙ ap (λ o. unwrap_or o 0) second.2 in
+        let number : first.1 ≡ second.1 =
+        one_number first.1 second.1 second.0 (subst (HasNumber ends ls first.1) one first.4) second.4 in
         absurd (omega (arith, first.5, second.5)))
 
     -- if two different numbers of steps lead to the same entry, following the leavers returns to the start
-    cycle_from_meeting : (a b i x : ℕ) → a < b → followed ls a i ≡ Some x → followed ls b i ≡ Some x → (c : ℕ) × (c < b) × (followed ls (suc c) i ≡ Some i)
+    cycle_from_meeting : (a b i x : ℕ) → a < b → followed ls a i ≡ Some x → followed ls b i ≡ Some x → (c : ℕ) × (c < b)
+        × (followed ls (suc c) i ≡ Some i)
     cycle_from_meeting a zero i x low p q = absurd (omega arith)
     cycle_from_meeting zero (suc b) i x low p q = (b, omega arith, q ∙ sym p)
     cycle_from_meeting (suc a) (suc b) i x low p q =
-        elim (followed ls a i) as (λ o. followed ls a i ≡ o → option_and_then (next ls) o ≡ Some x → (c : ℕ) × (c < suc b) × (followed ls (suc c) i ≡ Some i)) [
+        elim (followed ls a i) as (λ o. followed ls a i ≡ o → option_and_then (next ls) o ≡ Some x → (c : ℕ)
+        × (c < suc b) × (followed ls (suc c) i ≡ Some i)) [
           | None ↦ λ e f. cc
-          | Some y ↦ λ e f. elim (followed ls b i) as (λ o. followed ls b i ≡ o → option_and_then (next ls) o ≡ Some x → (c : ℕ) × (c < suc b) × (followed ls (suc c) i ≡ Some i)) [
-            | None ↦ λ g h. cc
-            | Some z ↦ λ g h.
-                let before = cycle_from_meeting a b i y (omega arith) e (g ∙ ap (λ k. Some k) (apart.one z y x h f)) in
-                (before.0, omega (arith, before.1), before.2)
-          ] refl q
+          | Some y ↦ λ e f. elim (followed ls b i) as (λ o. followed ls b i ≡ o → option_and_then (next ls) o ≡ Some x
+              → (c : ℕ) × (c < suc b) × (followed ls (suc c) i ≡ Some i)) [
+                | None ↦ λ g h. cc
+                | Some z ↦ λ g h.
+                    let before =
+                    cycle_from_meeting a b i y (omega arith) e (g ∙ ap (λ k. Some k) (apart.one z y x h f)) in
+                    (before.0, omega (arith, before.1), before.2)
+              ] refl q
         ] refl p
 
     -- if the chain does not end within k steps, each of these steps leads to an entry
-    goes_on : (c k i : ℕ) → i < length ls → c ≤ k → chain_number ends ls k i ≡ None → (x : ℕ) × (followed ls c i ≡ Some x) × (x < length ls)
+    goes_on : (c k i : ℕ) → i < length ls → c ≤ k → chain_number ends ls k i ≡ None → (x : ℕ)
+        × (followed ls c i ≡ Some x) × (x < length ls)
     goes_on zero k i in' low e = (i, refl, in')
     goes_on (suc c) zero i in' low e = absurd (omega arith)
     goes_on (suc c) (suc k) i in' low e =
-        elim (next ls i) as (λ o. next ls i ≡ o → option_map_or (λ j. option_map (λ number. suc number) (chain_number ends ls k j)) o (Some (end_number_at ends i)) ≡ None → (x : ℕ) × (followed ls (suc c) i ≡ Some x) × (x < length ls)) [
+        elim (next ls i) as
+        (λ o. next ls i ≡ o → option_map_or (λ j. option_map (λ number. suc number) (chain_number ends ls k j)) o
+        (Some (end_number_at ends i)) ≡ None → (x : ℕ) × (followed ls (suc c) i ≡ Some x) × (x < length ls)) [
           | None ↦ λ none f. cc
           | Some j ↦ λ some f.
               let endless : chain_number ends ls k j ≡ None =
-              elim (chain_number ends ls k j) as (λ o. option_map (λ number. suc number) o ≡ None → o ≡ None) [ None ↦ λ g. refl | Some m ↦ λ g. cc ] f in
+              elim (chain_number ends ls k j) as (λ o. option_map (λ number. suc number) o ≡ None → o ≡ None)
+              [ None ↦ λ g. refl | Some m ↦ λ g. cc ] f in
               let rest = goes_on c k j (apart.within i j some) (omega arith) endless in
               (rest.0, followed-next ls c i j some ∙ rest.1, rest.2)
         ] refl e
@@ -186,18 +210,27 @@ module _ (ends : List ℕ) (ls : List (Option ℕ)) where
         elim (return_cases m i) [
           | inl comes ↦ inl comes
           | inr never ↦
-              elim (followed ls (suc m) i) as (λ o. followed ls (suc m) i ≡ o → Returns ls i ⊎ ((c : ℕ) → c < suc m → followed ls (suc c) i ≡ Some i → ⊥)) [
-                | None ↦ λ e. inr (λ c low f. elim (cases_lt c m) [ inl less ↦ never c less f | inr more ↦ let last : c ≡ m = omega arith in cc (sym e ∙ subst (λ k. followed ls (suc k) i ≡ Some i) last f) ])
-                | Some x ↦ λ e. elim (eqb x i) as (λ b. eqb x i ≡ b → Returns ls i ⊎ ((c : ℕ) → c < suc m → followed ls (suc c) i ≡ Some i → ⊥)) [
-                  | true ↦ λ same. inl (m, e ∙ ap (λ k. Some k) (eqb-true x i same))
-                  | false ↦ λ other. inr (λ c low f. elim (cases_lt c m) [
-                    | inl less ↦ never c less f
-                    | inr more ↦
-                        let last : c ≡ m = omega arith in
-                        let same : x ≡ i = same_Some x i (sym e ∙ subst (λ k. followed ls (suc k) i ≡ Some i) last f) in
-                        cc (sym other ∙ eq-eqb x i same)
-                  ])
-                ] refl
+              elim (followed ls (suc m) i) as
+              (λ o. followed ls (suc m) i ≡ o → Returns ls i
+              ⊎ ((c : ℕ) → c < suc m → followed ls (suc c) i ≡ Some i → ⊥)) [
+                | None ↦ λ e. inr
+                    (λ c low f. elim (cases_lt c m) [
+                      | inl less ↦ never c less f
+                      | inr more ↦ let last : c ≡ m =
+                          omega arith in cc (sym e ∙ subst (λ k. followed ls (suc k) i ≡ Some i) last f)
+                    ])
+                | Some x ↦ λ e. elim (eqb x i) as
+                    (λ b. eqb x i ≡ b → Returns ls i ⊎ ((c : ℕ) → c < suc m → followed ls (suc c) i ≡ Some i → ⊥)) [
+                      | true ↦ λ same. inl (m, e ∙ ap (λ k. Some k) (eqb-true x i same))
+                      | false ↦ λ other. inr (λ c low f. elim (cases_lt c m) [
+                        | inl less ↦ never c less f
+                        | inr more ↦
+                            let last : c ≡ m = omega arith in
+                            let same : x ≡ i =
+                            same_Some x i (sym e ∙ subst (λ k. followed ls (suc k) i ≡ Some i) last f) in
+                            cc (sym other ∙ eq-eqb x i same)
+                      ])
+                    ] refl
               ] refl
         ]
 
@@ -207,12 +240,15 @@ module _ (ends : List ℕ) (ls : List (Option ℕ)) where
         elim (return_cases (suc (length ls)) i) [
           | inl comes ↦ comes
           | inr never ↦
-              let few : suc (length ls) ≤ length ls = pigeonhole (λ c. unwrap_or (followed ls c i) 0) (suc (length ls)) (length ls)
-              (λ k low. let at = goes_on k (length ls) i in' (omega arith) endless in subst (λ x. x < length ls) (sym (ap (λ o. unwrap_or o 0) at.1)) at.2)
+              let few : suc (length ls) ≤ length ls =
+              pigeonhole (λ c. unwrap_or (followed ls c i) 0) (suc (length ls)) (length ls)
+              (λ k low. let at = goes_on k (length ls) i in' (omega arith) endless in
+              subst (λ x. x < length ls) (sym (ap (λ o. unwrap_or o 0) at.1)) at.2)
               (λ a b before low same.
               let first = goes_on a (length ls) i in' (omega arith) endless in
               let second = goes_on b (length ls) i in' (omega arith) endless in
-              let one : second.0 ≡ first.0 = sym (ap (λ o. unwrap_or o 0) second.1) ∙ sym same ∙ ap (λ o. unwrap_or o 0) first.1 in
+              let one : second.0 ≡ first.0 = sym (ap (λ o. unwrap_or o 0) second.1) ∙ sym same
+              ∙ ap (λ o. unwrap_or o 0) first.1 in
               let round = cycle_from_meeting a b i first.0 before first.1 (second.1 ∙ ap (λ k. Some k) one) in
               never round.0 (omega (arith, round.1)) round.2) in
               absurd (omega arith)
@@ -221,7 +257,8 @@ module _ (ends : List ℕ) (ls : List (Option ℕ)) where
     -- each entry has the wave that is computed
     pub some_wave : (i : ℕ) → i < length ls → IsWave ends ls i (wave_of ends ls i)
     some_wave i in' =
-        elim (chain_number ends ls (length ls) i) as (λ o. chain_number ends ls (length ls) i ≡ o → IsWave ends ls i (option_map_or (λ number. Nth number) o Swap)) [
+        elim (chain_number ends ls (length ls) i) as (λ o. chain_number ends ls (length ls) i ≡ o
+        → IsWave ends ls i (option_map_or (λ number. Nth number) o Swap)) [
           | None ↦ λ e. endless_returns i in' e
           | Some n ↦ λ e. number-from_length (length ls) n i e
         ] refl

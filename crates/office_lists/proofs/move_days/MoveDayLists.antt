@@ -10,7 +10,8 @@ use Rattle.office_lists.specs.MoveDay.{is_swap, wave_number, move_cmp, moves_tab
 
 pub move_total : IsTotalOrder move_cmp
 move_total =
-    then_total (then_total (on_total (λ m. is_swap m.wave) bool_cmp_total) (on_total (λ m. wave_number m.wave) nat_cmp_total))
+    then_total
+    (then_total (on_total (λ m. is_swap m.wave) bool_cmp_total) (on_total (λ m. wave_number m.wave) nat_cmp_total))
     (on_total (λ m. m.person) nat_list_cmp_total)
 
 pub move_day_lists_agree : (moves : List Move) → HaveOneMoveDayList moves
@@ -22,6 +23,7 @@ move_day_lists_agree moves =
     }
 
 -- a text made of the moves in order is the list for the day of moving
-pub listed_by_order : (moves rows : List Move) (text : Text) → rows ≡ ascending move_cmp moves → text ≡ moves_table rows → IsMoveDayList moves text
+pub listed_by_order : (moves rows : List Move) (text : Text) → rows ≡ ascending move_cmp moves → text ≡ moves_table rows
+    → IsMoveDayList moves text
 listed_by_order moves rows text in_order lines =
     subst (λ t. IsMoveDayList moves t) (sym (lines ∙ ap moves_table in_order)) (move_day_lists_agree moves).some

@@ -12,7 +12,8 @@ repeat_space zero = refl
 repeat_space (suc n) = ap (λ (t : Text). 32 ∷ t) (repeat_space n)
 
 -- a text padded to a column of this width
-pub padded-left : (width : ℕ) (text : Text) → length text < 2 ^ 64 → padded (format_spec 32 1 0 width (2 ^ 64 - 1)) text ≡ left_aligned width text
+pub padded-left : (width : ℕ) (text : Text) → length text < 2 ^ 64
+    → padded (format_spec 32 1 0 width (2 ^ 64 - 1)) text ≡ left_aligned width text
 unfolding padded encode
 padded-left width text short =
     let whole = take_chars_all (2 ^ 64 - 1) text (omega arith) in

@@ -20,7 +20,8 @@ use Rattle.office_state.proofs.round_problems.Names.{number_in-below, number_in-
 use Rattle.office_state.proofs.round_problems.People.{number_of_participant}
 use Rattle.office_state.proofs.round_problems.Problem.{market_people, market_home}
 use Rattle.office_state.proofs.round_problems.Rooms.{home_numbered}
-use Rattle.office_state.proofs.round_outcomes.Ranks.{person_at, within_participants, number_at, named_again, rank-named, rank-result, result-numbered}
+use Rattle.office_state.proofs.round_outcomes.Ranks.{person_at, within_participants, number_at, named_again, rank-named}
+use Rattle.office_state.proofs.round_outcomes.Ranks.{rank-result, result-numbered}
 
 -- the number of a participant
 record IsAt (office : Office) (person : Text) : Type 0 where

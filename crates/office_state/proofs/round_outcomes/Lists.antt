@@ -34,7 +34,9 @@ use Rattle.office_state.proofs.round_problems.Problem.{market_people, market_lis
 use Rattle.office_state.proofs.round_problems.Problem.{lawful-IsMarket, codes_differ, fits}
 use Rattle.office_state.proofs.round_outcomes.WellTraded.{recorded}
 use Rattle.office_state.proofs.offices.Truths.{text_eq-same}
-use Rattle.office_state.proofs.round_outcomes.Ranks.{person_at, within_participants, number_at, rank-result, result-numbered, takes_part, rank-given, result_by-numbered, no_gain-named}
+use Rattle.office_state.proofs.round_outcomes.Ranks.{person_at, within_participants, number_at, rank-result}
+use Rattle.office_state.proofs.round_outcomes.Ranks.{result-numbered, takes_part, rank-given, result_by-numbered}
+use Rattle.office_state.proofs.round_outcomes.Ranks.{no_gain-named}
 
 -- ---- other lists of any participants
 

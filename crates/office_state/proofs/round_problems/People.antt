@@ -23,7 +23,8 @@ use Rattle.room_types.proofs.options.Options.{some_of}
 use Rattle.draw_order.specs.Draw.{Ticket, IsDrawnOrder, drawn_order, ungraded}
 use Rattle.draw_order.proofs.draws.Orders.{goes_by_word_alone, drawn_orders_agree}
 use Rattle.office_state.specs.Round.Settlement.{is_settled}
-use Rattle.office_state.specs.Office.{knows_person, grade_of, has_withdrawn, participants, people_not_withdrawn, sits_out}
+use Rattle.office_state.specs.Office.{knows_person, grade_of, has_withdrawn, participants, people_not_withdrawn}
+use Rattle.office_state.specs.Office.{sits_out}
 use Rattle.office_state.specs.Round.{is_participant, word_of, tickets_of, round_people, round_rooms}
 use Rattle.office_state.specs.Round.{is_kept_back, number_in}
 use Rattle.office_state.specs.Round.Laws.{people_by_word, plain_tickets_of}
@@ -100,7 +101,8 @@ rooms_differ office = ascending_differ (round_rooms office) (rooms_ascend office
 identifiers_of_tickets : (grade word : Text → ℕ) (people : List Text)
     → map (λ (ticket : Ticket). ticket.0) (map (λ p. (p, grade p, word p)) people) ≡ people
 identifiers_of_tickets grade word [] = refl
-identifiers_of_tickets grade word (p ∷ people) = ap (λ (others : List Text). p ∷ others) (identifiers_of_tickets grade word people)
+identifiers_of_tickets grade word (p ∷ people) =
+    ap (λ (others : List Text). p ∷ others) (identifiers_of_tickets grade word people)
 
 -- the drawn order has the participants, in another order
 pub people_are_participants : (office : Office)

@@ -33,12 +33,15 @@ not_true_false false e = refl
 
 -- each grade is of a known person, and is not 0
 pub grades-decide : (people : TextMap Person) (grades : TextMap ℕ)
-    → Decides (list_all (λ (e : Text × ℕ). is_recorded_grade people e.0 e.1) (map.entries grades)) (AreValidGrades people grades)
+    → Decides (list_all (λ (e : Text × ℕ). is_recorded_grade people e.0 e.1) (map.entries grades))
+    (AreValidGrades people grades)
 grades-decide people grades = (
   λ e.
-      let test : (p : Text) (grade : ℕ) → map.get grades p ≡ Some grade → is_recorded_grade people p grade ≡ true = all_keys nat_list_cmp_total exact_texts (λ k g. is_recorded_grade people k g) grades e in
+      let test : (p : Text) (grade : ℕ) → map.get grades p ≡ Some grade → is_recorded_grade people p grade ≡ true =
+      all_keys nat_list_cmp_total exact_texts (λ k g. is_recorded_grade people k g) grades e in
       record {
-        graded = λ p h. let found = some_of (map.get grades p) h in (and_parts (map.contains_key people p) _ (test p found.0 found.1)).0;
+        graded = λ p h. let found = some_of (map.get grades p) h in
+            (and_parts (map.contains_key people p) _ (test p found.0 found.1)).0;
         none_zero = λ p f. no_zero 0 (and_parts (map.contains_key people p) _ (test p 0 f)).1 refl;
       },
   λ l. keys_all nat_list_cmp_total exact_texts (λ k g. is_recorded_grade people k g) grades (λ k g f.
@@ -46,14 +49,20 @@ grades-decide people grades = (
 )
 
 -- while a round is under way, each person who leaves is known and has not withdrawn
-pub leavers-decide : (phase : Phase) (people : TextMap Person) (withdrawn going : TextMap (Unit {0})) → is_idle phase ≡ false
-    → Decides (list_all (λ (e : Text × Unit {0}). is_leaver people withdrawn e.0) (map.entries going)) (AreValidLeavers phase people withdrawn going)
+pub leavers-decide : (phase : Phase) (people : TextMap Person) (withdrawn going : TextMap (Unit {0}))
+    → is_idle phase ≡ false
+    → Decides (list_all (λ (e : Text × Unit {0}). is_leaver people withdrawn e.0) (map.entries going))
+    (AreValidLeavers phase people withdrawn going)
 leavers-decide phase people withdrawn going busy = (
   λ e.
-      let test : (p : Text) (v : Unit {0}) → map.get going p ≡ Some v → is_leaver people withdrawn p ≡ true = all_keys nat_list_cmp_total exact_texts (λ k v. is_leaver people withdrawn k) going e in
+      let test : (p : Text) (v : Unit {0}) → map.get going p ≡ Some v → is_leaver people withdrawn p ≡ true =
+      all_keys nat_list_cmp_total exact_texts (λ k v. is_leaver people withdrawn k) going e in
       record {
-        leavers = λ p h. let found = some_of (map.get going p) h in (and_parts (map.contains_key people p) _ (test p found.0 found.1)).0;
-        apart = λ p h. let found = some_of (map.get going p) h in not_true_false (map.contains_key withdrawn p) (and_parts (map.contains_key people p) _ (test p found.0 found.1)).1;
+        leavers = λ p h. let found = some_of (map.get going p) h in
+            (and_parts (map.contains_key people p) _ (test p found.0 found.1)).0;
+        apart = λ p h. let found = some_of (map.get going p) h in
+            not_true_false (map.contains_key withdrawn p)
+            (and_parts (map.contains_key people p) _ (test p found.0 found.1)).1;
         idle_going = λ idle. absurd (cc);
       },
   λ l. keys_all nat_list_cmp_total exact_texts (λ k v. is_leaver people withdrawn k) going (λ k v f.

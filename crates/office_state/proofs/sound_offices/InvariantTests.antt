@@ -1,5 +1,6 @@
 -- Each invariant, by the tests that decide it.
-use Rattle.std.proofs.Common.{◌≡◌, ℕ, Bool, true, false, not, ◌||◌, ◌&&◌, ◌≤◌, ◌<◌, List, [], ◌∷◌, length, Option, Some, None, Result, Ok, Err, OnErr, refl, ap, ◌∙◌, sym, subst, inl, inr}
+use Rattle.std.proofs.Common.{◌≡◌, ℕ, Bool, true, false, not, ◌||◌, ◌&&◌, ◌≤◌, ◌<◌, List, [], ◌∷◌, length, Option, Some}
+use Rattle.std.proofs.Common.{None, Result, Ok, Err, OnErr, refl, ap, ◌∙◌, sym, subst, inl, inr}
 use Rattle.std.specs.Prelude.{nat_le, eqb}
 use Rattle.std.specs.Bool.{Decides}
 use Rattle.std.specs.Cmp.Derive.{both_true}
@@ -23,7 +24,8 @@ use Rattle.office_state.specs.Office.Invariants.{HomesOpen}
 use Rattle.office_state.specs.Office.Moves.{moves_of}
 use Rattle.office_state.specs.Office.{is_over, is_same_text}
 use Rattle.office_state.specs.Empty.{is_empty}
-use Rattle.office_state.specs.Inner.Soundness.{is_home_open, is_unshut, is_choices, is_recorded_list, is_given, is_recorded_move, is_recorded_round, is_short, is_wave_0}
+use Rattle.office_state.specs.Inner.Soundness.{is_home_open, is_unshut, is_choices, is_recorded_list, is_given}
+use Rattle.office_state.specs.Inner.Soundness.{is_recorded_move, is_recorded_round, is_short, is_wave_0}
 use Rattle.office_state.specs.Office.Limits.{byte_limit, people_limit, room_limit}
 use Rattle.office_state.specs.Soundness.{ComparesKeys}
 use Rattle.office_lists.specs.Records.{record_limit}
@@ -62,9 +64,11 @@ empty-decides {X} m = (
 
 -- each key of one map is known
 module _ {X Y : Type 0} (m : TextMap X) (n : TextMap Y) where
-  pub keys_known-decides : Decides (list_all (λ (e : Text × X). map.contains_key n e.0) (map.entries m)) ((p : Text) → map.contains_key m p ≡ true → map.contains_key n p ≡ true)
+  pub keys_known-decides : Decides (list_all (λ (e : Text × X). map.contains_key n e.0) (map.entries m))
+      ((p : Text) → map.contains_key m p ≡ true → map.contains_key n p ≡ true)
   keys_known-decides = (
-    λ e p h. let found = some_of (map.get m p) h in all_keys nat_list_cmp_total exact_texts (λ k v. map.contains_key n k) m e p found.0 found.1,
+    λ e p h. let found = some_of (map.get m p) h in
+        all_keys nat_list_cmp_total exact_texts (λ k v. map.contains_key n k) m e p found.0 found.1,
     λ h. keys_all nat_list_cmp_total exact_texts (λ k v. map.contains_key n k) m (λ k v f. h k (ap is_some f)),
   )
 
@@ -78,11 +82,13 @@ module _ (rooms : TextMap Bool) (people : TextMap Person) where
   abbrev open_at : Option Text → Bool
   open_at home = elim home as (λ _. Bool) [ None ↦ true | Some room ↦ is_unshut (map.get rooms room) ]
 
-  pub homes_open-decides : Decides (list_all (λ (e : Text × Person). is_home_open rooms e.1) (map.entries people)) (HomesOpen rooms people)
+  pub homes_open-decides : Decides (list_all (λ (e : Text × Person). is_home_open rooms e.1) (map.entries people))
+      (HomesOpen rooms people)
   homes_open-decides = (
     λ e p room h.
         let v = then_some (λ (p : Person). p.home) (map.get people p) room h in
-        let test : is_home_open rooms v.0 ≡ true = all_keys nat_list_cmp_total exact_texts (λ k v. is_home_open rooms v) people e p v.0 v.1 in
+        let test : is_home_open rooms v.0 ≡ true =
+        all_keys nat_list_cmp_total exact_texts (λ k v. is_home_open rooms v) people e p v.0 v.1 in
         unshut_at (map.get rooms room) (ap open_at (sym v.2) ∙ test),
     λ h. keys_all nat_list_cmp_total exact_texts (λ k v. is_home_open rooms v) people (λ k v f.
         elim v.home as (λ o. v.home ≡ o → open_at o ≡ true) [
@@ -92,7 +98,9 @@ module _ (rooms : TextMap Bool) (people : TextMap Person) where
   )
 
   -- once these tests pass, keys and homes are compared
-  pub noted : map.len rooms ≤ room_limit → map.len people ≤ people_limit → list_all (λ (e : Text × Person). is_home_open rooms e.1) (map.entries people) ≡ true → 0 < length (map.entries people) → ComparesKeys rooms people
+  pub noted : map.len rooms ≤ room_limit → map.len people ≤ people_limit
+      → list_all (λ (e : Text × Person). is_home_open rooms e.1) (map.entries people) ≡ true
+      → 0 < length (map.entries people) → ComparesKeys rooms people
   noted few_rooms few_people unshut somebody = record {
     somebody = subst (λ n. 0 < n) (sym (len-entries people)) somebody;
     few_rooms = few_rooms;
@@ -119,21 +127,29 @@ at_choices codes h = both_true (le-leb (length codes) CHOICE_LIMIT h.0) (ap (λ 
 
 module _ (rooms : TextMap Bool) (choices : TextMap (List Text)) where
   pub record AreListsKept : Type 0 where
-    pub listed : (p : Text) (codes : List Text) → map.get choices p ≡ Some codes → All (λ code. map.contains_key rooms code ≡ true) codes
+    pub listed : (p : Text) (codes : List Text) → map.get choices p ≡ Some codes
+        → All (λ code. map.contains_key rooms code ≡ true) codes
     pub none_empty : (p : Text) → map.get choices p ≡ Some [] → ⊥
     pub chosen : (p : Text) (codes : List Text) → map.get choices p ≡ Some codes → IsChoices codes
 
   abbrev known : Text → Bool
   known code = map.contains_key rooms code
 
-  pub lists-decides : Decides (list_all (λ (e : Text × List Text). is_recorded_list rooms e.1) (map.entries choices)) AreListsKept
+  pub lists-decides : Decides
+      (list_all (λ (e : Text × List Text). is_recorded_list rooms e.1) (map.entries choices)) AreListsKept
   lists-decides = (
     λ e.
-        let test : (p : Text) (codes : List Text) → map.get choices p ≡ Some codes → is_recorded_list rooms codes ≡ true = all_keys nat_list_cmp_total exact_texts (λ k codes. is_recorded_list rooms codes) choices e in
+        let test : (p : Text) (codes : List Text) → map.get choices p ≡ Some codes
+        → is_recorded_list rooms codes ≡ true =
+        all_keys nat_list_cmp_total exact_texts (λ k codes. is_recorded_list rooms codes) choices e in
         record {
           listed = λ p codes f.
-              All-from_recursion (λ code. known code ≡ true) codes (all_true known codes (and_parts (not (is_empty codes)) _ (and_parts (is_choices codes) _ (test p codes f)).1).1);
-          none_empty = λ p f. let filled : false ≡ true = (and_parts (not (is_empty {X = Text} [])) (list_all known []) (and_parts (is_choices []) (not (is_empty {X = Text} []) && list_all known []) (test p [] f)).1).0 in cc;
+              All-from_recursion (λ code. known code ≡ true) codes
+              (all_true known codes
+              (and_parts (not (is_empty codes)) _ (and_parts (is_choices codes) _ (test p codes f)).1).1);
+          none_empty = λ p f. let filled : false ≡ true =
+              (and_parts (not (is_empty {X = Text} [])) (list_all known [])
+              (and_parts (is_choices []) (not (is_empty {X = Text} []) && list_all known []) (test p [] f)).1).0 in cc;
           chosen = λ p codes f. choices_at codes (and_parts (is_choices codes) _ (test p codes f)).0;
         },
     λ h. keys_all nat_list_cmp_total exact_texts (λ k codes. is_recorded_list rooms codes) choices (λ k codes f.
@@ -154,12 +170,16 @@ module _ (people : TextMap Person) (withdrawn going : TextMap (Unit {0})) (words
   WordsEach = (p : Text) → map.contains_key words p ≡ takes_part p
 
   pub words-sound : list_all (λ (e : Text × ℕ). takes_part e.0) (map.entries words) ≡ true
-      → list_all (λ (e : Text × Person). is_out e.0 || map.contains_key words e.0) (map.entries people) ≡ true → WordsEach
+      → list_all (λ (e : Text × Person). is_out e.0 || map.contains_key words e.0)
+      (map.entries people) ≡ true → WordsEach
   words-sound h k p =
       let has : map.contains_key words p ≡ true → takes_part p ≡ true =
-      λ e. let found = some_of (map.get words p) e in all_keys nat_list_cmp_total exact_texts (λ q v. takes_part q) words h p found.0 found.1 in
+      λ e. let found = some_of (map.get words p) e in
+      all_keys nat_list_cmp_total exact_texts (λ q v. takes_part q) words h p found.0 found.1 in
       let given : map.contains_key people p ≡ true → (is_out p || map.contains_key words p) ≡ true =
-      λ e. let found = some_of (map.get people p) e in all_keys nat_list_cmp_total exact_texts (λ q v. is_out q || map.contains_key words q) people k p found.0 found.1 in
+      λ e. let found = some_of (map.get people p) e in
+      all_keys nat_list_cmp_total exact_texts (λ q v. is_out q || map.contains_key words q) people k p
+      found.0 found.1 in
       same (map.contains_key words p) (map.contains_key people p) (is_out p) has given
     where
       same : (w k d : Bool) → (w ≡ true → (k && not d) ≡ true) → (k ≡ true → (d || w) ≡ true) → w ≡ (k && not d)
@@ -169,10 +189,13 @@ module _ (people : TextMap Person) (withdrawn going : TextMap (Unit {0})) (words
       same false true false has given = given refl
 
   pub words-first : WordsEach → list_all (λ (e : Text × ℕ). takes_part e.0) (map.entries words) ≡ true
-  words-first h = keys_all nat_list_cmp_total exact_texts (λ q v. takes_part q) words (λ k v f. sym (h k) ∙ ap is_some f)
+  words-first h =
+      keys_all nat_list_cmp_total exact_texts (λ q v. takes_part q) words (λ k v f. sym (h k) ∙ ap is_some f)
 
-  pub words-second : WordsEach → list_all (λ (e : Text × Person). is_out e.0 || map.contains_key words e.0) (map.entries people) ≡ true
-  words-second h = keys_all nat_list_cmp_total exact_texts (λ q v. is_out q || map.contains_key words q) people (λ k v f.
+  pub words-second : WordsEach → list_all (λ (e : Text × Person). is_out e.0 || map.contains_key words e.0)
+      (map.entries people) ≡ true
+  words-second h =
+      keys_all nat_list_cmp_total exact_texts (λ q v. is_out q || map.contains_key words q) people (λ k v f.
       or_else (map.contains_key words k) (map.contains_key people k) (is_out k) (h k) (ap is_some f))
     where
       or_else : (w k d : Bool) → w ≡ (k && not d) → k ≡ true → (d || w) ≡ true
@@ -199,18 +222,25 @@ module _ (found given : TextMap Assigned) where
         | None ↦ λ none. elim (map.get given q) as (λ o. map.get given q ≡ o → None ≡ o) [
           | None ↦ λ _. refl
           | Some v ↦ λ f.
-              let there : map.contains_key found q ≡ true = all_keys nat_list_cmp_total exact_texts (λ p v. map.contains_key found p) given k q v f in
+              let there : map.contains_key found q ≡ true =
+              all_keys nat_list_cmp_total exact_texts (λ p v. map.contains_key found p) given k q v f in
               let absent : map.contains_key found q ≡ false = ap is_some none in
               absurd (both_ways _ absent there)
         ] refl
-        | Some v ↦ λ f. sym (same_given (map.get given q) v (all_keys nat_list_cmp_total exact_texts (λ p v. is_given given p v) found h q v f))
+        | Some v ↦ λ f. sym
+            (same_given (map.get given q) v
+            (all_keys nat_list_cmp_total exact_texts (λ p v. is_given given p v) found h q v f))
       ] refl)
 
-  pub results-first : found ≡ given → list_all (λ (e : Text × Assigned). is_given given e.0 e.1) (map.entries found) ≡ true
-  results-first same = keys_all nat_list_cmp_total exact_texts (λ p v. is_given given p v) found (λ k v f. ap (λ o. given_at o v) (ap (λ m. map.get m k) (sym same) ∙ f) ∙ itself v.room)
+  pub results-first : found ≡ given → list_all (λ (e : Text × Assigned). is_given given e.0 e.1)
+      (map.entries found) ≡ true
+  results-first same = keys_all nat_list_cmp_total exact_texts (λ p v. is_given given p v) found
+      (λ k v f. ap (λ o. given_at o v) (ap (λ m. map.get m k) (sym same) ∙ f) ∙ itself v.room)
 
-  pub results-second : found ≡ given → list_all (λ (e : Text × Assigned). map.contains_key found e.0) (map.entries given) ≡ true
-  results-second same = keys_all nat_list_cmp_total exact_texts (λ p v. map.contains_key found p) given (λ k v f. ap is_some (ap (λ m. map.get m k) same ∙ f))
+  pub results-second : found ≡ given → list_all (λ (e : Text × Assigned). map.contains_key found e.0)
+      (map.entries given) ≡ true
+  results-second same = keys_all nat_list_cmp_total exact_texts (λ p v. map.contains_key found p) given
+      (λ k v f. ap is_some (ap (λ m. map.get m k) same ∙ f))
 
 -- moves
 wave_of_0 : (wave : Wave) → is_wave_0 wave ≡ true → wave ≡ Nth 0
@@ -232,15 +262,20 @@ recorded_move moved first = elim moved.to as (λ o. moved.to ≡ o → (is_some 
 ] refl
 
 module _ (office : Office) where
-  pub rounds_over-decides : Decides (list_all (λ (e : ℕ × RoundMoves). is_over office e.0) (map.entries office.moves)) ((round : ℕ) → map.contains_key office.moves round ≡ true → is_over office round ≡ true)
+  pub rounds_over-decides : Decides (list_all (λ (e : ℕ × RoundMoves). is_over office e.0) (map.entries office.moves))
+      ((round : ℕ) → map.contains_key office.moves round ≡ true → is_over office round ≡ true)
   rounds_over-decides = (
-    λ e p h. let found = some_of (map.get office.moves p) h in all_keys nat_cmp_total nat_cmp-IsAntisymmetric (λ k v. is_over office k) office.moves e p found.0 found.1,
-    λ h. keys_all nat_cmp_total nat_cmp-IsAntisymmetric (λ k v. is_over office k) office.moves (λ k v f. h k (ap is_some f)),
+    λ e p h. let found = some_of (map.get office.moves p) h in
+        all_keys nat_cmp_total nat_cmp-IsAntisymmetric (λ k v. is_over office k) office.moves e p found.0 found.1,
+    λ h. keys_all nat_cmp_total nat_cmp-IsAntisymmetric (λ k v. is_over office k) office.moves
+        (λ k v f. h k (ap is_some f)),
   )
 
   pub record AreRoundsKept : Type 0 where
-    pub none_empty : (round : ℕ) (kept : RoundMoves) → map.get office.moves round ≡ Some kept → kept.by_person ≡ map.empty → ⊥
-    pub arrived : (round : ℕ) (p : Text) (moved : Moved) → map.get (moves_of office.moves round) p ≡ Some moved → moved.to ≡ None → moved.wave ≡ Nth 0
+    pub none_empty : (round : ℕ) (kept : RoundMoves) → map.get office.moves round ≡ Some kept
+        → kept.by_person ≡ map.empty → ⊥
+    pub arrived : (round : ℕ) (p : Text) (moved : Moved) → map.get (moves_of office.moves round) p ≡ Some moved
+        → moved.to ≡ None → moved.wave ≡ Nth 0
 
   not_true : (b : Bool) → not b ≡ true → b ≡ true → ⊥
   not_true true e f = cc
@@ -253,22 +288,32 @@ module _ (office : Office) where
   empty_has_no_moves : (p : Text) (moved : Moved) → map.get (map.empty {R = text_cmp}) p ≡ Some moved → ⊥
   empty_has_no_moves p moved e = let none = get-empty {X = Moved} text_cmp p in cc
 
-  pub rounds_recorded-decides : Decides (list_all (λ (e : ℕ × RoundMoves). is_recorded_round e.1) (map.entries office.moves)) AreRoundsKept
+  pub rounds_recorded-decides : Decides
+      (list_all (λ (e : ℕ × RoundMoves). is_recorded_round e.1) (map.entries office.moves)) AreRoundsKept
   rounds_recorded-decides = (
     λ e.
-        let test : (round : ℕ) (kept : RoundMoves) → map.get office.moves round ≡ Some kept → is_recorded_round kept ≡ true = all_keys nat_cmp_total nat_cmp-IsAntisymmetric (λ k v. is_recorded_round v) office.moves e in
+        let test : (round : ℕ) (kept : RoundMoves) → map.get office.moves round ≡ Some kept
+        → is_recorded_round kept ≡ true =
+        all_keys nat_cmp_total nat_cmp-IsAntisymmetric (λ k v. is_recorded_round v) office.moves e in
         record {
-          none_empty = λ round kept f none. not_true _ (and_parts (not (eqb (map.len kept.by_person) 0)) _ (test round kept f)).0 ((empty-decides kept.by_person).1 none);
+          none_empty =
+              λ round kept f none. not_true _ (and_parts (not (eqb (map.len kept.by_person) 0)) _ (test round kept f)).0
+              ((empty-decides kept.by_person).1 none);
           arrived = λ round p moved.
-              elim (map.get office.moves round) as (λ o. map.get office.moves round ≡ o → map.get (kept_moves o) p ≡ Some moved → moved.to ≡ None → moved.wave ≡ Nth 0) [
+              elim (map.get office.moves round) as
+              (λ o. map.get office.moves round ≡ o → map.get (kept_moves o) p ≡ Some moved → moved.to ≡ None
+              → moved.wave ≡ Nth 0) [
                 | None ↦ λ none f. absurd (empty_has_no_moves p moved f)
                 | Some kept ↦ λ some f.
-                    move_recorded moved (all_keys nat_list_cmp_total exact_texts (λ k v. is_recorded_move v) kept.by_person (and_parts (not (eqb (map.len kept.by_person) 0)) _ (test round kept some)).1 p moved f)
+                    move_recorded moved
+                    (all_keys nat_list_cmp_total exact_texts (λ k v. is_recorded_move v) kept.by_person
+                    (and_parts (not (eqb (map.len kept.by_person) 0)) _ (test round kept some)).1 p moved f)
               ] refl;
         },
     λ h. keys_all nat_cmp_total nat_cmp-IsAntisymmetric (λ k v. is_recorded_round v) office.moves (λ round kept f.
         both_true (not_at _ (λ none. h.none_empty round kept f ((empty-decides kept.by_person).0 none)))
-        (keys_all nat_list_cmp_total exact_texts (λ k v. is_recorded_move v) kept.by_person (λ p moved m. recorded_move moved (h.arrived round p moved (ap (λ o. map.get (kept_moves o) p) f ∙ m))))),
+        (keys_all nat_list_cmp_total exact_texts (λ k v. is_recorded_move v) kept.by_person
+        (λ p moved m. recorded_move moved (h.arrived round p moved (ap (λ o. map.get (kept_moves o) p) f ∙ m))))),
   )
 
 -- imported lists
@@ -280,11 +325,16 @@ module _ (lists : TextMap StoredImport) where
   pub short-decides : Decides (list_all (λ (e : Text × StoredImport). is_short e.1) (map.entries lists)) AreShort
   short-decides = (
     λ e.
-        let test : (label : Text) (kept : StoredImport) → map.get lists label ≡ Some kept → is_short kept ≡ true = all_keys nat_list_cmp_total exact_texts (λ k kept. is_short kept) lists e in
+        let test : (label : Text) (kept : StoredImport) → map.get lists label ≡ Some kept → is_short kept ≡ true =
+        all_keys nat_list_cmp_total exact_texts (λ k kept. is_short kept) lists e in
         record {
-          short = λ label kept f. leb-true (length kept.bytes) byte_limit (and_parts (nat_le (length kept.bytes) byte_limit) _ (test label kept f)).0;
-          counted = λ label kept f. leb-true kept.count record_limit (and_parts (nat_le (length kept.bytes) byte_limit) _ (test label kept f)).1;
+          short = λ label kept f. leb-true (length kept.bytes) byte_limit
+              (and_parts (nat_le (length kept.bytes) byte_limit) _ (test label kept f)).0;
+          counted =
+              λ label kept f. leb-true kept.count record_limit
+              (and_parts (nat_le (length kept.bytes) byte_limit) _ (test label kept f)).1;
         },
     λ h. keys_all nat_list_cmp_total exact_texts (λ k kept. is_short kept) lists (λ label kept f.
-        both_true (le-leb (length kept.bytes) byte_limit (h.short label kept f)) (le-leb kept.count record_limit (h.counted label kept f))),
+        both_true (le-leb (length kept.bytes) byte_limit (h.short label kept f))
+        (le-leb kept.count record_limit (h.counted label kept f))),
   )

@@ -1,5 +1,7 @@
 -- The text of a word is ASCII, and parsing it gives the word back.
-use Rattle.std.proofs.Common.{◌≡◌, ◌≢◌, ℕ, ◌+◌, ◌-◌, ◌*◌, ◌/◌, ◌%◌, ◌^◌, ◌<◌, ◌≤◌, zero, suc, Bool, true, false, cond, List, [], ◌∷◌, ◌++◌, length, replicate, Option, Some, None, refl, sym, ap, ◌∙◌, subst, inl, inr, eqb, arith, length-append}
+use Rattle.std.proofs.Common.{◌≡◌, ◌≢◌, ℕ, ◌+◌, ◌-◌, ◌*◌, ◌/◌, ◌%◌, ◌^◌, ◌<◌, ◌≤◌, zero, suc, Bool, true, false, cond}
+use Rattle.std.proofs.Common.{List, [], ◌∷◌, ◌++◌, length, replicate, Option, Some, None, refl, sym, ap, ◌∙◌, subst}
+use Rattle.std.proofs.Common.{inl, inr, eqb, arith, length-append}
 use Rattle.std.proofs.lemmas.Bool.Decides.{nat_tests, eqb_tells}
 use Rattle.std.proofs.lemmas.Bool.{eq-eqb}
 use Rattle.std.proofs.lemmas.List.Elements.{All-append, All-cons, All-nil, All-replicate}
@@ -13,25 +15,35 @@ use Rattle.room_types.specs.Words.{hex_digit, hex_value, word_of, word_text}
 glyph_read : (d : ℕ) → d < 16 → hex_digit (digit_glyph false d) ≡ Some d
 glyph_read d h = grind (arith, nat_tests)
 
-next : (v byte d : ℕ) (bytes : List ℕ) → hex_digit byte ≡ Some d → hex_value v (byte ∷ bytes) ≡ hex_value (v * 16 + d) bytes
-next v byte d bytes e = ap (λ o. elim o as (λ _. Option ℕ) [ None ↦ None | Some digit ↦ hex_value (v * 16 + digit) bytes ]) e
+next : (v byte d : ℕ) (bytes : List ℕ) → hex_digit byte ≡ Some d → hex_value v (byte ∷ bytes) ≡ hex_value
+    (v * 16 + d) bytes
+next v byte d bytes e =
+    ap (λ o. elim o as (λ _. Option ℕ) [ None ↦ None | Some digit ↦ hex_value (v * 16 + digit) bytes ]) e
 
 onto_read : (k n : ℕ) (acc : List ℕ) → n < 16 ^ k → hex_value 0 (digits_onto k 16 false n acc) ≡ hex_value n acc
 onto_read zero n acc h = let none : 0 ≡ n = omega (arith, h) in ap (λ m. hex_value m acc) none
 onto_read (suc k) n acc h =
     let low : n % 16 < 16 = omega arith in
     let whole : (n / 16) * 16 + n % 16 ≡ n = omega arith in
-    elim (eqb_tells (n / 16) 0) as (λ _. hex_value 0 (cond (eqb (n / 16) 0) (digit_glyph false (n % 16) ∷ acc) (digits_onto k 16 false (n / 16) (digit_glyph false (n % 16) ∷ acc))) ≡ hex_value n acc) [
+    elim (eqb_tells (n / 16) 0) as
+    (λ _. hex_value 0
+    (cond (eqb (n / 16) 0) (digit_glyph false (n % 16) ∷ acc)
+    (digits_onto k 16 false (n / 16) (digit_glyph false (n % 16) ∷ acc))) ≡ hex_value n acc) [
       | inl same ↦
           let small : 0 * 16 + n % 16 ≡ n = omega (arith, same.1, whole) in
-          ap (λ b. hex_value 0 (cond b (digit_glyph false (n % 16) ∷ acc) (digits_onto k 16 false (n / 16) (digit_glyph false (n % 16) ∷ acc)))) same.0
+          ap (λ b. hex_value 0
+          (cond b (digit_glyph false (n % 16) ∷ acc)
+          (digits_onto k 16 false (n / 16) (digit_glyph false (n % 16) ∷ acc)))) same.0
           ∙ next 0 (digit_glyph false (n % 16)) (n % 16) acc (glyph_read (n % 16) low) ∙ ap (λ m. hex_value m acc) small
       | inr other ↦
           let above : n < 16 * 16 ^ k = omega (arith, h, power k) in
           let less : n / 16 < 16 ^ k = omega (arith, above, whole) in
-          ap (λ b. hex_value 0 (cond b (digit_glyph false (n % 16) ∷ acc) (digits_onto k 16 false (n / 16) (digit_glyph false (n % 16) ∷ acc)))) other.0
+          ap (λ b. hex_value 0
+          (cond b (digit_glyph false (n % 16) ∷ acc)
+          (digits_onto k 16 false (n / 16) (digit_glyph false (n % 16) ∷ acc)))) other.0
           ∙ onto_read k (n / 16) (digit_glyph false (n % 16) ∷ acc) less
-          ∙ next (n / 16) (digit_glyph false (n % 16)) (n % 16) acc (glyph_read (n % 16) low) ∙ ap (λ m. hex_value m acc) whole
+          ∙ next (n / 16) (digit_glyph false (n % 16)) (n % 16) acc (glyph_read (n % 16) low)
+          ∙ ap (λ m. hex_value m acc) whole
     ]
   where
     power : (j : ℕ) → 16 ^ suc j ≡ 16 * 16 ^ j
@@ -42,7 +54,9 @@ zeros_read zero bytes = refl
 zeros_read (suc m) bytes = zeros_read m bytes
 
 -- bounds on the number of digits
-more_digits : (n : ℕ) (more : List ℕ) (acc : List ℕ) → n / 16 ≢ 0 → ((j : ℕ) → n / 16 < 16 ^ suc j → length more ≤ suc j + suc (length acc)) → (m : ℕ) → n < 16 ^ suc m → length more ≤ suc m + length acc
+more_digits : (n : ℕ) (more : List ℕ) (acc : List ℕ) → n / 16 ≢ 0
+    → ((j : ℕ) → n / 16 < 16 ^ suc j → length more ≤ suc j + suc (length acc)) → (m : ℕ) → n < 16 ^ suc m
+    → length more ≤ suc m + length acc
 more_digits n more acc some short zero h = absurd (some (omega (arith, h)))
 more_digits n more acc some short (suc j) h =
     let above : 16 ^ suc (suc j) ≡ 16 * 16 ^ suc j = grind arith in
@@ -54,10 +68,22 @@ more_digits n more acc some short (suc j) h =
 onto_length : (k m n : ℕ) (acc : List ℕ) → n < 16 ^ suc m → length (digits_onto k 16 false n acc) ≤ suc m + length acc
 onto_length zero m n acc h = omega arith
 onto_length (suc k) m n acc h =
-    elim (eqb_tells (n / 16) 0) as (λ _. length (cond (eqb (n / 16) 0) (digit_glyph false (n % 16) ∷ acc) (digits_onto k 16 false (n / 16) (digit_glyph false (n % 16) ∷ acc))) ≤ suc m + length acc) [
-      | inl same ↦ subst (λ b. length (cond b (digit_glyph false (n % 16) ∷ acc) (digits_onto k 16 false (n / 16) (digit_glyph false (n % 16) ∷ acc))) ≤ suc m + length acc) (sym same.0) (omega arith)
-      | inr other ↦ subst (λ b. length (cond b (digit_glyph false (n % 16) ∷ acc) (digits_onto k 16 false (n / 16) (digit_glyph false (n % 16) ∷ acc))) ≤ suc m + length acc) (sym other.0)
-          (more_digits n (digits_onto k 16 false (n / 16) (digit_glyph false (n % 16) ∷ acc)) acc other.1 (λ j less. onto_length k j (n / 16) (digit_glyph false (n % 16) ∷ acc) less) m h)
+    elim (eqb_tells (n / 16) 0) as
+    (λ _. length
+    (cond (eqb (n / 16) 0) (digit_glyph false (n % 16) ∷ acc)
+    (digits_onto k 16 false (n / 16) (digit_glyph false (n % 16) ∷ acc))) ≤ suc m + length acc) [
+      | inl same ↦ subst
+          (λ b. length
+          (cond b (digit_glyph false (n % 16) ∷ acc)
+          (digits_onto k 16 false (n / 16) (digit_glyph false (n % 16) ∷ acc)))
+          ≤ suc m + length acc) (sym same.0) (omega arith)
+      | inr other ↦ subst
+          (λ b. length
+          (cond b (digit_glyph false (n % 16) ∷ acc)
+          (digits_onto k 16 false (n / 16) (digit_glyph false (n % 16) ∷ acc)))
+          ≤ suc m + length acc) (sym other.0)
+          (more_digits n (digits_onto k 16 false (n / 16) (digit_glyph false (n % 16) ∷ acc)) acc other.1
+          (λ j less. onto_length k j (n / 16) (digit_glyph false (n % 16) ∷ acc) less) m h)
     ]
 
 length-replicate : (m x : ℕ) → length (replicate m x) ≡ m
@@ -68,7 +94,8 @@ pub word_length : (w : ℕ) → w < 2 ^ 64 → length (word_text w) ≡ 16
 unfolding digits
 word_length w h =
     let count : length (digits 16 false w) ≤ 16 = omega (arith, onto_length 64 15 w [] (omega (arith, h))) in
-    length-append (replicate (16 - length (digits 16 false w)) 48) (digits 16 false w) ∙ omega (arith, length-replicate (16 - length (digits 16 false w)) 48)
+    length-append (replicate (16 - length (digits 16 false w)) 48) (digits 16 false w)
+    ∙ omega (arith, length-replicate (16 - length (digits 16 false w)) 48)
 
 pub word_read : (w : ℕ) → w < 2 ^ 64 → word_of (word_text w) ≡ Some w
 unfolding digits
@@ -83,7 +110,10 @@ onto_longer : (k n : ℕ) (acc : List ℕ) → length acc ≤ length (digits_ont
 onto_longer zero n acc = omega arith
 onto_longer (suc k) n acc =
     let longer = onto_longer k (n / 16) (digit_glyph false (n % 16) ∷ acc) in
-    elim (eqb (n / 16) 0) as (λ b. length acc ≤ length (cond b (digit_glyph false (n % 16) ∷ acc) (digits_onto k 16 false (n / 16) (digit_glyph false (n % 16) ∷ acc)))) [
+    elim (eqb (n / 16) 0) as
+    (λ b. length acc ≤ length
+    (cond b (digit_glyph false (n % 16) ∷ acc)
+    (digits_onto k 16 false (n / 16) (digit_glyph false (n % 16) ∷ acc)))) [
       | true ↦ omega arith
       | false ↦ omega (arith, longer)
     ]
@@ -93,8 +123,12 @@ power_above zero = omega arith
 power_above (suc m) = let above : 16 ^ suc m ≡ 16 * 16 ^ m = grind arith in omega (arith, above, power_above m)
 
 -- one more digit multiplies the bound by sixteen
-next_low : (k m n : ℕ) (acc : List ℕ) → (length (digits_onto k 16 false (n / 16) (digit_glyph false (n % 16) ∷ acc)) ≤ m + suc (length acc) → n / 16 < 16 ^ m)
-    → (b : Bool) → (true ≡ b → n / 16 ≡ 0) → length (cond b (digit_glyph false (n % 16) ∷ acc) (digits_onto k 16 false (n / 16) (digit_glyph false (n % 16) ∷ acc))) ≤ suc m + length acc
+next_low : (k m n : ℕ) (acc : List ℕ)
+    → (length (digits_onto k 16 false (n / 16) (digit_glyph false (n % 16) ∷ acc)) ≤ m + suc (length acc)
+    → n / 16 < 16 ^ m)
+    → (b : Bool) → (true ≡ b → n / 16 ≡ 0)
+    → length (cond b (digit_glyph false (n % 16) ∷ acc)
+    (digits_onto k 16 false (n / 16) (digit_glyph false (n % 16) ∷ acc))) ≤ suc m + length acc
     → n < 16 ^ suc m
 next_low k m n acc more true small h =
     let none = small refl in
@@ -114,12 +148,16 @@ onto_low : (k m n : ℕ) (acc : List ℕ) → m < k → length (digits_onto k 16
 onto_low zero m n acc few h = absurd (omega (arith, few))
 onto_low (suc k) zero n acc few h =
     let longer = onto_longer k (n / 16) (digit_glyph false (n % 16) ∷ acc) in
-    absurd (elim (eqb (n / 16) 0) as (λ b. length (cond b (digit_glyph false (n % 16) ∷ acc) (digits_onto k 16 false (n / 16) (digit_glyph false (n % 16) ∷ acc))) ≤ 0 + length acc → ⊥) [
+    absurd (elim (eqb (n / 16) 0) as
+    (λ b. length
+    (cond b (digit_glyph false (n % 16) ∷ acc) (digits_onto k 16 false (n / 16) (digit_glyph false (n % 16) ∷ acc)))
+    ≤ 0 + length acc → ⊥) [
       | true ↦ λ short. omega (arith, short)
       | false ↦ λ short. omega (arith, short, longer)
     ] h)
 onto_low (suc k) (suc m) n acc few h =
-    next_low k m n acc (onto_low k m (n / 16) (digit_glyph false (n % 16) ∷ acc) (omega (arith, few))) (eqb (n / 16) 0) (λ e. grind (arith, nat_tests, e)) h
+    next_low k m n acc (onto_low k m (n / 16) (digit_glyph false (n % 16) ∷ acc) (omega (arith, few))) (eqb (n / 16) 0)
+    (λ e. grind (arith, nat_tests, e)) h
 
 pub word_low : (w : ℕ) → length (word_text w) ≡ 16 → w < 2 ^ 64
 unfolding digits
@@ -142,7 +180,10 @@ onto_small zero n acc h = h
 onto_small (suc k) n acc h =
     let low : n % 16 < 16 = omega arith in
     let longer = All-cons is_small (digit_glyph false (n % 16)) acc (glyph_small (n % 16) low) h in
-    elim (eqb (n / 16) 0) as (λ b. All is_small (cond b (digit_glyph false (n % 16) ∷ acc) (digits_onto k 16 false (n / 16) (digit_glyph false (n % 16) ∷ acc)))) [
+    elim (eqb (n / 16) 0) as
+    (λ b. All is_small
+    (cond b (digit_glyph false (n % 16) ∷ acc)
+    (digits_onto k 16 false (n / 16) (digit_glyph false (n % 16) ∷ acc)))) [
       | true ↦ longer
       | false ↦ onto_small k (n / 16) (digit_glyph false (n % 16) ∷ acc) longer
     ]
@@ -151,4 +192,6 @@ pub word_utf8 : (w : ℕ) → IsUtf8 (word_text w)
 unfolding digits
 word_utf8 w =
     IsUtf8-from_ascii (word_text w) (IsAscii-from_all (word_text w)
-    (All-append is_small (replicate (16 - length (digits 16 false w)) 48) (digits 16 false w) (All-replicate is_small (16 - length (digits 16 false w)) 48 (omega arith)) (onto_small 64 w [] (All-nil is_small))))
+    (All-append is_small (replicate (16 - length (digits 16 false w)) 48) (digits 16 false w)
+    (All-replicate is_small (16 - length (digits 16 false w)) 48 (omega arith))
+    (onto_small 64 w [] (All-nil is_small))))

@@ -9,7 +9,8 @@ use Rattle.std.specs.FinMap.Entries.{put, by_order}
 use Rattle.std.specs.BTreeMap as tree
 use Rattle.std.specs.BTreeMap.{BTreeMap, is_at}
 use Rattle.std.specs.FinMap as map
-use Rattle.std.specs.FinMap.{IsAntisymmetric, find, from_entries, get-from_entries, get-insert, get-remove, same_map, entries-insert, len-entries, len-empty}
+use Rattle.std.specs.FinMap.{IsAntisymmetric, find, from_entries, get-from_entries, get-insert, get-remove, same_map}
+use Rattle.std.specs.FinMap.{entries-insert, len-entries, len-empty}
 use Rattle.std.proofs.lemmas.List.{nil_from_length}
 
 module _ {K X : Type 0} (R : K → K → Ordering) where
@@ -24,7 +25,8 @@ module _ {K X : Type 0} {R : K → K → Ordering} (total : IsTotalOrder R) wher
 
 module _ {K X : Type 0} {R : K → K → Ordering} (total : IsTotalOrder R) (exact : IsAntisymmetric R) where
   -- the map after an insertion
-  pub insert-tree : (m n : BTreeMap K X) (k : K) (v : X) → ((q : K) → tree.get R n q ≡ cond (is_at (R k) q) (Some v) (tree.get R m q))
+  pub insert-tree : (m n : BTreeMap K X) (k : K) (v : X)
+      → ((q : K) → tree.get R n q ≡ cond (is_at (R k) q) (Some v) (tree.get R m q))
       → from_entries {R = R} n.entries ≡ map.insert (from_entries m.entries) k v
   insert-tree m n k v updates = same_map total exact _ _ (λ q.
       get-tree total n q ∙ updates q
@@ -33,7 +35,8 @@ module _ {K X : Type 0} {R : K → K → Ordering} (total : IsTotalOrder R) (exa
       ∙ sym (get-insert total (from_entries m.entries) k v q))
 
   -- the map after a removal
-  pub remove-tree : (m n : BTreeMap K X) (k : K) → ((q : K) → tree.get R n q ≡ cond (is_at (R k) q) None (tree.get R m q))
+  pub remove-tree : (m n : BTreeMap K X) (k : K)
+      → ((q : K) → tree.get R n q ≡ cond (is_at (R k) q) None (tree.get R m q))
       → from_entries {R = R} n.entries ≡ map.remove (from_entries m.entries) k
   remove-tree m n k updates = same_map total exact _ _ (λ q.
       get-tree total n q ∙ updates q
@@ -51,7 +54,8 @@ module _ {K X : Type 0} {R : K → K → Ordering} (total : IsTotalOrder R) wher
   entries-empty = nil_from_length _ (sym (len-entries (map.empty {X = X} {R = R})) ∙ len-empty R X)
 
   -- entries in strictly ascending order are the entries of the map that they make
-  pub entries-sorted : (es : List (K × X)) → IsStrictlySortedBy R (keys_of es) → map.entries (from_entries {R = R} es) ≡ es
+  pub entries-sorted : (es : List (K × X)) → IsStrictlySortedBy R (keys_of es)
+      → map.entries (from_entries {R = R} es) ≡ es
   unfolding IsStrictlySortedBy
   entries-sorted [] s = entries-empty
   entries-sorted (e ∷ es) s =
@@ -63,11 +67,13 @@ module _ {K X : Type 0} {R : K → K → Ordering} (total : IsTotalOrder R) wher
   pub entries-tree : (m : BTreeMap K X) → tree.IsOrdered R m → map.entries (from_entries {R = R} m.entries) ≡ m.entries
   entries-tree m s = entries-sorted m.entries s
 
-  pub len-tree : (m : BTreeMap K X) → tree.IsOrdered R m → map.len (from_entries {R = R} m.entries) ≡ tree.btree_map_len m
+  pub len-tree : (m : BTreeMap K X) → tree.IsOrdered R m
+      → map.len (from_entries {R = R} m.entries) ≡ tree.btree_map_len m
   len-tree m s = len-entries _ ∙ ap length (entries-tree m s)
 
 -- entries with equal keys and equal values are equal
-pub same_pairs : {K X : Type 0} (C : K → K → Type 0) (D : X → X → Type 0) → ((x y : K) → C x y → y ≡ x) → ((x y : X) → D x y → y ≡ x)
+pub same_pairs : {K X : Type 0} (C : K → K → Type 0) (D : X → X → Type 0) → ((x y : K) → C x y → y ≡ x)
+    → ((x y : X) → D x y → y ≡ x)
     → (es fs : List (K × X)) → AllZip (λ p q. C p.0 q.0 × D p.1 q.1) es fs → fs ≡ es
 same_pairs C D c d [] [] h = refl
 same_pairs C D c d [] (f ∷ fs) h = absurd h

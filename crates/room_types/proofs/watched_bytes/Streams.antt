@@ -1,6 +1,7 @@
 -- Bytes that are written in several calls.
 use Rattle.std.specs.Prelude.{◌||◌, ◌&&◌, ◌==◌}
-use Rattle.std.proofs.Common.{◌≡◌, Bool, true, false, ℕ, zero, suc, ◌+◌, ◌<◌, ◌^◌, ◌-◌, List, [], ◌++◌, length, take, drop, refl, sym, ap, ◌∙◌, arith, rules, tests, append-nil, length-append}
+use Rattle.std.proofs.Common.{◌≡◌, Bool, true, false, ℕ, zero, suc, ◌+◌, ◌<◌, ◌^◌, ◌-◌, List, [], ◌++◌, length, take}
+use Rattle.std.proofs.Common.{drop, refl, sym, ap, ◌∙◌, arith, rules, tests, append-nil, length-append}
 use Rattle.std.specs.Io.KnownBytes.{Keeps, Appends}
 use Rattle.std.proofs.KnownBytes.{Appends-trans, Appends-nil, Appends-kept}
 use Rattle.std.proofs.lemmas.List.{take_all, length-drop}
@@ -35,11 +36,13 @@ Puts-nil o = record { written = Appends-nil o.contents; taken = refl }
 pub Puts-trans : (a b c : Output) (xs ys : List ℕ) → Puts a b xs → Puts b c ys → Puts a c (xs ++ ys)
 Puts-trans a b c xs ys p q = record {
   written = Appends-trans a.contents b.contents c.contents _ _ p.written q.written;
-  taken = q.taken ∙ ap (λ t. count_after t (length ys)) p.taken ∙ count_after-add a.taken (length xs) (length ys) ∙ ap (count_after a.taken) (sym (length-append xs ys));
+  taken = q.taken ∙ ap (λ t. count_after t (length ys)) p.taken ∙ count_after-add a.taken (length xs) (length ys)
+      ∙ ap (count_after a.taken) (sym (length-append xs ys));
 }
 
 -- a step that appends nothing and leaves the count keeps what is written
-pub Puts-kept : (a b c : Output) (xs : List ℕ) → Puts a b xs → Keeps b.contents c.contents → c.taken ≡ b.taken → Puts a c xs
+pub Puts-kept : (a b c : Output) (xs : List ℕ) → Puts a b xs → Keeps b.contents c.contents → c.taken ≡ b.taken
+    → Puts a c xs
 Puts-kept a b c xs p k t = record {
   written = Appends-kept a.contents b.contents c.contents _ p.written k;
   taken = t ∙ p.taken;
@@ -50,7 +53,8 @@ pub take_rest : (i : ℕ) (xs : List ℕ) → take (length xs - i) (drop i xs) �
 take_rest i xs = take_all (length xs - i) (drop i xs) (omega (arith, length-drop i xs))
 
 -- a write of no bytes keeps what is written, if the count fits in 64 bits
-pub Puts-none : (a b c : Output) (xs ys : List ℕ) (n : ℕ) → Puts a b xs → a.taken < 2 ^ 64 → Appends b.contents c.contents (take n ys) → c.taken ≡ counted b.taken n → n ≡ 0 → Puts a c xs
+pub Puts-none : (a b c : Output) (xs ys : List ℕ) (n : ℕ) → Puts a b xs → a.taken < 2 ^ 64
+    → Appends b.contents c.contents (take n ys) → c.taken ≡ counted b.taken n → n ≡ 0 → Puts a c xs
 Puts-none a b c xs ys n p fits k t none =
     let no_bytes : take n ys ≡ [] = ap (λ m. take m ys) none in
     record {
@@ -73,7 +77,8 @@ and_or_false false false = refl
 
 -- a write that takes some bytes has not failed
 pub kept_by_write : (b c : Bool) (n : ℕ) → 0 < n → (b || (c && n == 0)) ≡ b
-kept_by_write b c n h = let some : (n == 0) ≡ false = search (rules, tests) in ap (λ d. b || (c && d)) some ∙ and_or_false b c
+kept_by_write b c n h = let some : (n == 0) ≡ false = search (rules, tests) in
+    ap (λ d. b || (c && d)) some ∙ and_or_false b c
 
 -- counting one read more, while the count is small
 pub counted_one : (t : ℕ) → t < 2 ^ 63 → counted t 1 ≡ t + 1

@@ -1,7 +1,11 @@
 -- Lists of people without repeats, and the stage after the front of a line leaves.
-use Rattle.std.proofs.Common.{◌≡◌, ℕ, zero, suc, ◌+◌, ◌<◌, ◌≤◌, ◌⊎◌, Bool, true, false, not, ◌&&◌, ◌||◌, ◌==◌, List, [], ◌∷◌, ◌++◌, length, Option, Some, None, find, get_or, refl, sym, ap, ◌∙◌, subst, inl, inr, arith, eqb-true, eq-eqb, ne_eqb, get_or-set_same, get_or-set_other, length-set, add-one, add-zero}
+use Rattle.std.proofs.Common.{◌≡◌, ℕ, zero, suc, ◌+◌, ◌<◌, ◌≤◌, ◌⊎◌, Bool, true, false, not, ◌&&◌, ◌||◌, ◌==◌, List, []}
+use Rattle.std.proofs.Common.{◌∷◌, ◌++◌, length, Option, Some, None, find, get_or, refl, sym, ap, ◌∙◌, subst, inl, inr}
+use Rattle.std.proofs.Common.{arith, eqb-true, eq-eqb, ne_eqb, get_or-set_same, get_or-set_other, length-set, add-one}
+use Rattle.std.proofs.Common.{add-zero}
 use Rattle.std.specs.List.{range_with_len}
-use Rattle.std.proofs.lemmas.Bool.{cases_Bool, cases_eq, and_left, and_right, or_cases, or_left, or_right, or_parts, false_from_ne_true, both_ways, cond-true, cond-false}
+use Rattle.std.proofs.lemmas.Bool.{cases_Bool, cases_eq, and_left, and_right, or_cases, or_left, or_right, or_parts}
+use Rattle.std.proofs.lemmas.Bool.{false_from_ne_true, both_ways, cond-true, cond-false}
 use Rattle.std.proofs.Math.Bool.{or_assoc, and-true, or-false}
 use Rattle.std.specs.Cmp.Derive.{one_truth}
 use Rattle.trade_line.specs.Below.{or_else}
@@ -27,7 +31,8 @@ among_more a xs p h = or_right (a == p) (among xs p) h
 
 pub among-append : (xs ys : List ℕ) (p : ℕ) → among (xs ++ ys) p ≡ (among xs p || among ys p)
 among-append [] ys p = refl
-among-append (x ∷ xs) ys p = ap (λ b. (x == p) || b) (among-append xs ys p) ∙ sym (or_assoc (x == p) (among xs p) (among ys p))
+among-append (x ∷ xs) ys p =
+    ap (λ b. (x == p) || b) (among-append xs ys p) ∙ sym (or_assoc (x == p) (among xs p) (among ys p))
 
 pub among_left : (xs ys : List ℕ) (p : ℕ) → among xs p ≡ true → among (xs ++ ys) p ≡ true
 among_left xs ys p h = among-append xs ys p ∙ or_left (among xs p) (among ys p) h
@@ -46,7 +51,8 @@ pub once_apart : (xs ys : List ℕ) → Once (xs ++ ys) → (p : ℕ) → among 
 once_apart [] ys o p h = absurd (both_ways false refl h)
 once_apart (x ∷ xs) ys o p h =
     elim (or_cases (x == p) (among xs p) h) [
-      | inl e ↦ subst (λ z. among ys z ≡ false) (eqb-true x p e) (or_parts (among xs x) (among ys x) (sym (among-append xs ys x) ∙ o.0)).1
+      | inl e ↦ subst (λ z. among ys z ≡ false) (eqb-true x p e)
+          (or_parts (among xs x) (among ys x) (sym (among-append xs ys x) ∙ o.0)).1
       | inr i ↦ once_apart xs ys o.1 p i
     ]
 
@@ -79,9 +85,13 @@ among-without t (x ∷ xs) p =
     elim (cases_Bool (x == t)) [
       | inl y ↦
           let e : x ≡ t = eqb-true x t y in
-          ap (λ z. among z p) (without_hit t x xs y) ∙ (among-without t xs p ∙ subst (λ z. (among xs p && not (t == p)) ≡ (((z == p) || among xs p) && not (t == p))) (sym e) (gone (t == p) (among xs p)))
+          ap (λ z. among z p) (without_hit t x xs y)
+          ∙ (among-without t xs p
+          ∙ subst (λ z. (among xs p && not (t == p)) ≡ (((z == p) || among xs p) && not (t == p))) (sym e)
+          (gone (t == p) (among xs p)))
       | inr n ↦
-          ap (λ z. among z p) (without_miss t x xs n) ∙ (ap (λ b. (x == p) || b) (among-without t xs p) ∙ kept (cases_Bool (x == p)) n)
+          ap (λ z. among z p) (without_miss t x xs n)
+          ∙ (ap (λ b. (x == p) || b) (among-without t xs p) ∙ kept (cases_Bool (x == p)) n)
     ]
   where
     gone : (b c : Bool) → (c && not b) ≡ ((b || c) && not b)
@@ -89,7 +99,8 @@ among-without t (x ∷ xs) p =
     gone true false = refl
     gone false c = refl
 
-    kept : ((x == p) ≡ true) ⊎ ((x == p) ≡ false) → (x == t) ≡ false → ((x == p) || (among xs p && not (t == p))) ≡ (((x == p) || among xs p) && not (t == p))
+    kept : ((x == p) ≡ true) ⊎ ((x == p) ≡ false) → (x == t) ≡ false
+        → ((x == p) || (among xs p && not (t == p))) ≡ (((x == p) || among xs p) && not (t == p))
     kept (inl y) n =
         let ne : (t == p) ≡ false = ne_eqb t p (λ e. both_ways (x == t) n (eq-eqb x t (eqb-true x p y ∙ sym e))) in
         rw (y, ne) refl
@@ -100,7 +111,8 @@ once_without t [] o = tt
 once_without t (x ∷ xs) o =
     elim (cases_Bool (x == t)) [
       | inl y ↦ subst Once (sym (without_hit t x xs y)) (once_without t xs o.1)
-      | inr n ↦ subst Once (sym (without_miss t x xs n)) (among-without t xs x ∙ and_left (among xs x) (not (t == x)) o.0, once_without t xs o.1)
+      | inr n ↦ subst Once (sym (without_miss t x xs n))
+          (among-without t xs x ∙ and_left (among xs x) (not (t == x)) o.0, once_without t xs o.1)
     ]
 
 pub without_absent : (t : ℕ) (xs : List ℕ) → among xs t ≡ false → without t xs ≡ xs
@@ -119,8 +131,13 @@ pub length-without : (t : ℕ) (xs : List ℕ) → Once xs → among xs t ≡ tr
 length-without t [] o h = absurd (both_ways false refl h)
 length-without t (x ∷ xs) o h =
     elim (cases_Bool (x == t)) [
-      | inl y ↦ ap suc (ap length (without_hit t x xs y) ∙ ap length (without_absent t xs (subst (λ z. among xs z ≡ false) (eqb-true x t y) o.0)))
-      | inr n ↦ ap suc (ap length (without_miss t x xs n) ∙ length-without t xs o.1 (elim (or_cases (x == t) (among xs t) h) [ inl e ↦ clash (x == t) e n | inr i ↦ i ]))
+      | inl y ↦ ap suc
+          (ap length (without_hit t x xs y)
+          ∙ ap length (without_absent t xs (subst (λ z. among xs z ≡ false) (eqb-true x t y) o.0)))
+      | inr n ↦ ap suc
+          (ap length (without_miss t x xs n)
+          ∙ length-without t xs o.1
+          (elim (or_cases (x == t) (among xs t) h) [ inl e ↦ clash (x == t) e n | inr i ↦ i ]))
     ]
 
 ascends_lower : (a b : ℕ) (xs : List ℕ) → a < b → AscendsFrom b xs → AscendsFrom a xs
@@ -131,7 +148,8 @@ pub ascends_from_without : (t a : ℕ) (xs : List ℕ) → AscendsFrom a xs → 
 ascends_from_without t a [] w = tt
 ascends_from_without t a (b ∷ r) w =
     elim (cases_Bool (b == t)) [
-      | inl y ↦ subst (AscendsFrom a) (sym (without_hit t b r y)) (ascends_lower a b (without t r) w.0 (ascends_from_without t b r w.1))
+      | inl y ↦ subst (AscendsFrom a) (sym (without_hit t b r y))
+          (ascends_lower a b (without t r) w.0 (ascends_from_without t b r w.1))
       | inr n ↦ subst (AscendsFrom a) (sym (without_miss t b r n)) (w.0, ascends_from_without t b r w.1)
     ]
 
@@ -143,14 +161,17 @@ ascends_without t (b ∷ r) w =
       | inr n ↦ subst Ascends (sym (without_miss t b r n)) (ascends_from_without t b r w)
     ]
 
-pub remaining_after : (remaining : List Bool) (o : Option ℕ) (r : ℕ) → ((x : ℕ) → o ≡ Some x → x < length remaining) → get_or (close remaining o) r false ≡ (get_or remaining r false && not (is_room r o))
+pub remaining_after : (remaining : List Bool) (o : Option ℕ) (r : ℕ) → ((x : ℕ) → o ≡ Some x → x < length remaining)
+    → get_or (close remaining o) r false ≡ (get_or remaining r false && not (is_room r o))
 remaining_after remaining None r known = sym (and-true (get_or remaining r false))
 remaining_after remaining (Some x) r known =
     elim (cases_eq r x) [
       | inl e ↦
           let l : x < length remaining = known x refl in
-          rw (e, eq-eqb x x refl) (get_or-set_same remaining x false false l ∙ sym (and_right (get_or remaining x false) false refl))
-      | inr n ↦ rw (ne_eqb x r (λ e. n (sym e))) (get_or-set_other remaining x r false false n ∙ sym (and-true (get_or remaining r false)))
+          rw (e, eq-eqb x x refl)
+          (get_or-set_same remaining x false false l ∙ sym (and_right (get_or remaining x false) false refl))
+      | inr n ↦ rw (ne_eqb x r (λ e. n (sym e))) (get_or-set_other remaining x r false false n
+          ∙ sym (and-true (get_or remaining r false)))
     ]
 
 pub length-close : (remaining : List Bool) (o : Option ℕ) → length (close remaining o) ≡ length remaining
@@ -158,26 +179,34 @@ length-close remaining None = refl
 length-close remaining (Some x) = length-set remaining x false
 
 module _ (m : Market) where
-  pub taken_push : (s : Stage) (past : List ℕ) (d : ℕ) (o : Option ℕ) → wish m s d ≡ o → d < m.people → (r : ℕ) → taken m s (among (past ++ d ∷ [])) r ≡ (taken m s (among past) r || is_room r o)
-  taken_push s past d o e l r = one_truth (taken m s (among (past ++ d ∷ [])) r) (taken m s (among past) r || is_room r o)
+  pub taken_push : (s : Stage) (past : List ℕ) (d : ℕ) (o : Option ℕ) → wish m s d ≡ o → d < m.people → (r : ℕ)
+      → taken m s (among (past ++ d ∷ [])) r ≡ (taken m s (among past) r || is_room r o)
+  taken_push s past d o e l r =
+      one_truth (taken m s (among (past ++ d ∷ [])) r) (taken m s (among past) r || is_room r o)
       (λ h.
-      let g : (q : ℕ) × (q < m.people) × (among (past ++ d ∷ []) q ≡ true) × (wish m s q ≡ Some r) = taken_gives m s (among (past ++ d ∷ [])) r h in
+      let g : (q : ℕ) × (q < m.people) × (among (past ++ d ∷ []) q ≡ true) × (wish m s q ≡ Some r) =
+      taken_gives m s (among (past ++ d ∷ [])) r h in
       elim (among_cases past (d ∷ []) g.0 g.2) [
         | inl i ↦ or_left (taken m s (among past) r) (is_room r o) (taken_from m s (among past) r g.0 g.1 i g.3)
         | inr i ↦
             let eq : d ≡ g.0 = eqb-true d g.0 (sym (or-false (d == g.0)) ∙ i) in
-            or_right (taken m s (among past) r) (is_room r o) (is_room_from r o (sym e ∙ subst (λ z. wish m s z ≡ Some r) (sym eq) g.3))
+            or_right (taken m s (among past) r) (is_room r o)
+            (is_room_from r o (sym e ∙ subst (λ z. wish m s z ≡ Some r) (sym eq) g.3))
       ])
       (λ h. elim (or_cases (taken m s (among past) r) (is_room r o) h) [
         | inl t ↦
-            let g : (q : ℕ) × (q < m.people) × (among past q ≡ true) × (wish m s q ≡ Some r) = taken_gives m s (among past) r t in
+            let g : (q : ℕ) × (q < m.people) × (among past q ≡ true) × (wish m s q ≡ Some r) =
+            taken_gives m s (among past) r t in
             taken_from m s (among (past ++ d ∷ [])) r g.0 g.1 (among_left past (d ∷ []) g.0 g.2) g.3
-        | inr i ↦ taken_from m s (among (past ++ d ∷ [])) r d l (among_right past (d ∷ []) d (among_self d [])) (e ∙ is_room_gives r o i)
+        | inr i ↦ taken_from m s (among (past ++ d ∷ [])) r d l (among_right past (d ∷ []) d (among_self d []))
+            (e ∙ is_room_gives r o i)
       ])
 
   pub leave_none : (s : Stage) → s ≡ leave m s (among [])
   unfolding leave
-  leave_none s = same_stage s (leave m s (among [])) (λ p. sym (and-true (s.people p))) (λ r. sym (rw (nothing r) (and-true (s.rooms r))))
+  leave_none s =
+      same_stage s (leave m s (among [])) (λ p. sym (and-true (s.people p)))
+      (λ r. sym (rw (nothing r) (and-true (s.rooms r))))
     where
       nothing : (r : ℕ) → taken m s (among []) r ≡ false
       nothing r = false_from_ne_true (taken m s (among []) r) (λ h.
@@ -185,7 +214,10 @@ module _ (m : Market) where
           both_ways false refl g.2)
 
   -- the front of the line leaves with the wish
-  pub front_leaves : (s : Stage) (past : List ℕ) (d : ℕ) (t : List ℕ) (remaining : List Bool) (o : Option ℕ) → stage_of (d ∷ t) remaining ≡ leave m s (among past) → among t d ≡ false → d < m.people → wish m s d ≡ o → ((x : ℕ) → o ≡ Some x → x < length remaining) → stage_of t (close remaining o) ≡ leave m s (among (past ++ d ∷ []))
+  pub front_leaves : (s : Stage) (past : List ℕ) (d : ℕ) (t : List ℕ) (remaining : List Bool) (o : Option ℕ)
+      → stage_of (d ∷ t) remaining ≡ leave m s (among past) → among t d ≡ false → d < m.people → wish m s d ≡ o
+      → ((x : ℕ) → o ≡ Some x → x < length remaining) → stage_of t (close remaining o) ≡ leave m s
+      (among (past ++ d ∷ []))
   unfolding leave
   front_leaves s past d t remaining o e absent l w known =
       same_stage (stage_of t (close remaining o)) (leave m s (among (past ++ d ∷ []))) people rooms
@@ -204,7 +236,9 @@ module _ (m : Market) where
           (elim (cases_Bool (d == p)) [
             | inl y ↦
                 let none : among t p ≡ false = subst (λ z. among t z ≡ false) (eqb-true d p y) absent in
-                rw (none, y) (sym (and_right (s.people p) (not (among past p || true)) (rw (or_right (among past p) true refl) refl)))
+                rw (none, y)
+                (sym (and_right (s.people p) (not (among past p || true))
+                (rw (or_right (among past p) true refl) refl)))
             | inr n ↦
                 let b : among t p ≡ (s.people p && not (among past p)) = sym (ap (λ z. z || among t p) n) ∙ before p in
                 rw (b, n, or-false (among past p)) refl
@@ -218,7 +252,9 @@ module _ (m : Market) where
           ∙ ap (λ b. s.rooms r && not b) (sym (taken_push s past d o w l r))
 
   -- those behind wait on if nobody takes the homes that they wait for
-  pub waits_on : (s : Stage) (k : ℕ → Bool) (a : ℕ) (xs : List ℕ) → ((q h : ℕ) → among (a ∷ xs) q ≡ true → home m q ≡ Some h → taken m s k h ≡ false) → WaitsBehind m s a xs → WaitsBehind m (leave m s k) a xs
+  pub waits_on : (s : Stage) (k : ℕ → Bool) (a : ℕ) (xs : List ℕ)
+      → ((q h : ℕ) → among (a ∷ xs) q ≡ true → home m q ≡ Some h → taken m s k h ≡ false) → WaitsBehind m s a xs
+      → WaitsBehind m (leave m s k) a xs
   waits_on s k a [] free w = tt
   waits_on s k a (b ∷ r) free w = (
     (
@@ -236,12 +272,14 @@ module _ (m : Market) where
   waits_front s a [] ys w = tt
   waits_front s a (b ∷ r) ys w = (w.0, waits_front s b r ys w.1)
 
-  pub waits_back : (s : Stage) (a : ℕ) (xs : List ℕ) (b : ℕ) (ys : List ℕ) → WaitsBehind m s a (xs ++ (b ∷ ys)) → WaitsBehind m s b ys
+  pub waits_back : (s : Stage) (a : ℕ) (xs : List ℕ) (b : ℕ) (ys : List ℕ) → WaitsBehind m s a (xs ++ (b ∷ ys))
+      → WaitsBehind m s b ys
   waits_back s a [] b ys w = w.1
   waits_back s a (x ∷ xs) b ys w = waits_back s x xs b ys w.1
 
   -- a person right behind another waits for that one's home
-  pub waits_pair : (s : Stage) (a : ℕ) (xs past : List ℕ) (d e : ℕ) (zs : List ℕ) → WaitsBehind m s a xs → a ∷ xs ≡ past ++ (d ∷ e ∷ zs) → wish m s e ≡ home m d
+  pub waits_pair : (s : Stage) (a : ℕ) (xs past : List ℕ) (d e : ℕ) (zs : List ℕ) → WaitsBehind m s a xs → a ∷ xs ≡ past
+      ++ (d ∷ e ∷ zs) → wish m s e ≡ home m d
   waits_pair s a [] [] d e zs w q = let z : [] ≡ e ∷ zs = cc in absurd (cc)
   waits_pair s a (x ∷ xs) [] d e zs w q =
       let z : a ≡ d = cc in
@@ -258,7 +296,8 @@ module _ (m : Market) where
   unfolding wish
   wish_known ok s p r l e = by_found (find s.rooms (list_of m p)) refl e
     where
-      found_in : (q : ℕ → Bool) (xs : List ℕ) (x : ℕ) → find q xs ≡ Some x → (P : ℕ → Type 0) → ((k d : ℕ) → k < length xs → P (get_or xs k d)) → P x
+      found_in : (q : ℕ → Bool) (xs : List ℕ) (x : ℕ) → find q xs ≡ Some x → (P : ℕ → Type 0)
+          → ((k d : ℕ) → k < length xs → P (get_or xs k d)) → P x
       found_in q [] x e P all = absurd (cc)
       found_in q (y ∷ ys) x e P all =
           elim (cases_Bool (q y)) [
@@ -273,7 +312,8 @@ module _ (m : Market) where
       by_found None f e = ok.indexed.homes_known p r l e
       by_found (Some x) f e =
           let z : x ≡ r = cc in
-          subst (λ y. y < m.rooms) z (found_in s.rooms (list_of m p) x f (λ y. y < m.rooms) (ok.indexed.lists_known p l))
+          subst (λ y. y < m.rooms) z
+          (found_in s.rooms (list_of m p) x f (λ y. y < m.rooms) (ok.indexed.lists_known p l))
 
 pub range_push : (a n : ℕ) → range_with_len a (n + 1) ≡ range_with_len a n ++ (a + n) ∷ []
 range_push a n = rw add-one (more a n)
@@ -289,8 +329,10 @@ length_without_le : (t : ℕ) (xs : List ℕ) → length (without t xs) ≤ leng
 length_without_le t [] = omega arith
 length_without_le t (x ∷ xs) =
     elim (cases_Bool (x == t)) [
-      | inl y ↦ let e : length (without t (x ∷ xs)) ≡ length (without t xs) = ap length (without_hit t x xs y) in omega (arith, length_without_le t xs)
-      | inr n ↦ let e : length (without t (x ∷ xs)) ≡ suc (length (without t xs)) = ap length (without_miss t x xs n) in omega (arith, length_without_le t xs)
+      | inl y ↦ let e : length (without t (x ∷ xs)) ≡ length (without t xs) = ap length (without_hit t x xs y) in
+          omega (arith, length_without_le t xs)
+      | inr n ↦ let e : length (without t (x ∷ xs)) ≡ suc (length (without t xs)) = ap length (without_miss t x xs n) in
+          omega (arith, length_without_le t xs)
     ]
 
 -- removing a person makes the list shorter
@@ -298,9 +340,12 @@ pub length_without_lt : (t : ℕ) (xs : List ℕ) → among xs t ≡ true → le
 length_without_lt t [] h = absurd (both_ways false refl h)
 length_without_lt t (x ∷ xs) h =
     elim (cases_Bool (x == t)) [
-      | inl y ↦ let e : length (without t (x ∷ xs)) ≡ length (without t xs) = ap length (without_hit t x xs y) in omega (arith, length_without_le t xs)
+      | inl y ↦ let e : length (without t (x ∷ xs)) ≡ length (without t xs) = ap length (without_hit t x xs y) in
+          omega (arith, length_without_le t xs)
       | inr n ↦
           let e : length (without t (x ∷ xs)) ≡ suc (length (without t xs)) = ap length (without_miss t x xs n) in
-          let ih : length (without t xs) < length xs = length_without_lt t xs (elim (or_cases (x == t) (among xs t) h) [ inl y ↦ clash (x == t) y n | inr i ↦ i ]) in
+          let ih : length (without t xs) < length xs =
+          length_without_lt t xs
+          (elim (or_cases (x == t) (among xs t) h) [ inl y ↦ clash (x == t) y n | inr i ↦ i ]) in
           omega arith
     ]

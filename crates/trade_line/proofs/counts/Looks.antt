@@ -1,5 +1,7 @@
 -- Sums over people, and what an ask reads of a list.
-use Rattle.std.proofs.Common.{◌≡◌, ℕ, zero, suc, ◌+◌, ◌<◌, ◌≤◌, Bool, true, false, ◌==◌, List, [], ◌∷◌, length, Some, None, find, get_or, drop, refl, sym, ap, ◌∙◌, inl, inr, arith, eq-eqb, ne_eqb, le_refl, AllPairs, ◌≢◌}
+use Rattle.std.proofs.Common.{◌≡◌, ℕ, zero, suc, ◌+◌, ◌<◌, ◌≤◌, Bool, true, false, ◌==◌, List, [], ◌∷◌, length, Some}
+use Rattle.std.proofs.Common.{None, find, get_or, drop, refl, sym, ap, ◌∙◌, inl, inr, arith, eq-eqb, ne_eqb, le_refl}
+use Rattle.std.proofs.Common.{AllPairs, ◌≢◌}
 use Rattle.std.proofs.lemmas.Bool.{cases_Bool, cases_eq, or_left, or_right}
 use Rattle.trade_line.specs.Below.{sum_below}
 use Rattle.trade_line.specs.Member.{among}
@@ -28,13 +30,16 @@ sum_point zero f g a l others = absurd (omega arith)
 sum_point (suc n) f g a l others =
     elim (cases_eq a n) [
       | inl e ↦
-          let ih : sum_below n g ≤ sum_below n f = sum_le n f g (λ y yl. let z : g y ≡ f y = others y (omega arith) (λ q. omega arith) in omega arith) in
-          let ih2 : sum_below n f ≤ sum_below n g = sum_le n g f (λ y yl. let z : g y ≡ f y = others y (omega arith) (λ q. omega arith) in omega arith) in
+          let ih : sum_below n g ≤ sum_below n f =
+          sum_le n f g (λ y yl. let z : g y ≡ f y = others y (omega arith) (λ q. omega arith) in omega arith) in
+          let ih2 : sum_below n f ≤ sum_below n g =
+          sum_le n g f (λ y yl. let z : g y ≡ f y = others y (omega arith) (λ q. omega arith) in omega arith) in
           let at_f : f a ≡ f n = ap f e in
           let at_g : g a ≡ g n = ap g e in
           omega arith
       | inr d ↦
-          let ih : sum_below n g + f a ≡ sum_below n f + g a = sum_point n f g a (omega arith) (λ y yl ne. others y (omega arith) ne) in
+          let ih : sum_below n g + f a ≡ sum_below n f + g a =
+          sum_point n f g a (omega arith) (λ y yl ne. others y (omega arith) ne) in
           let last : g n ≡ f n = others n (omega arith) (λ z. d (sym z)) in
           omega arith
     ]
@@ -81,7 +86,8 @@ found_at q (y ∷ ys) x e =
           let zz : y ≡ x = cc in
           rw t (omega arith, zz, refl)
       | inr f ↦
-          let ih : (skipped q ys < length ys) × (get_or ys (skipped q ys) 0 ≡ x) × (reads q ys ≡ suc (skipped q ys)) = found_at q ys x (sym (rw f refl) ∙ e) in
+          let ih : (skipped q ys < length ys) × (get_or ys (skipped q ys) 0 ≡ x) × (reads q ys ≡ suc (skipped q ys)) =
+          found_at q ys x (sym (rw f refl) ∙ e) in
           rw f (omega (arith, ih.0), ih.1, ap suc ih.2)
     ]
 

@@ -1,7 +1,9 @@
 -- A chain of people, each wishing for the home of the next, and what its removal does.
-use Rattle.std.proofs.Common.{◌≡◌, ℕ, ◌<◌, Bool, true, false, not, ◌&&◌, ◌||◌, ◌==◌, List, [], ◌∷◌, Option, Some, None, refl, sym, ap, ◌∙◌, subst, inl, inr, eqb-true, eq-eqb, ne_eqb}
+use Rattle.std.proofs.Common.{◌≡◌, ℕ, ◌<◌, Bool, true, false, not, ◌&&◌, ◌||◌, ◌==◌, List, [], ◌∷◌, Option, Some, None}
+use Rattle.std.proofs.Common.{refl, sym, ap, ◌∙◌, subst, inl, inr, eqb-true, eq-eqb, ne_eqb}
 use mathlib.Core.Path.{fun_ext}
-use Rattle.std.proofs.lemmas.Bool.{and_parts, and_from, or_cases, or_left, or_right, false_from_ne_true, both_ways, cond-true, cond-false, and_right, not-true, not_from_false}
+use Rattle.std.proofs.lemmas.Bool.{and_parts, and_from, or_cases, or_left, or_right, false_from_ne_true, both_ways}
+use Rattle.std.proofs.lemmas.Bool.{cond-true, cond-false, and_right, not-true, not_from_false}
 use Rattle.std.proofs.Math.Bool.{or-false}
 use Rattle.std.specs.Cmp.Derive.{one_truth}
 use Rattle.trade_line.specs.Below.{first_below, or_else}
@@ -12,7 +14,8 @@ use Rattle.trade_line.specs.Member.{among}
 use Rattle.trade_line.specs.Inner.Queue.{last_of, WaitsBehind}
 use Rattle.trade_line.specs.Inner.Removal.Reach.{here, there}
 use Rattle.trade_line.specs.Inner.Removal.Leads.{trade}
-use Rattle.trade_line.proofs.searches.Search.{and_nots, find_passes, find_keeps, first_passes, first_finds, is_room_gives, is_room_from}
+use Rattle.trade_line.proofs.searches.Search.{and_nots, find_passes, find_keeps, first_passes, first_finds}
+use Rattle.trade_line.proofs.searches.Search.{is_room_gives, is_room_from}
 use Rattle.trade_line.proofs.cycles.Exchange.{successor_at, taken_gives, first_stays}
 use Rattle.trade_line.proofs.cycles.Unique.{same_stage, taken_from, trade_removed}
 
@@ -32,7 +35,11 @@ among_last a (b ∷ r) = or_right (a == last_of b r) (among (b ∷ r) (last_of b
 -- everybody in the chain reaches its head
 to_head : (g : ℕ → ℕ) (a : ℕ) (xs : List ℕ) → Behind g a xs → (p : ℕ) → among (a ∷ xs) p ≡ true → Reach g p a
 to_head g a [] w p h =
-    elim (or_cases (a == p) false h) [ inl e ↦ subst (λ z. Reach g z a) (eqb-true a p e) here | inr f ↦ absurd (both_ways false refl f) ]
+    elim (or_cases (a == p) false h) [
+      | inl e ↦ subst (λ z. Reach g z a) (eqb-true a p e) here
+      | inr f ↦ absurd
+          (both_ways false refl f)
+    ]
 to_head g a (b ∷ r) w p h =
     elim (or_cases (a == p) (among (b ∷ r) p) h) [
       | inl e ↦ subst (λ z. Reach g z a) (eqb-true a p e) here
@@ -40,26 +47,36 @@ to_head g a (b ∷ r) w p h =
     ]
 
 -- the last reaches everybody
-from_last : (g : ℕ → ℕ) (a : ℕ) (xs : List ℕ) → Behind g a xs → (p : ℕ) → among (a ∷ xs) p ≡ true → Reach g (last_of a xs) p
+from_last : (g : ℕ → ℕ) (a : ℕ) (xs : List ℕ) → Behind g a xs → (p : ℕ) → among (a ∷ xs) p ≡ true
+    → Reach g (last_of a xs) p
 from_last g a [] w p h =
-    elim (or_cases (a == p) false h) [ inl e ↦ subst (λ z. Reach g a z) (eqb-true a p e) here | inr f ↦ absurd (both_ways false refl f) ]
+    elim (or_cases (a == p) false h) [
+      | inl e ↦ subst (λ z. Reach g a z) (eqb-true a p e) here
+      | inr f ↦ absurd
+          (both_ways false refl f)
+    ]
 from_last g a (b ∷ r) w p h =
     elim (or_cases (a == p) (among (b ∷ r) p) h) [
-      | inl e ↦ reach_trans g (from_last g b r w.1 b (or_left (b == b) (among r b) (eq-eqb b b refl))) (there (subst (λ z. Reach g z p) (sym w.0) (subst (λ z. Reach g a z) (eqb-true a p e) here)))
+      | inl e ↦ reach_trans g (from_last g b r w.1 b (or_left (b == b) (among r b) (eq-eqb b b refl)))
+          (there (subst (λ z. Reach g z p) (sym w.0) (subst (λ z. Reach g a z) (eqb-true a p e) here)))
       | inr f ↦ from_last g b r w.1 p f
     ]
 
 -- everybody behind points into the chain
-behind_stays : (g : ℕ → ℕ) (a : ℕ) (xs : List ℕ) → Behind g a xs → (p : ℕ) → among xs p ≡ true → among (a ∷ xs) (g p) ≡ true
+behind_stays : (g : ℕ → ℕ) (a : ℕ) (xs : List ℕ) → Behind g a xs → (p : ℕ) → among xs p ≡ true
+    → among (a ∷ xs) (g p) ≡ true
 behind_stays g a [] w p h = absurd (both_ways false refl h)
 behind_stays g a (b ∷ r) w p h =
     elim (or_cases (b == p) (among r p) h) [
-      | inl e ↦ or_left (a == g p) (among (b ∷ r) (g p)) (eq-eqb a (g p) (sym (subst (λ z. g z ≡ a) (eqb-true b p e) w.0)))
+      | inl e ↦ or_left (a == g p) (among (b ∷ r) (g p))
+          (eq-eqb a (g p) (sym (subst (λ z. g z ≡ a) (eqb-true b p e) w.0)))
       | inr f ↦ or_right (a == g p) (among (b ∷ r) (g p)) (behind_stays g b r w.1 p f)
     ]
 
 module _ (m : Market) where
-  pub ring_trade : (s : Stage) (a : ℕ) (xs : List ℕ) → ((p : ℕ) → among (a ∷ xs) p ≡ true → p < m.people) → ((p : ℕ) → among (a ∷ xs) p ≡ true → s.people p ≡ true) → Behind (successor m s) a xs → successor m s a ≡ last_of a xs → IsTrade m s (among (a ∷ xs))
+  pub ring_trade : (s : Stage) (a : ℕ) (xs : List ℕ) → ((p : ℕ) → among (a ∷ xs) p ≡ true → p < m.people)
+      → ((p : ℕ) → among (a ∷ xs) p ≡ true → s.people p ≡ true) → Behind (successor m s) a xs
+      → successor m s a ≡ last_of a xs → IsTrade m s (among (a ∷ xs))
   ring_trade s a xs known remain w e = record {
     known = known;
     remain = remain;
@@ -73,7 +90,8 @@ module _ (m : Market) where
       closed : (p : ℕ) → among (a ∷ xs) p ≡ true → among (a ∷ xs) (successor m s p) ≡ true
       closed p h =
           elim (or_cases (a == p) (among xs p) h) [
-            | inl y ↦ subst (λ z. among (a ∷ xs) z ≡ true) (sym e ∙ ap (successor m s) (eqb-true a p y)) (among_last a xs)
+            | inl y ↦ subst (λ z. among (a ∷ xs) z ≡ true) (sym e ∙ ap (successor m s) (eqb-true a p y))
+                (among_last a xs)
             | inr f ↦ behind_stays (successor m s) a xs w p f
           ]
 
@@ -84,59 +102,85 @@ module _ (m : Market) where
 
   pub tenant_at : IsMarket m → (a h : ℕ) → a < m.people → home m a ≡ Some h → tenant m h ≡ Some a
   tenant_at ok a h l e =
-      let t : (y : ℕ) × (first_below m.people (λ p. is_room h (home m p)) ≡ Some y) = first_finds m.people (λ p. is_room h (home m p)) a l (is_room_from h (home m a) e) in
-      let u : (is_room h (home m t.0) ≡ true) × (t.0 < m.people) = first_passes m.people (λ p. is_room h (home m p)) t.0 t.1 in
+      let t : (y : ℕ) × (first_below m.people (λ p. is_room h (home m p)) ≡ Some y) =
+      first_finds m.people (λ p. is_room h (home m p)) a l (is_room_from h (home m a) e) in
+      let u : (is_room h (home m t.0) ≡ true) × (t.0 < m.people) =
+      first_passes m.people (λ p. is_room h (home m p)) t.0 t.1 in
       t.1 ∙ ap Some (ok.homes_differ t.0 a h u.1 l (is_room_gives h (home m t.0) u.0) e)
 
-  pub home_holder : IsMarket m → (s : Stage) (a h : ℕ) → a < m.people → home m a ≡ Some h → s.people a ≡ true → holder m s h ≡ a
+  pub home_holder : IsMarket m → (s : Stage) (a h : ℕ) → a < m.people → home m a ≡ Some h → s.people a ≡ true
+      → holder m s h ≡ a
   unfolding holder
   home_holder ok s a h l e r = ap (tenant_or_first m s) (tenant_at ok a h l e) ∙ cond-true (s.people a) a (first m s) r
 
-  pub waits_behind : IsMarket m → (s : Stage) (a : ℕ) (xs : List ℕ) → ((p : ℕ) → among (a ∷ xs) p ≡ true → p < m.people) → ((p : ℕ) → among (a ∷ xs) p ≡ true → s.people p ≡ true) → WaitsBehind m s a xs → Behind (successor m s) a xs
+  pub waits_behind : IsMarket m → (s : Stage) (a : ℕ) (xs : List ℕ) → ((p : ℕ) → among (a ∷ xs) p ≡ true → p < m.people)
+      → ((p : ℕ) → among (a ∷ xs) p ≡ true → s.people p ≡ true) → WaitsBehind m s a xs → Behind (successor m s) a xs
   waits_behind ok s a [] known remain w = tt
   waits_behind ok s a (b ∷ r) known remain w =
       let self : among (a ∷ b ∷ r) a ≡ true = or_left (a == a) (among (b ∷ r) a) (eq-eqb a a refl) in (
         successor_at m s b (Some w.0.0) w.0.2 ∙ home_holder ok s a w.0.0 (known a self) w.0.1 (remain a self),
-        waits_behind ok s b r (λ p h. known p (or_right (a == p) (among (b ∷ r) p) h)) (λ p h. remain p (or_right (a == p) (among (b ∷ r) p) h)) w.1,
+        waits_behind ok s b r (λ p h. known p (or_right (a == p) (among (b ∷ r) p) h))
+            (λ p h. remain p (or_right (a == p) (among (b ∷ r) p) h)) w.1,
       )
 
   -- a wish that nobody in the group takes stays
-  pub wish_stays : (s : Stage) (k : ℕ → Bool) (p : ℕ) → ((h : ℕ) → wish m s p ≡ Some h → taken m s k h ≡ false) → wish m (leave m s k) p ≡ wish m s p
+  pub wish_stays : (s : Stage) (k : ℕ → Bool) (p : ℕ) → ((h : ℕ) → wish m s p ≡ Some h → taken m s k h ≡ false)
+      → wish m (leave m s k) p ≡ wish m s p
   unfolding wish leave
   wish_stays s k p free =
-      ap (λ o. or_else o (home m p)) (find_keeps s.rooms (leave m s k).rooms (list_of m p) (λ y t. (and_parts (s.rooms y) (not (taken m s k y)) t).0)
-      (λ x e. and_from (s.rooms x) (not (taken m s k x)) (find_passes s.rooms (list_of m p) x e) (not_from_false (taken m s k x) (free x (ap (λ o. or_else o (home m p)) e)))))
+      ap (λ o. or_else o (home m p))
+      (find_keeps s.rooms (leave m s k).rooms (list_of m p)
+      (λ y t. (and_parts (s.rooms y) (not (taken m s k y)) t).0)
+      (λ x e. and_from (s.rooms x) (not (taken m s k x)) (find_passes s.rooms (list_of m p) x e)
+      (not_from_false (taken m s k x) (free x (ap (λ o. or_else o (home m p)) e)))))
 
-  taken_both : (s : Stage) (k l : ℕ → Bool) → ((p : ℕ) → l p ≡ true → wish m (leave m s k) p ≡ wish m s p) → (r : ℕ) → ((s.rooms r && not (taken m s k r)) && not (taken m (leave m s k) l r)) ≡ (s.rooms r && not (taken m s (λ p. k p || l p) r))
-  taken_both s k l same r = one_truth ((s.rooms r && not (taken m s k r)) && not (taken m (leave m s k) l r)) (s.rooms r && not (taken m s (λ p. k p || l p) r)) once both
+  taken_both : (s : Stage) (k l : ℕ → Bool) → ((p : ℕ) → l p ≡ true → wish m (leave m s k) p ≡ wish m s p) → (r : ℕ)
+      → ((s.rooms r && not (taken m s k r)) && not (taken m (leave m s k) l r)) ≡ (s.rooms r && not
+      (taken m s (λ p. k p || l p) r))
+  taken_both s k l same r = one_truth ((s.rooms r && not (taken m s k r)) && not (taken m (leave m s k) l r))
+      (s.rooms r && not (taken m s (λ p. k p || l p) r)) once both
     where
-      once : ((s.rooms r && not (taken m s k r)) && not (taken m (leave m s k) l r)) ≡ true → (s.rooms r && not (taken m s (λ p. k p || l p) r)) ≡ true
+      once : ((s.rooms r && not (taken m s k r)) && not (taken m (leave m s k) l r)) ≡ true
+          → (s.rooms r && not (taken m s (λ p. k p || l p) r)) ≡ true
       once h =
-          let a : ((s.rooms r && not (taken m s k r)) ≡ true) × (not (taken m (leave m s k) l r) ≡ true) = and_parts (s.rooms r && not (taken m s k r)) (not (taken m (leave m s k) l r)) h in
+          let a : ((s.rooms r && not (taken m s k r)) ≡ true) × (not (taken m (leave m s k) l r) ≡ true) =
+          and_parts (s.rooms r && not (taken m s k r)) (not (taken m (leave m s k) l r)) h in
           let b : (s.rooms r ≡ true) × (not (taken m s k r) ≡ true) = and_parts (s.rooms r) (not (taken m s k r)) a.0 in
-          and_from (s.rooms r) (not (taken m s (λ p. k p || l p) r)) b.0 (not_from_false (taken m s (λ p. k p || l p) r) (false_from_ne_true (taken m s (λ p. k p || l p) r) (λ y.
-          let g : (q : ℕ) × (q < m.people) × ((k q || l q) ≡ true) × (wish m s q ≡ Some r) = taken_gives m s (λ p. k p || l p) r y in
+          and_from (s.rooms r) (not (taken m s (λ p. k p || l p) r)) b.0
+          (not_from_false (taken m s (λ p. k p || l p) r) (false_from_ne_true (taken m s (λ p. k p || l p) r) (λ y.
+          let g : (q : ℕ) × (q < m.people) × ((k q || l q) ≡ true) × (wish m s q ≡ Some r) =
+          taken_gives m s (λ p. k p || l p) r y in
           elim (or_cases (k g.0) (l g.0) g.2) [
             | inl t ↦ both_ways (taken m s k r) (not-true (taken m s k r) b.1) (taken_from m s k r g.0 g.1 t g.3)
-            | inr t ↦ both_ways (taken m (leave m s k) l r) (not-true (taken m (leave m s k) l r) a.1) (taken_from m (leave m s k) l r g.0 g.1 t (same g.0 t ∙ g.3))
+            | inr t ↦ both_ways (taken m (leave m s k) l r) (not-true (taken m (leave m s k) l r) a.1)
+                (taken_from m (leave m s k) l r g.0 g.1 t (same g.0 t ∙ g.3))
           ])))
 
-      both : (s.rooms r && not (taken m s (λ p. k p || l p) r)) ≡ true → ((s.rooms r && not (taken m s k r)) && not (taken m (leave m s k) l r)) ≡ true
+      both : (s.rooms r && not (taken m s (λ p. k p || l p) r)) ≡ true
+          → ((s.rooms r && not (taken m s k r)) && not (taken m (leave m s k) l r)) ≡ true
       both h =
-          let a : (s.rooms r ≡ true) × (not (taken m s (λ p. k p || l p) r) ≡ true) = and_parts (s.rooms r) (not (taken m s (λ p. k p || l p) r)) h in
+          let a : (s.rooms r ≡ true) × (not (taken m s (λ p. k p || l p) r) ≡ true) =
+          and_parts (s.rooms r) (not (taken m s (λ p. k p || l p) r)) h in
           let no : taken m s (λ p. k p || l p) r ≡ false = not-true (taken m s (λ p. k p || l p) r) a.1 in
           let nk : taken m s k r ≡ false = false_from_ne_true (taken m s k r) (λ y.
           let g : (q : ℕ) × (q < m.people) × (k q ≡ true) × (wish m s q ≡ Some r) = taken_gives m s k r y in
-          both_ways (taken m s (λ p. k p || l p) r) no (taken_from m s (λ p. k p || l p) r g.0 g.1 (or_left (k g.0) (l g.0) g.2) g.3)) in
+          both_ways (taken m s (λ p. k p || l p) r) no
+          (taken_from m s (λ p. k p || l p) r g.0 g.1 (or_left (k g.0) (l g.0) g.2) g.3)) in
           let nl : taken m (leave m s k) l r ≡ false = false_from_ne_true (taken m (leave m s k) l r) (λ y.
-          let g : (q : ℕ) × (q < m.people) × (l q ≡ true) × (wish m (leave m s k) q ≡ Some r) = taken_gives m (leave m s k) l r y in
-          both_ways (taken m s (λ p. k p || l p) r) no (taken_from m s (λ p. k p || l p) r g.0 g.1 (or_right (k g.0) (l g.0) g.2) (sym (same g.0 g.2) ∙ g.3))) in
-          and_from (s.rooms r && not (taken m s k r)) (not (taken m (leave m s k) l r)) (and_from (s.rooms r) (not (taken m s k r)) a.0 (not_from_false (taken m s k r) nk)) (not_from_false (taken m (leave m s k) l r) nl)
+          let g : (q : ℕ) × (q < m.people) × (l q ≡ true) × (wish m (leave m s k) q ≡ Some r) =
+          taken_gives m (leave m s k) l r y in
+          both_ways (taken m s (λ p. k p || l p) r) no
+          (taken_from m s (λ p. k p || l p) r g.0 g.1 (or_right (k g.0) (l g.0) g.2) (sym (same g.0 g.2) ∙ g.3))) in
+          and_from (s.rooms r && not (taken m s k r)) (not (taken m (leave m s k) l r))
+          (and_from (s.rooms r) (not (taken m s k r)) a.0 (not_from_false (taken m s k r) nk))
+          (not_from_false (taken m (leave m s k) l r) nl)
 
   -- two groups, one after the other, are one group
-  pub leave_twice : (s : Stage) (k l : ℕ → Bool) → ((p : ℕ) → l p ≡ true → wish m (leave m s k) p ≡ wish m s p) → leave m (leave m s k) l ≡ leave m s (λ p. k p || l p)
+  pub leave_twice : (s : Stage) (k l : ℕ → Bool) → ((p : ℕ) → l p ≡ true → wish m (leave m s k) p ≡ wish m s p)
+      → leave m (leave m s k) l ≡ leave m s (λ p. k p || l p)
   unfolding leave
-  leave_twice s k l same = same_stage (leave m (leave m s k) l) (leave m s (λ p. k p || l p)) (λ p. and_nots (s.people p) (k p) (l p)) (taken_both s k l same)
+  leave_twice s k l same = same_stage (leave m (leave m s k) l) (leave m s (λ p. k p || l p))
+      (λ p. and_nots (s.people p) (k p) (l p)) (taken_both s k l same)
 
   -- the room v has no tenant who remains
   abbrev pub IsVacant : Stage → ℕ → Type 0
@@ -161,12 +205,16 @@ module _ (m : Market) where
       → wish m s a ≡ Some v → IsVacant s v → f a ≡ wish m s a → Leads m f (leave m s (only a)) → Leads m f s
   unfolding leave
   head_first ok s a [] v f known remain once w least e remaining fa d =
-      trade (only a) (subst (λ k. IsTrade m s k) one (ring_trade s a [] known remain tt (successor_at m s a (Some v) e ∙ vacant_holder s v remaining ∙ least))) (λ p h. subst (λ z. f z ≡ wish m s z) (eqb-true a p h) fa) d
+      trade (only a)
+      (subst (λ k. IsTrade m s k) one
+      (ring_trade s a [] known remain tt (successor_at m s a (Some v) e ∙ vacant_holder s v remaining ∙ least)))
+      (λ p h. subst (λ z. f z ≡ wish m s z) (eqb-true a p h) fa) d
     where
       one : among (a ∷ []) ≡ only a
       one = fun_ext (λ p. or-false (a == p))
   head_first ok s a (b ∷ r) v f known remain once w least e remaining fa d =
-      trade (among (a ∷ b ∷ r)) whole fits (subst (λ t. Leads m f t) (leave_twice s (only a) (among (b ∷ r)) same) rest.1)
+      trade (among (a ∷ b ∷ r)) whole fits
+      (subst (λ t. Leads m f t) (leave_twice s (only a) (among (b ∷ r)) same) rest.1)
     where
       self : among (a ∷ b ∷ r) a ≡ true
       self = or_left (a == a) (among (b ∷ r) a) (eq-eqb a a refl)
@@ -178,7 +226,8 @@ module _ (m : Market) where
       other p h = ne_eqb a p (λ q. both_ways (among (b ∷ r) a) once (subst (λ z. among (b ∷ r) z ≡ true) (sym q) h))
 
       whole : IsTrade m s (among (a ∷ b ∷ r))
-      whole = ring_trade s a (b ∷ r) known remain (waits_behind ok s a (b ∷ r) known remain w) (successor_at m s a (Some v) e ∙ vacant_holder s v remaining ∙ least)
+      whole = ring_trade s a (b ∷ r) known remain (waits_behind ok s a (b ∷ r) known remain w)
+          (successor_at m s a (Some v) e ∙ vacant_holder s v remaining ∙ least)
 
       -- the home of a person who remains isn't the vacant room
       free : (q h : ℕ) → q < m.people → home m q ≡ Some h → s.people q ≡ true → taken m s (only a) h ≡ false
@@ -189,7 +238,9 @@ module _ (m : Market) where
           let vh : v ≡ h = cc in
           both_ways (s.people q) (remaining q (subst (λ z. tenant m z ≡ Some q) (sym vh) (tenant_at ok q h l eh))) rq)
 
-      same_behind : (c : ℕ) (xs : List ℕ) → ((p : ℕ) → among (c ∷ xs) p ≡ true → p < m.people) → ((p : ℕ) → among (c ∷ xs) p ≡ true → s.people p ≡ true) → WaitsBehind m s c xs → (p : ℕ) → among xs p ≡ true → wish m (leave m s (only a)) p ≡ wish m s p
+      same_behind : (c : ℕ) (xs : List ℕ) → ((p : ℕ) → among (c ∷ xs) p ≡ true → p < m.people)
+          → ((p : ℕ) → among (c ∷ xs) p ≡ true → s.people p ≡ true) → WaitsBehind m s c xs → (p : ℕ) → among xs p ≡ true
+          → wish m (leave m s (only a)) p ≡ wish m s p
       same_behind c [] kn re ws p h = absurd (both_ways false refl h)
       same_behind c (x ∷ xs) kn re ws p h =
           let at_c : among (c ∷ x ∷ xs) c ≡ true = or_left (c == c) (among (x ∷ xs) c) (eq-eqb c c refl) in
@@ -199,7 +250,8 @@ module _ (m : Market) where
                 let z : Some ws.0.0 ≡ Some h2 = sym ws.0.2 ∙ e2 in
                 let zz : ws.0.0 ≡ h2 = cc in
                 subst (λ k. taken m s (only a) k ≡ false) zz (free c ws.0.0 (kn c at_c) ws.0.1 (re c at_c))))
-            | inr y ↦ same_behind x xs (λ p2 h2. kn p2 (or_right (c == p2) (among (x ∷ xs) p2) h2)) (λ p2 h2. re p2 (or_right (c == p2) (among (x ∷ xs) p2) h2)) ws.1 p y
+            | inr y ↦ same_behind x xs (λ p2 h2. kn p2 (or_right (c == p2) (among (x ∷ xs) p2) h2))
+                (λ p2 h2. re p2 (or_right (c == p2) (among (x ∷ xs) p2) h2)) ws.1 p y
           ]
 
       same : (p : ℕ) → among (b ∷ r) p ≡ true → wish m (leave m s (only a)) p ≡ wish m s p
@@ -208,27 +260,36 @@ module _ (m : Market) where
       remain2 : (p : ℕ) → among (b ∷ r) p ≡ true → (leave m s (only a)).people p ≡ true
       remain2 p h = and_from (s.people p) (not (a == p)) (remain p (inner p h)) (not_from_false (a == p) (other p h))
 
-      waits2 : (c : ℕ) (xs : List ℕ) → ((p : ℕ) → among xs p ≡ true → wish m (leave m s (only a)) p ≡ wish m s p) → WaitsBehind m s c xs → WaitsBehind m (leave m s (only a)) c xs
+      waits2 : (c : ℕ) (xs : List ℕ) → ((p : ℕ) → among xs p ≡ true → wish m (leave m s (only a)) p ≡ wish m s p)
+          → WaitsBehind m s c xs → WaitsBehind m (leave m s (only a)) c xs
       waits2 c [] sm ws = tt
-      waits2 c (x ∷ xs) sm ws =
-          ((ws.0.0, ws.0.1, sm x (or_left (x == x) (among xs x) (eq-eqb x x refl)) ∙ ws.0.2), waits2 x xs (λ p h. sm p (or_right (x == p) (among xs p) h)) ws.1)
+      waits2 c (x ∷ xs) sm ws = (
+        (ws.0.0, ws.0.1, sm x (or_left (x == x) (among xs x) (eq-eqb x x refl)) ∙ ws.0.2),
+        waits2 x xs (λ p h. sm p (or_right (x == p) (among xs p) h)) ws.1,
+      )
 
       head_to : successor m (leave m s (only a)) b ≡ last_of b r
       head_to =
-          let eb : wish m (leave m s (only a)) b ≡ Some w.0.0 = same b (or_left (b == b) (among r b) (eq-eqb b b refl)) ∙ w.0.2 in
+          let eb : wish m (leave m s (only a)) b ≡ Some w.0.0 =
+          same b (or_left (b == b) (among r b) (eq-eqb b b refl)) ∙ w.0.2 in
           let t : tenant m w.0.0 ≡ Some a = tenant_at ok a w.0.0 (known a self) w.0.1 in
           let gone : (t2 : ℕ) → tenant m w.0.0 ≡ Some t2 → (leave m s (only a)).people t2 ≡ false = λ t2 e2.
           (let z : Some a ≡ Some t2 = sym t ∙ e2 in
           let zz : a ≡ t2 = cc in
           and_right (s.people t2) (not (a == t2)) (rw (eq-eqb a t2 zz) refl)) in
-          let keeps : first m (leave m s (only a)) ≡ first m s = first_stays m s (only a) (other (first m s) (subst (λ z. among (b ∷ r) z ≡ true) (sym least) (among_last b r))) in
-          successor_at m (leave m s (only a)) b (Some w.0.0) eb ∙ vacant_holder (leave m s (only a)) w.0.0 gone ∙ keeps ∙ least
+          let keeps : first m (leave m s (only a)) ≡ first m s =
+          first_stays m s (only a)
+          (other (first m s) (subst (λ z. among (b ∷ r) z ≡ true) (sym least) (among_last b r))) in
+          successor_at m (leave m s (only a)) b (Some w.0.0) eb ∙ vacant_holder (leave m s (only a)) w.0.0 gone
+          ∙ keeps ∙ least
 
       behind : IsTrade m (leave m s (only a)) (among (b ∷ r))
       behind = ring_trade (leave m s (only a)) b r (λ p h. known p (inner p h)) remain2
-          (waits_behind ok (leave m s (only a)) b r (λ p h. known p (inner p h)) remain2 (waits2 b r (λ p h. same p (or_right (b == p) (among r p) h)) w.1)) head_to
+          (waits_behind ok (leave m s (only a)) b r (λ p h. known p (inner p h)) remain2
+          (waits2 b r (λ p h. same p (or_right (b == p) (among r p) h)) w.1)) head_to
 
-      rest : ((p : ℕ) → among (b ∷ r) p ≡ true → f p ≡ wish m (leave m s (only a)) p) × Leads m f (leave m (leave m s (only a)) (among (b ∷ r)))
+      rest : ((p : ℕ) → among (b ∷ r) p ≡ true → f p ≡ wish m (leave m s (only a)) p)
+          × Leads m f (leave m (leave m s (only a)) (among (b ∷ r)))
       rest = trade_removed m f d (among (b ∷ r)) behind
 
       fits : (p : ℕ) → among (a ∷ b ∷ r) p ≡ true → f p ≡ wish m s p

@@ -1,16 +1,19 @@
 -- Whole cycles that leave keep the other cycles of their stage as they are, and people who wish for one
 -- another's homes are whole cycles.
-use Rattle.std.proofs.Common.{◌≡◌, ◌⊎◌, ℕ, zero, suc, ◌+◌, ◌<◌, Bool, true, false, not, ◌==◌, List, [], ◌∷◌, Option, Some, None, refl, sym, ap, ◌∙◌, subst, inl, inr, arith, eqb-true, eq-eqb, le_refl}
+use Rattle.std.proofs.Common.{◌≡◌, ◌⊎◌, ℕ, zero, suc, ◌+◌, ◌<◌, Bool, true, false, not, ◌==◌, List, [], ◌∷◌, Option}
+use Rattle.std.proofs.Common.{Some, None, refl, sym, ap, ◌∙◌, subst, inl, inr, arith, eqb-true, eq-eqb, le_refl}
 use Rattle.std.proofs.lemmas.Bool.{and_from, cond-false, or_cases, or_left, or_right, both_ways, not_from_false}
 use Rattle.std.specs.Fn.{iterate}
 use Rattle.trade_line.proofs.askers.Lines.{among_self}
 use Rattle.trade_line.specs.Below.{some_below}
-use Rattle.trade_line.specs.Cycles.{AreCycles, IsStageOf, LeavesOtherCycles, WishesForHomeOf, WishOnTo, AllRemain, IsLoop, IsChain}
+use Rattle.trade_line.specs.Cycles.{AreCycles, IsStageOf, LeavesOtherCycles, WishesForHomeOf, WishOnTo, AllRemain}
+use Rattle.trade_line.specs.Cycles.{IsLoop, IsChain}
 use Rattle.trade_line.specs.Inner.Removal.{Reach, IsTrade}
 use Rattle.trade_line.specs.Inner.Removal.Reach.{here, there}
 use Rattle.trade_line.specs.Market.{Market, IsMarket, tenant}
 use Rattle.trade_line.specs.Member.{among}
-use Rattle.trade_line.specs.TopTradingCycles.{Stage, first, tenant_or_first, holder, successor, remaining_count, is_on_cycle, leave}
+use Rattle.trade_line.specs.TopTradingCycles.{Stage, first, tenant_or_first, holder, successor, remaining_count}
+use Rattle.trade_line.specs.TopTradingCycles.{is_on_cycle, leave}
 use Rattle.trade_line.proofs.cycles.Chain.{reach_trans, home_holder}
 use Rattle.trade_line.proofs.counts.Count.{pigeonhole, reach_times, times_after, times_stays, times_sum}
 use Rattle.trade_line.proofs.cycles.Exchange.{minus, trade_left_over, successor_at, successor_keeps, wish_keeps}
@@ -24,7 +27,8 @@ module _ (g : ℕ → ℕ) where
     all_back : (i : ℕ) → iterate g (suc n) (iterate g i p) ≡ iterate g i p
     all_back i =
         let swapped : i + suc n ≡ suc n + i = omega arith in
-        times_sum g i (suc n) p ∙ ap (λ k. iterate g k p) swapped ∙ sym (times_sum g (suc n) i p) ∙ ap (iterate g i) back
+        times_sum g i (suc n) p ∙ ap (λ k. iterate g k p) swapped ∙ sym (times_sum g (suc n) i p)
+        ∙ ap (iterate g i) back
 
     -- if two of the turns lead to the same person, as many turns as lie between them come back
     back_between : (i j : ℕ) → i < j → iterate g i p ≡ iterate g j p → (k : ℕ) × (k < j) × (iterate g (suc k) p ≡ p)
@@ -41,16 +45,22 @@ module _ (m : Market) (s : Stage) (known : IsStageOf m s) where
   unfolding is_on_cycle
   cycle_from p h r =
       let t : (k : ℕ) × (iterate (successor m s) k (successor m s p) ≡ p) = reach_times (successor m s) r in
-      let inside : (i : ℕ) → s.people (iterate (successor m s) i p) ≡ true = λ i. times_stays (successor m s) s.people (successor_remains m s known) i p h in
-      let two : (i : ℕ) × (j : ℕ) × (i < j) × (j < suc (remaining_count m s)) × (iterate (successor m s) i p ≡ iterate (successor m s) j p) =
-      pigeonhole (remaining_count m s) m.people s.people (λ i. iterate (successor m s) i p) (λ i l. (known (iterate (successor m s) i p) (inside i), inside i)) (le_refl (remaining_count m s)) in
-      let b : (k : ℕ) × (k < two.1) × (iterate (successor m s) (suc k) p ≡ p) = back_between (successor m s) t.0 p t.1 two.0 two.1 two.2 two.4 in
+      let inside : (i : ℕ) → s.people (iterate (successor m s) i p) ≡ true =
+      λ i. times_stays (successor m s) s.people (successor_remains m s known) i p h in
+      let two : (i : ℕ) × (j : ℕ) × (i < j) × (j < suc (remaining_count m s))
+      × (iterate (successor m s) i p ≡ iterate (successor m s) j p) =
+      pigeonhole (remaining_count m s) m.people s.people (λ i. iterate (successor m s) i p)
+      (λ i l. (known (iterate (successor m s) i p) (inside i), inside i)) (le_refl (remaining_count m s)) in
+      let b : (k : ℕ) × (k < two.1) × (iterate (successor m s) (suc k) p ≡ p) =
+      back_between (successor m s) t.0 p t.1 two.0 two.1 two.2 two.4 in
       and_from (s.people p) (some_below (remaining_count m s) (λ k. iterate (successor m s) (suc k) p == p)) h
-      (some_from (remaining_count m s) (λ k. iterate (successor m s) (suc k) p == p) b.0 (omega (arith, b.1, two.3)) (eq-eqb (iterate (successor m s) (suc b.0) p) p b.2))
+      (some_from (remaining_count m s) (λ k. iterate (successor m s) (suc k) p == p) b.0 (omega (arith, b.1, two.3))
+      (eq-eqb (iterate (successor m s) (suc b.0) p) p b.2))
 
 -- ---- whole cycles
 
-pub cycles_leave : (m : Market) (s : Stage) → IsStageOf m s → (group : ℕ → Bool) → AreCycles m s group → IsTrade m s group
+pub cycles_leave : (m : Market) (s : Stage) → IsStageOf m s → (group : ℕ → Bool) → AreCycles m s group
+    → IsTrade m s group
 cycles_leave m s known group c =
     let all : IsTrade m s (is_on_cycle m s) = cycles_trade m s known in
     record {
@@ -60,7 +70,8 @@ cycles_leave m s known group c =
       cycle = λ p h. all.cycle p (c.each p h);
     }
 
-pub others_stay : (m : Market) (s : Stage) (group : ℕ → Bool) → IsStageOf m s → AreCycles m s group → LeavesOtherCycles m s group
+pub others_stay : (m : Market) (s : Stage) (group : ℕ → Bool) → IsStageOf m s → AreCycles m s group
+    → LeavesOtherCycles m s group
 others_stay m s group known c =
     let gone : IsTrade m s group = cycles_leave m s known group c in
     let all : IsTrade m s (is_on_cycle m s) = cycles_trade m s known in
@@ -68,8 +79,10 @@ others_stay m s group known c =
       wishes = wish_keeps m s group (is_on_cycle m s) gone all;
       pointing = successor_keeps m s group (is_on_cycle m s) gone all;
       cycles = λ p o n.
-          let left : IsTrade m (leave m s group) (minus group (is_on_cycle m s)) = trade_left_over m s group (is_on_cycle m s) gone all in
-          let is_left : minus group (is_on_cycle m s) p ≡ true = and_from (is_on_cycle m s p) (not (group p)) o (not_from_false (group p) n) in
+          let left : IsTrade m (leave m s group) (minus group (is_on_cycle m s)) =
+          trade_left_over m s group (is_on_cycle m s) gone all in
+          let is_left : minus group (is_on_cycle m s) p ≡ true =
+          and_from (is_on_cycle m s p) (not (group p)) o (not_from_false (group p) n) in
           cycle_from m (leave m s group) (leave_known m s group known) p (left.remain p is_left) (left.cycle p is_left);
     }
 
@@ -80,7 +93,8 @@ module _ (m : Market) (ok : IsMarket m) (s : Stage) (known : IsStageOf m s) wher
   points_to p q h w = successor_at m s p (Some w.0) w.2 ∙ home_holder m ok s q w.0 (known q h) w.1 h
 
   -- the first of a row reaches each of them, and each of them reaches the person to whom the room points
-  along : (p : ℕ) (xs : List ℕ) (room q : ℕ) → holder m s room ≡ q → AllRemain s (p ∷ xs) → WishOnTo m s p xs room → (y : ℕ) → among (p ∷ xs) y ≡ true → Reach (successor m s) p y × Reach (successor m s) (successor m s y) q
+  along : (p : ℕ) (xs : List ℕ) (room q : ℕ) → holder m s room ≡ q → AllRemain s (p ∷ xs) → WishOnTo m s p xs room
+      → (y : ℕ) → among (p ∷ xs) y ≡ true → Reach (successor m s) p y × Reach (successor m s) (successor m s y) q
   along p [] room q to remain w y h =
       elim (or_cases (p == y) false h) [
         | inl e ↦ subst (λ z. Reach (successor m s) p z × Reach (successor m s) (successor m s z) q) (eqb-true p y e)
@@ -90,7 +104,8 @@ module _ (m : Market) (ok : IsMarket m) (s : Stage) (known : IsStageOf m s) wher
   along p (x ∷ xs) room q to remain w y h =
       let self : among (x ∷ xs) x ≡ true = or_left (x == x) (among xs x) (eq-eqb x x refl) in
       let next : successor m s p ≡ x = points_to p x (remain x (or_right (p == x) (among (x ∷ xs) x) self)) w.0 in
-      let rest : (z : ℕ) → among (x ∷ xs) z ≡ true → Reach (successor m s) x z × Reach (successor m s) (successor m s z) q =
+      let rest : (z : ℕ) → among (x ∷ xs) z ≡ true → Reach (successor m s) x z × Reach (successor m s)
+      (successor m s z) q =
       along x xs room q to (λ z hz. remain z (or_right (p == z) (among (x ∷ xs) z) hz)) w.1 in
       elim (or_cases (p == y) (among (x ∷ xs) y) h) [
         | inl e ↦ subst (λ z. Reach (successor m s) p z × Reach (successor m s) (successor m s z) q) (eqb-true p y e)
@@ -99,7 +114,8 @@ module _ (m : Market) (ok : IsMarket m) (s : Stage) (known : IsStageOf m s) wher
       ]
 
   -- each of them points to another in the row, or to the person to whom the room points
-  onward : (p : ℕ) (xs : List ℕ) (room q : ℕ) → holder m s room ≡ q → AllRemain s (p ∷ xs) → WishOnTo m s p xs room → (y : ℕ) → among (p ∷ xs) y ≡ true → (among xs (successor m s y) ≡ true) ⊎ (successor m s y ≡ q)
+  onward : (p : ℕ) (xs : List ℕ) (room q : ℕ) → holder m s room ≡ q → AllRemain s (p ∷ xs) → WishOnTo m s p xs room
+      → (y : ℕ) → among (p ∷ xs) y ≡ true → (among xs (successor m s y) ≡ true) ⊎ (successor m s y ≡ q)
   onward p [] room q to remain w y h =
       elim (or_cases (p == y) false h) [
         | inl e ↦ inr (ap (successor m s) (sym (eqb-true p y e)) ∙ successor_at m s p (Some room) w ∙ to)
@@ -116,15 +132,18 @@ module _ (m : Market) (ok : IsMarket m) (s : Stage) (known : IsStageOf m s) wher
         ]
       ]
 
-  row_cycles : (room person : ℕ) (others : List ℕ) → holder m s room ≡ person → AllRemain s (person ∷ others) → WishOnTo m s person others room → AreCycles m s (among (person ∷ others))
+  row_cycles : (room person : ℕ) (others : List ℕ) → holder m s room ≡ person → AllRemain s (person ∷ others)
+      → WishOnTo m s person others room → AreCycles m s (among (person ∷ others))
   row_cycles room person others to remain wishes = record {
     each = λ p h.
-        let both : Reach (successor m s) person p × Reach (successor m s) (successor m s p) person = along person others room person to remain wishes p h in
+        let both : Reach (successor m s) person p × Reach (successor m s) (successor m s p) person =
+        along person others room person to remain wishes p h in
         cycle_from m s known p (remain p h) (reach_trans (successor m s) both.1 both.0);
     closed = λ p h.
         elim (onward person others room person to remain wishes p h) [
           | inl f ↦ or_right (person == successor m s p) (among others (successor m s p)) f
-          | inr e ↦ or_left (person == successor m s p) (among others (successor m s p)) (eq-eqb person (successor m s p) (sym e))
+          | inr e ↦ or_left (person == successor m s p) (among others (successor m s p))
+              (eq-eqb person (successor m s p) (sym e))
         ];
   }
 
@@ -136,11 +155,15 @@ module _ (m : Market) (ok : IsMarket m) (s : Stage) (known : IsStageOf m s) wher
       by_tenant None e = refl
       by_tenant (Some t) e = cond-false (s.people t) t (first m s) (free t e)
 
-pub loop_cycles : (m : Market) → IsMarket m → (s : Stage) → IsStageOf m s → (person : ℕ) (others : List ℕ) → IsLoop m s person others → AreCycles m s (among (person ∷ others))
+pub loop_cycles : (m : Market) → IsMarket m → (s : Stage) → IsStageOf m s → (person : ℕ) (others : List ℕ)
+    → IsLoop m s person others → AreCycles m s (among (person ∷ others))
 loop_cycles m ok s known person others loop =
     let there_still : s.people person ≡ true = loop.remain person (among_self person others) in
-    row_cycles m ok s known loop.room person others (home_holder m ok s person loop.room (known person there_still) loop.lives there_still) loop.remain loop.wishes
+    row_cycles m ok s known loop.room person others
+    (home_holder m ok s person loop.room (known person there_still) loop.lives there_still) loop.remain loop.wishes
 
-pub chain_cycles : (m : Market) → IsMarket m → (s : Stage) → IsStageOf m s → (person : ℕ) (others : List ℕ) → IsChain m s person others → AreCycles m s (among (person ∷ others))
+pub chain_cycles : (m : Market) → IsMarket m → (s : Stage) → IsStageOf m s → (person : ℕ) (others : List ℕ)
+    → IsChain m s person others → AreCycles m s (among (person ∷ others))
 chain_cycles m ok s known person others chain =
-    row_cycles m ok s known chain.room person others (free_holder m ok s known chain.room chain.free ∙ chain.leads) chain.remain chain.wishes
+    row_cycles m ok s known chain.room person others (free_holder m ok s known chain.room chain.free ∙ chain.leads)
+    chain.remain chain.wishes

@@ -22,7 +22,8 @@ module _ (m : Market) (f : ℕ → Option ℕ) where
       remove group (record { each = λ p h. cycle_from m s known p (t.remain p h) (t.cycle p h); closed = t.closed }) e
       (leads_by_removals (leave_known m s group known) rest)
 
-pub removals_gets : (m : Market) (f : ℕ → Option ℕ) → IsGivenByRemovals m f (start m) → (p : ℕ) → p < m.people → f p ≡ gets m p
+pub removals_gets : (m : Market) (f : ℕ → Option ℕ) → IsGivenByRemovals m f (start m) → (p : ℕ) → p < m.people
+    → f p ≡ gets m p
 removals_gets m f given = leads_gets m f (removals_lead m f (start_known m) given)
 
 pub gets_removals : (m : Market) → IsGivenByRemovals m (gets m) (start m)

@@ -1,5 +1,6 @@
 -- Lemmas on searches: `find`, `first_below`, `some_below`, and tests that agree on what they search.
-use Rattle.std.proofs.Common.{◌≡◌, ℕ, zero, suc, ◌<◌, ◌≤◌, Bool, true, false, cond, not, ◌&&◌, ◌||◌, List, [], ◌∷◌, Option, Some, None, find, refl, sym, ap, ◌∙◌, subst, inl, inr, arith, eqb-true, eq-eqb}
+use Rattle.std.proofs.Common.{◌≡◌, ℕ, zero, suc, ◌<◌, ◌≤◌, Bool, true, false, cond, not, ◌&&◌, ◌||◌, List, [], ◌∷◌}
+use Rattle.std.proofs.Common.{Option, Some, None, find, refl, sym, ap, ◌∙◌, subst, inl, inr, arith, eqb-true, eq-eqb}
 use Rattle.std.proofs.lemmas.Bool.{cases_lt, cases_Bool, or_cases, or_left, or_right, false_from_ne_true, both_ways}
 use Rattle.trade_line.specs.Below.{some_below, first_below, or_else}
 use Rattle.trade_line.specs.Market.{is_room}
@@ -24,7 +25,8 @@ find_passes q (y ∷ ys) x h =
     ]
 
 -- a narrower test finds the same if it passes what was found
-pub find_keeps : (q r : ℕ → Bool) (xs : List ℕ) → ((y : ℕ) → r y ≡ true → q y ≡ true) → ((x : ℕ) → find q xs ≡ Some x → r x ≡ true) → find r xs ≡ find q xs
+pub find_keeps : (q r : ℕ → Bool) (xs : List ℕ) → ((y : ℕ) → r y ≡ true → q y ≡ true)
+    → ((x : ℕ) → find q xs ≡ Some x → r x ≡ true) → find r xs ≡ find q xs
 find_keeps q r [] only same = refl
 find_keeps q r (y ∷ ys) only same =
     elim (cases_Bool (q y)) [
@@ -41,7 +43,8 @@ pub first_passes : (n : ℕ) (q : ℕ → Bool) (x : ℕ) → first_below n q �
 first_passes zero q x h = absurd (cc)
 first_passes (suc n) q x h = first_passes_by (first_passes n q x) (first_below n q) refl h
   where
-    first_passes_by : (first_below n q ≡ Some x → (q x ≡ true) × (x < n)) → (o : Option ℕ) → first_below n q ≡ o → or_else o (cond (q n) (Some n) None) ≡ Some x → (q x ≡ true) × (x < suc n)
+    first_passes_by : (first_below n q ≡ Some x → (q x ≡ true) × (x < n)) → (o : Option ℕ) → first_below n q ≡ o
+        → or_else o (cond (q n) (Some n) None) ≡ Some x → (q x ≡ true) × (x < suc n)
     first_passes_by ih None e h =
         elim (cases_Bool (q n)) [
           | inl t ↦
@@ -56,13 +59,15 @@ first_passes (suc n) q x h = first_passes_by (first_passes n q x) (first_below n
         let r : (q x ≡ true) × (x < n) = ih (e ∙ h) in
         (r.0, omega (arith, r.1))
 
-pub first_keeps : (n : ℕ) (q r : ℕ → Bool) → ((y : ℕ) → r y ≡ true → q y ≡ true) → ((x : ℕ) → first_below n q ≡ Some x → r x ≡ true) → first_below n r ≡ first_below n q
+pub first_keeps : (n : ℕ) (q r : ℕ → Bool) → ((y : ℕ) → r y ≡ true → q y ≡ true)
+    → ((x : ℕ) → first_below n q ≡ Some x → r x ≡ true) → first_below n r ≡ first_below n q
 first_keeps zero q r only same = refl
 first_keeps (suc n) q r only same =
     let ih : first_below n r ≡ first_below n q = first_keeps n q r only (λ x h. same x (rw h refl)) in
     rw ih (by_found (first_below n q) refl)
   where
-    by_found : (o : Option ℕ) → first_below n q ≡ o → or_else o (cond (r n) (Some n) None) ≡ or_else o (cond (q n) (Some n) None)
+    by_found : (o : Option ℕ) → first_below n q ≡ o → or_else o (cond (r n) (Some n) None) ≡ or_else o
+        (cond (q n) (Some n) None)
     by_found (Some y) e = refl
     by_found None e =
         elim (cases_Bool (q n)) [
@@ -79,7 +84,8 @@ pub first_finds : (n : ℕ) (q : ℕ → Bool) (x : ℕ) → x < n → q x ≡ t
 first_finds zero q x h t = absurd (omega arith)
 first_finds (suc n) q x h t = by_found (first_finds n q x) (first_below n q) refl
   where
-    by_found : (x < n → q x ≡ true → (y : ℕ) × (first_below n q ≡ Some y)) → (o : Option ℕ) → first_below n q ≡ o → (y : ℕ) × (or_else o (cond (q n) (Some n) None) ≡ Some y)
+    by_found : (x < n → q x ≡ true → (y : ℕ) × (first_below n q ≡ Some y)) → (o : Option ℕ) → first_below n q ≡ o
+        → (y : ℕ) × (or_else o (cond (q n) (Some n) None) ≡ Some y)
     by_found ih (Some y) e = (y, refl)
     by_found ih None e =
         elim (cases_Bool (q n)) [
@@ -128,7 +134,8 @@ pub first_is_least : (n : ℕ) (q : ℕ → Bool) (y x : ℕ) → first_below n 
 first_is_least zero q y x e l t = absurd (omega arith)
 first_is_least (suc n) q y x e l t = by_found (first_is_least n q y x) (first_below n q) refl e
   where
-    by_found : (first_below n q ≡ Some y → x < n → q x ≡ true → y ≤ x) → (o : Option ℕ) → first_below n q ≡ o → or_else o (cond (q n) (Some n) None) ≡ Some y → y ≤ x
+    by_found : (first_below n q ≡ Some y → x < n → q x ≡ true → y ≤ x) → (o : Option ℕ) → first_below n q ≡ o
+        → or_else o (cond (q n) (Some n) None) ≡ Some y → y ≤ x
     by_found ih (Some z) f e =
         elim (cases_lt x n) [
           | inl b ↦ ih (f ∙ e) b t

@@ -1,5 +1,6 @@
 -- What an ask finds on the list, and what it costs.
-use Rattle.std.proofs.Common.{◌≡◌, ℕ, suc, ◌+◌, ◌<◌, ◌≤◌, Bool, true, false, List, length, Option, Some, None, find, get_or, set, drop, refl, sym, ap, ap₂, ◌∙◌, arith, get_or-set_same}
+use Rattle.std.proofs.Common.{◌≡◌, ℕ, suc, ◌+◌, ◌<◌, ◌≤◌, Bool, true, false, List, length, Option, Some, None, find}
+use Rattle.std.proofs.Common.{get_or, set, drop, refl, sym, ap, ap₂, ◌∙◌, arith, get_or-set_same}
 use Rattle.std.proofs.lemmas.List.{get_or-drop, length-drop}
 use Rattle.trade_line.specs.Market.{Market, home, list_of}
 use Rattle.trade_line.specs.Line.{front_of}
@@ -23,18 +24,24 @@ module _ (m : Market) where
     pub none : o ≡ None → (place ≡ length (list_of m a)) × (read ≡ passed)
     pub ends : o ≡ None → CursorAt m (set c a place) a (home m a)
 
-  pub ask_finds : (s v : State) (a : ℕ) (c : List ℕ) (remaining : List Bool) (list : List ℕ) (from place read : ℕ) (o : Option ℕ)
+  pub ask_finds : (s v : State) (a : ℕ) (c : List ℕ) (remaining : List Bool) (list : List ℕ) (from place read : ℕ)
+      (o : Option ℕ)
       → IsConsistent m s → front_of s.line ≡ Some a → v.line ≡ s.line → v.asked ≡ set s.asked a true
       → v.remaining ≡ s.remaining → v.given ≡ s.given → AreCursors m s c
-      → a < m.people → remaining ≡ v.remaining → list ≡ list_of m a → from ≡ get_or c a from → o ≡ find (λ r. get_or remaining r false) (drop from list) → place ≡ from + skipped (λ r. get_or remaining r false) (drop from list) → read ≡ reads (λ r. get_or remaining r false) (drop from list) → AskFinds v a c place read o
+      → a < m.people → remaining ≡ v.remaining → list ≡ list_of m a → from ≡ get_or c a from
+      → o ≡ find (λ r. get_or remaining r false) (drop from list) → place ≡ from + skipped
+      (λ r. get_or remaining r false) (drop from list) → read ≡ reads (λ r. get_or remaining r false) (drop from list)
+      → AskFinds v a c place read o
   ask_finds s v a c remaining list from place read o st e x y z u tr known re le fe oe pe de = record {
     passed = n;
     place_is = passes;
     cursors = cursors;
     found = find_on q xs at past ∙ sym oe2;
     some = λ w ow. (
-        let f : (n < length rest) × (get_or rest n 0 ≡ w) × (reads q rest ≡ suc n) = found_at q rest w (sym oe2 ∙ ow) in (
-          stays_at m st.fits.market (set c a place) a place w known (omega (arith, f.0, passes, len)) (ap (λ k. get_or xs k 0) passes ∙ sym (get_or-drop at xs n 0) ∙ f.1) moved,
+        let f : (n < length rest) × (get_or rest n 0 ≡ w) × (reads q rest ≡ suc n) =
+        found_at q rest w (sym oe2 ∙ ow) in (
+          stays_at m st.fits.market (set c a place) a place w known (omega (arith, f.0, passes, len))
+              (ap (λ k. get_or xs k 0) passes ∙ sym (get_or-drop at xs n 0) ∙ f.1) moved,
           de2 ∙ f.2,
         ));
     none = λ on. (
@@ -65,7 +72,9 @@ module _ (m : Market) where
 
       same : {A : Type 0} (f : (ℕ → Bool) → List ℕ → A)
           → f (λ r. get_or remaining r false) (drop from list) ≡ f (stage_at v).rooms (drop (cursor c a) (list_of m a))
-      same f = ap (λ b. f (λ r. get_or b r false) (drop from list)) re ∙ ap (λ k. f (stage_at v).rooms (drop k list)) from_is ∙ ap (λ l. f (stage_at v).rooms (drop (cursor c a) l)) le
+      same f = ap (λ b. f (λ r. get_or b r false) (drop from list)) re
+          ∙ ap (λ k. f (stage_at v).rooms (drop k list)) from_is
+          ∙ ap (λ l. f (stage_at v).rooms (drop (cursor c a) l)) le
 
       oe2 : o ≡ find (stage_at v).rooms (drop (cursor c a) (list_of m a))
       oe2 = oe ∙ same find
@@ -89,4 +98,5 @@ module _ (m : Market) where
       past k l = ap (λ b. get_or b (get_or (list_of m a) k 0) false) z ∙ tr.gone a k known l
 
       cursors : AreCursors m v (set c a place)
-      cursors = marked_cursors m s v a place c (set c a place) st e x y z u tr refl passes (omega (arith, passes, len, most))
+      cursors =
+          marked_cursors m s v a place c (set c a place) st e x y z u tr refl passes (omega (arith, passes, len, most))

@@ -1,45 +1,36 @@
 -- What each kind of turn does to the state.
 use Rattle.std.proofs.Math.Bool.{or-false}
 use Rattle.trade_line.proofs.counts.Asked.{asked_split, asked_none, asked_other}
-use Rattle.std.proofs.Common.{◌≡◌, ℕ, suc, ◌<◌, ◌≤◌, true, false, not, ◌&&◌, ◌==◌, List, [], ◌∷◌, ◌++◌, length, Option, Some, None, set, refl, sym, ap, ◌∙◌, subst, inl, inr, arith, eqb-true, eq-eqb, get_or-set_same, get_or-set_other, length-set, pred, cond, ◌+◌}
+use Rattle.std.proofs.Common.{◌≡◌, ℕ, suc, ◌<◌, ◌≤◌, true, false, ◌==◌, List, [], ◌∷◌, ◌++◌, length, Option}
+use Rattle.std.proofs.Common.{Some, None, set, refl, sym, ap, ◌∙◌, subst, inl, inr, arith, eqb-true, eq-eqb}
+use Rattle.std.proofs.Common.{get_or-set_same, get_or-set_other, pred, cond, ◌+◌}
 use mathlib.Core.Path.{fun_ext}
 use Rattle.std.specs.Option.{unwrap_or}
-use Rattle.std.proofs.lemmas.Bool.{cases_eq, and_parts, and_from, or_cases, or_parts, false_from_ne_true, both_ways, cond-true, not-true, not_from_false}
-use Rattle.trade_line.specs.Below.{first_below, count_below}
-use Rattle.trade_line.specs.Market.{Market, home, is_room, tenant, is_tenant}
+use Rattle.std.proofs.lemmas.Bool.{or_cases, or_parts, false_from_ne_true, both_ways}
+use Rattle.std.proofs.lemmas.Bool.{cond-true}
+use Rattle.trade_line.specs.Below.{first_below}
+use Rattle.trade_line.specs.Market.{Market, home, tenant}
 use Rattle.trade_line.specs.TopTradingCycles.{Stage, wish, first, successor, taken, leave}
 use Rattle.trade_line.specs.Inner.Removal.{IsTrade, Leads}
 use Rattle.trade_line.specs.Member.{among, Once}
-use Rattle.trade_line.specs.Inner.Queue.{AscendsFrom, Ascends, last_of, WaitsBehind, Waits, LastIsLeast, stage_of, close, Queue, Settles}
-use Rattle.trade_line.specs.Line.{front_of, tail_of, without}
-use Rattle.trade_line.specs.Inner.State.{State, stage_at, has_asked, given_to, IsSizedFor}
+use Rattle.trade_line.specs.Inner.Queue.{AscendsFrom, Ascends, last_of, WaitsBehind, Waits, LastIsLeast, stage_of}
+use Rattle.trade_line.specs.Inner.Queue.{close, Queue, Settles}
+use Rattle.trade_line.specs.Line.{front_of, tail_of}
+use Rattle.trade_line.specs.Inner.State.{State, stage_at, has_asked, given_to}
 use Rattle.trade_line.specs.Inner.Turn.{IsConsistent, Asks, pending, Onward, asked_in}
 use Rattle.trade_line.specs.Inner.Removal.Leads.{trade}
-use Rattle.trade_line.proofs.searches.Search.{is_room_gives, first_passes, first_finds, first_is_least}
-use Rattle.trade_line.proofs.counts.Count.{count_le, bit_le}
+use Rattle.trade_line.proofs.searches.Search.{first_passes, first_finds, first_is_least}
+use Rattle.trade_line.proofs.counts.Count.{bit_le}
 use Rattle.trade_line.proofs.cycles.Exchange.{successor_at, taken_gives}
 use Rattle.trade_line.proofs.cycles.Chain.{among_last, tenant_at, home_holder, only, ring_trade, IsVacant, head_first}
-use Rattle.trade_line.proofs.askers.Lines.{among_self, among_more, among_left, among_right, above_ascends, ascends_tail, length-close, leave_none, front_leaves, waits_on, wish_known}
-
--- the state after the front of the line left with a room or nothing
-abbrev pub granted : State → ℕ → Option ℕ → State
-granted s p o = record { line = tail_of s.line; asked = s.asked; remaining = close s.remaining o; given = set s.given p o }
-
--- the state after a person is marked as having asked
-abbrev pub marked : State → ℕ → State
-marked s p = record { line = s.line; asked = set s.asked p true; remaining = s.remaining; given = s.given }
-
--- the state after t came to the front
-abbrev pub brought : State → ℕ → State
-brought s t = record { line = t ∷ without t s.line; asked = set s.asked t true; remaining = s.remaining; given = s.given }
-
-pub tenant_home : (m : Market) (r t : ℕ) → tenant m r ≡ Some t → (t < m.people) × (home m t ≡ Some r)
-tenant_home m r t e =
-    let u : (is_room r (home m t) ≡ true) × (t < m.people) = first_passes m.people (λ p. is_room r (home m p)) t e in
-    (u.1, is_room_gives r (home m t) u.0)
+use Rattle.trade_line.proofs.askers.Lines.{among_self, among_more, among_left, among_right, above_ascends, ascends_tail}
+use Rattle.trade_line.proofs.askers.Lines.{leave_none, front_leaves, waits_on, wish_known}
+use Rattle.trade_line.proofs.turns.Marks.{granted, marked, granted_fits, marked_fits, marked_stays}
+use Rattle.trade_line.proofs.turns.Marks.{marked_pending}
 
 module _ (m : Market) where
-  first_least : (s : Stage) (x : ℕ) → x < m.people → s.people x ≡ true → ((p : ℕ) → s.people p ≡ true → x ≤ p) → first m s ≡ x
+  first_least : (s : Stage) (x : ℕ) → x < m.people → s.people x ≡ true → ((p : ℕ) → s.people p ≡ true → x ≤ p)
+      → first m s ≡ x
   unfolding first
   first_least s x l h least =
       let r : (y : ℕ) × (first_below m.people s.people ≡ Some y) = first_finds m.people s.people x l h in
@@ -47,42 +38,6 @@ module _ (m : Market) where
       let above : x ≤ r.0 = least r.0 (first_passes m.people s.people r.0 r.1).0 in
       let same : r.0 ≡ x = omega arith in
       ap (λ o. unwrap_or o 0) r.1 ∙ same
-
-  pub granted_fits : (s : State) (p : ℕ) (o : Option ℕ) → IsSizedFor m s → IsSizedFor m (granted s p o)
-  granted_fits s p o f = record {
-    market = f.market;
-    asked_len = f.asked_len;
-    remaining_len = length-close s.remaining o ∙ f.remaining_len;
-    given_len = length-set s.given p o ∙ f.given_len;
-  }
-
-  pub marked_fits : (s : State) (p : ℕ) → IsSizedFor m s → IsSizedFor m (marked s p)
-  marked_fits s p f = record {
-    market = f.market;
-    asked_len = length-set s.asked p true ∙ f.asked_len;
-    remaining_len = f.remaining_len;
-    given_len = f.given_len;
-  }
-
-  -- a marked person stays marked
-  pub marked_stays : (s : State) (a p : ℕ) → a < length s.asked → has_asked s p ≡ true → has_asked (marked s a) p ≡ true
-  marked_stays s a p l h =
-      elim (cases_eq p a) [
-        | inl e ↦ rw e (get_or-set_same s.asked a true false l)
-        | inr n ↦ get_or-set_other s.asked a p true false n ∙ h
-      ]
-
-  -- a tenant who hasn't asked had not asked before
-  pub marked_unasked : (s : State) (a : ℕ) → a < length s.asked → (y : ℕ) → (is_tenant m y && not (has_asked (marked s a) y)) ≡ true → (is_tenant m y && not (has_asked s y)) ≡ true
-  marked_unasked s a l y h =
-      let b : (is_tenant m y ≡ true) × (not (has_asked (marked s a) y) ≡ true) = and_parts (is_tenant m y) (not (has_asked (marked s a) y)) h in
-      and_from (is_tenant m y) (not (has_asked s y)) b.0 (not_from_false (has_asked s y) (false_from_ne_true (has_asked s y) (λ t. both_ways (has_asked (marked s a) y) (not-true (has_asked (marked s a) y) b.1) (marked_stays s a y l t))))
-
-  marked_pending : (s : State) (a : ℕ) → a < length s.asked → pending m (marked s a) ≤ pending m s
-  marked_pending s a l =
-      let c : count_below m.people (λ p. is_tenant m p && not (has_asked (marked s a) p)) ≤ count_below m.people (λ p. is_tenant m p && not (has_asked s p)) =
-      count_le m.people (λ p. is_tenant m p && not (has_asked (marked s a) p)) (λ p. is_tenant m p && not (has_asked s p)) (marked_unasked s a l) in
-      omega arith
 
   -- the front of the line is marked as having asked
   pub front_asks : (s : State) (a : ℕ) → IsConsistent m s → front_of s.line ≡ Some a → Asks m a (marked s a)
@@ -92,24 +47,31 @@ module _ (m : Market) where
       q = st.queue
 
       known_a : (t : List ℕ) → s.line ≡ a ∷ t → a < length s.asked
-      known_a t e = let l : a < m.people = q.known a (subst (λ z. among z a ≡ true) (sym e) (among_self a t)) in omega (arith, st.fits.asked_len)
+      known_a t e = let l : a < m.people = q.known a (subst (λ z. among z a ≡ true) (sym e) (among_self a t)) in
+          omega (arith, st.fits.asked_len)
 
-      unmarked : (t : List ℕ) → s.line ≡ a ∷ t → (p : ℕ) → among t p ≡ true → has_asked s p ≡ false → has_asked (marked s a) p ≡ false
+      unmarked : (t : List ℕ) → s.line ≡ a ∷ t → (p : ℕ) → among t p ≡ true → has_asked s p ≡ false
+          → has_asked (marked s a) p ≡ false
       unmarked t e p i h =
           let o : Once (a ∷ t) = subst Once e q.once in
-          get_or-set_other s.asked a p true false (λ pe. both_ways (among t a) o.0 (subst (λ z. among t z ≡ true) pe i)) ∙ h
+          get_or-set_other s.asked a p true false (λ pe. both_ways (among t a) o.0 (subst (λ z. among t z ≡ true) pe i))
+          ∙ h
 
       by_waiting : (t : List ℕ) → s.line ≡ a ∷ t → (w : List ℕ) → q.waiting ≡ w → Asks m a (marked s a)
       by_waiting t e [] we =
           let fe : q.fresh ≡ a ∷ t = sym (sym e ∙ q.split ∙ ap (λ z. z ++ q.fresh) we) in
           let up : AscendsFrom a t = subst Ascends fe q.ascends in
           record {
-            fits = marked_fits s a st.fits;
+            fits = marked_fits m s a st.fits;
             behind = [];
             fresh = t;
             split = e;
-            waiting_asked = λ p h. subst (λ z. has_asked (marked s a) z ≡ true) (eqb-true a p (sym (or-false (a == p)) ∙ h)) (get_or-set_same s.asked a true false (known_a t e));
-            fresh_unasked = λ p h. unmarked t e p h (q.fresh_unasked p (subst (λ z. among z p ≡ true) (sym fe) (among_more a t p h)));
+            waiting_asked =
+                λ p h. subst (λ z. has_asked (marked s a) z ≡ true) (eqb-true a p (sym (or-false (a == p)) ∙ h))
+                (get_or-set_same s.asked a true false (known_a t e));
+            fresh_unasked =
+                λ p h. unmarked t e p h
+                (q.fresh_unasked p (subst (λ z. among z p ≡ true) (sym fe) (among_more a t p h)));
             waits = tt;
             least = λ p h. elim (or_cases (a == p) (among t p) (subst (λ z. among z p ≡ true) e h)) [
               | inl y ↦ let z : a ≡ p = eqb-true a p y in omega arith
@@ -125,12 +87,14 @@ module _ (m : Market) where
           let te : t ≡ ws ++ q.fresh = ap tail_of le in
           let wa : q.waiting ≡ a ∷ ws = we ∙ ap (λ z. z ∷ ws) xa in
           record {
-            fits = marked_fits s a st.fits;
+            fits = marked_fits m s a st.fits;
             behind = ws;
             fresh = q.fresh;
             split = e ∙ ap (λ z. a ∷ z) te;
-            waiting_asked = λ p h. marked_stays s a p (known_a t e) (q.waiting_asked p (subst (λ z. among z p ≡ true) (sym wa) h));
-            fresh_unasked = λ p h. unmarked t e p (subst (λ z. among z p ≡ true) (sym te) (among_right ws q.fresh p h)) (q.fresh_unasked p h);
+            waiting_asked =
+                λ p h. marked_stays m s a p (known_a t e) (q.waiting_asked p (subst (λ z. among z p ≡ true) (sym wa) h));
+            fresh_unasked = λ p h. unmarked t e p (subst (λ z. among z p ≡ true) (sym te) (among_right ws q.fresh p h))
+                (q.fresh_unasked p h);
             waits = subst (λ z. Waits m (stage_at s) z) wa q.waits;
             least = subst (λ z. LastIsLeast z s.line) wa q.least;
             ascends = q.ascends;
@@ -144,41 +108,52 @@ module _ (m : Market) where
           let z : x ≡ a = cc in
           by_waiting t (e ∙ ap (λ y. y ∷ t) z) q.waiting refl
 
-  marked_turns : (s : State) (a : ℕ) → IsConsistent m s → front_of s.line ≡ Some a → asked_in (set s.asked a true) s.line ≤ suc (pred (asked_in s.asked s.line))
+  marked_turns : (s : State) (a : ℕ) → IsConsistent m s → front_of s.line ≡ Some a
+      → asked_in (set s.asked a true) s.line ≤ suc (pred (asked_in s.asked s.line))
   marked_turns s a st e = by_line s.line refl e
     where
       q : Queue m s.line s.asked s.remaining
       q = st.queue
 
-      by_waiting : (t : List ℕ) → s.line ≡ a ∷ t → (w : List ℕ) → q.waiting ≡ w → asked_in s.asked t ≤ pred (asked_in s.asked s.line)
+      by_waiting : (t : List ℕ) → s.line ≡ a ∷ t → (w : List ℕ) → q.waiting ≡ w → asked_in s.asked t ≤ pred
+          (asked_in s.asked s.line)
       by_waiting t le [] we =
           let fe : a ∷ t ≡ q.fresh = sym le ∙ q.split ∙ ap (λ z. z ++ q.fresh) we in
-          let none : asked_in s.asked t ≡ 0 = asked_none s.asked t (λ p h. q.fresh_unasked p (subst (λ z. among z p ≡ true) fe (among_more a t p h))) in
+          let none : asked_in s.asked t ≡ 0 =
+          asked_none s.asked t (λ p h. q.fresh_unasked p (subst (λ z. among z p ≡ true) fe (among_more a t p h))) in
           omega arith
       by_waiting t le (x ∷ ws) we =
           let e2 : a ∷ t ≡ x ∷ (ws ++ q.fresh) = sym le ∙ q.split ∙ ap (λ z. z ++ q.fresh) we in
           let xa : x ≡ a = cc in
-          let yes_a : has_asked s a ≡ true = q.waiting_asked a (subst (λ z. among z a ≡ true) (sym we) (subst (λ z. among (x ∷ ws) z ≡ true) xa (among_self x ws))) in
-          let one : asked_in s.asked s.line ≡ cond (has_asked s a) 1 0 + asked_in s.asked t = ap (asked_in s.asked) le in
+          let yes_a : has_asked s a ≡ true =
+          q.waiting_asked a
+          (subst (λ z. among z a ≡ true) (sym we) (subst (λ z. among (x ∷ ws) z ≡ true) xa (among_self x ws))) in
+          let one : asked_in s.asked s.line ≡ cond (has_asked s a) 1 0 + asked_in s.asked t =
+          ap (asked_in s.asked) le in
           let bit : cond {A = ℕ} (has_asked s a) 1 0 ≡ 1 = cond-true {A = ℕ} (has_asked s a) 1 0 yes_a in
           omega arith
 
-      by_line : (l : List ℕ) → s.line ≡ l → front_of l ≡ Some a → asked_in (set s.asked a true) s.line ≤ suc (pred (asked_in s.asked s.line))
+      by_line : (l : List ℕ) → s.line ≡ l → front_of l ≡ Some a → asked_in (set s.asked a true) s.line ≤ suc
+          (pred (asked_in s.asked s.line))
       by_line [] le f = absurd (cc)
       by_line (x ∷ t) le f =
           let z : x ≡ a = cc in
           let le2 : s.line ≡ a ∷ t = le ∙ ap (λ y. y ∷ t) z in
           let apart : among t a ≡ false = (subst Once le2 q.once).0 in
-          let one : asked_in (set s.asked a true) s.line ≡ cond (has_asked (marked s a) a) 1 0 + asked_in (set s.asked a true) t = ap (asked_in (set s.asked a true)) le2 in
+          let one : asked_in (set s.asked a true) s.line ≡ cond (has_asked (marked s a) a) 1 0 + asked_in
+          (set s.asked a true) t = ap (asked_in (set s.asked a true)) le2 in
           let bit : cond (has_asked (marked s a) a) 1 0 ≤ 1 = bit_le (has_asked (marked s a) a) true (λ _. refl) in
           let same : asked_in (set s.asked a true) t ≡ asked_in s.asked t = asked_other s.asked a t apart in
           omega (arith, by_waiting t le2 q.waiting refl)
 
-  pub front_onward : (s t : State) (a : ℕ) → IsConsistent m s → front_of s.line ≡ Some a → Onward m (marked s a) t → Onward m s t
+  pub front_onward : (s t : State) (a : ℕ) → IsConsistent m s → front_of s.line ≡ Some a → Onward m (marked s a) t
+      → Onward m s t
   front_onward s t a st e o = record {
     consistent = o.consistent;
-    fewer = let l : pending m (marked s a) ≤ pending m s = marked_pending s a (known s.line refl e) in omega (arith, o.fewer);
-    turns = let l : asked_in (set s.asked a true) s.line ≤ suc (pred (asked_in s.asked s.line)) = marked_turns s a st e in omega (arith, o.turns);
+    fewer = let l : pending m (marked s a) ≤ pending m s = marked_pending m s a (known s.line refl e) in
+        omega (arith, o.fewer);
+    turns = let l : asked_in (set s.asked a true) s.line ≤ suc (pred (asked_in s.asked s.line)) =
+        marked_turns s a st e in omega (arith, o.turns);
     settles = o.settles;
   }
     where
@@ -186,7 +161,9 @@ module _ (m : Market) where
       known [] e f = absurd (cc)
       known (x ∷ t) e f =
           let z : x ≡ a = cc in
-          let l : a < m.people = st.queue.known a (subst (λ y. among y a ≡ true) (sym e) (subst (λ y. among (x ∷ t) y ≡ true) z (among_self x t))) in
+          let l : a < m.people =
+          st.queue.known a
+          (subst (λ y. among y a ≡ true) (sym e) (subst (λ y. among (x ∷ t) y ≡ true) z (among_self x t))) in
           omega (arith, st.fits.asked_len)
 
   -- the front of the line leaves with the wish
@@ -201,22 +178,27 @@ module _ (m : Market) where
     a_once = (subst Once ask.split ask.once).0
 
     room_known : (x : ℕ) → o ≡ Some x → x < length s.remaining
-    room_known x e = let l : x < m.rooms = wish_known m ask.fits.market (stage_at s) a x a_known (w ∙ e) in omega (arith, ask.fits.remaining_len)
+    room_known x e = let l : x < m.rooms = wish_known m ask.fits.market (stage_at s) a x a_known (w ∙ e) in
+        omega (arith, ask.fits.remaining_len)
 
     pub front_stage : stage_at (granted s a o) ≡ leave m (stage_at s) (among (a ∷ []))
     front_stage =
         subst (λ z. stage_of (tail_of z) (close s.remaining o) ≡ leave m (stage_at s) (among (a ∷ []))) (sym ask.split)
-        (front_leaves m (stage_at s) [] a (ask.behind ++ ask.fresh) s.remaining o (ap (λ z. stage_of z s.remaining) (sym ask.split) ∙ leave_none m (stage_at s)) a_once a_known w room_known)
+        (front_leaves m (stage_at s) [] a (ask.behind ++ ask.fresh) s.remaining o
+        (ap (λ z. stage_of z s.remaining) (sym ask.split) ∙ leave_none m (stage_at s)) a_once a_known w room_known)
 
     line_after : tail_of s.line ≡ ask.behind ++ ask.fresh
     line_after = ap tail_of ask.split
 
     inside : (p : ℕ) → among (tail_of s.line) p ≡ true → among s.line p ≡ true
-    inside p h = subst (λ z. among z p ≡ true) (sym ask.split) (among_more a (ask.behind ++ ask.fresh) p (subst (λ z. among z p ≡ true) line_after h))
+    inside p h =
+        subst (λ z. among z p ≡ true) (sym ask.split)
+        (among_more a (ask.behind ++ ask.fresh) p (subst (λ z. among z p ≡ true) line_after h))
 
-    pub front_consistent : ((q h : ℕ) → among ask.behind q ≡ true → home m q ≡ Some h → taken m (stage_at s) (among (a ∷ [])) h ≡ false) → IsConsistent m (granted s a o)
+    pub front_consistent : ((q h : ℕ) → among ask.behind q ≡ true → home m q ≡ Some h
+        → taken m (stage_at s) (among (a ∷ [])) h ≡ false) → IsConsistent m (granted s a o)
     front_consistent free = record {
-      fits = granted_fits s a o ask.fits;
+      fits = granted_fits m s a o ask.fits;
       queue = record {
         waiting = ask.behind;
         fresh = ask.fresh;
@@ -231,11 +213,14 @@ module _ (m : Market) where
       };
     }
       where
-        behind_waits : (xs : List ℕ) → WaitsBehind m (stage_at s) a xs → ((q h : ℕ) → among xs q ≡ true → home m q ≡ Some h → taken m (stage_at s) (among (a ∷ [])) h ≡ false) → Waits m (leave m (stage_at s) (among (a ∷ []))) xs
+        behind_waits : (xs : List ℕ) → WaitsBehind m (stage_at s) a xs
+            → ((q h : ℕ) → among xs q ≡ true → home m q ≡ Some h → taken m (stage_at s) (among (a ∷ [])) h ≡ false)
+            → Waits m (leave m (stage_at s) (among (a ∷ []))) xs
         behind_waits [] ws free = tt
         behind_waits (b ∷ r) ws free = waits_on m (stage_at s) (among (a ∷ [])) b r free ws.1
 
-        behind_least : (xs : List ℕ) → ((p : ℕ) → among s.line p ≡ true → last_of a xs ≤ p) → LastIsLeast xs (tail_of s.line)
+        behind_least : (xs : List ℕ) → ((p : ℕ) → among s.line p ≡ true → last_of a xs ≤ p)
+            → LastIsLeast xs (tail_of s.line)
         behind_least [] l = tt
         behind_least (b ∷ r) l = λ p h. l p (inside p h)
 
@@ -245,26 +230,36 @@ module _ (m : Market) where
         let e2 : length (tail_of s.line) ≡ length (ask.behind ++ ask.fresh) = ap length line_after in
         omega arith
 
-    pub front_turns : pred (asked_in s.asked (tail_of s.line)) + length s.line ≤ suc (pred (asked_in s.asked s.line) + length (tail_of s.line))
+    pub front_turns : pred (asked_in s.asked (tail_of s.line)) + length s.line ≤ suc
+        (pred (asked_in s.asked s.line) + length (tail_of s.line))
     front_turns =
         let e : length s.line ≡ suc (length (ask.behind ++ ask.fresh)) = ap length ask.split in
         let e2 : length (tail_of s.line) ≡ length (ask.behind ++ ask.fresh) = ap length line_after in
-        let a1 : asked_in s.asked s.line ≡ suc (length ask.behind) = asked_split s.asked s.line (a ∷ ask.behind) ask.fresh ask.split ask.waiting_asked ask.fresh_unasked in
-        let a2 : asked_in s.asked (tail_of s.line) ≡ length ask.behind = asked_split s.asked (tail_of s.line) ask.behind ask.fresh line_after (λ p h. ask.waiting_asked p (among_more a ask.behind p h)) ask.fresh_unasked in
+        let a1 : asked_in s.asked s.line ≡ suc (length ask.behind) =
+        asked_split s.asked s.line (a ∷ ask.behind) ask.fresh ask.split ask.waiting_asked ask.fresh_unasked in
+        let a2 : asked_in s.asked (tail_of s.line) ≡ length ask.behind =
+        asked_split s.asked (tail_of s.line) ask.behind ask.fresh line_after
+        (λ p h. ask.waiting_asked p (among_more a ask.behind p h)) ask.fresh_unasked in
         omega arith
 
-    pub front_given : (f : ℕ → Option ℕ) → Settles m (tail_of s.line) (close s.remaining o) (set s.given a o) f → f a ≡ o
+    pub front_given : (f : ℕ → Option ℕ) → Settles m (tail_of s.line) (close s.remaining o)
+        (set s.given a o) f → f a ≡ o
     front_given f st =
-        st.served a a_known (subst (λ z. among z a ≡ false) (sym line_after) a_once) ∙ get_or-set_same s.given a o None (let l : a < m.people = a_known in omega (arith, ask.fits.given_len))
+        st.served a a_known (subst (λ z. among z a ≡ false) (sym line_after) a_once)
+        ∙ get_or-set_same s.given a o None (let l : a < m.people = a_known in omega (arith, ask.fits.given_len))
 
-    pub front_served : (f : ℕ → Option ℕ) → Settles m (tail_of s.line) (close s.remaining o) (set s.given a o) f → (p : ℕ) → p < m.people → among s.line p ≡ false → f p ≡ given_to s p
+    pub front_served : (f : ℕ → Option ℕ) → Settles m (tail_of s.line) (close s.remaining o) (set s.given a o) f
+        → (p : ℕ) → p < m.people → among s.line p ≡ false → f p ≡ given_to s p
     front_served f st p l h =
         let out : among (a ∷ (ask.behind ++ ask.fresh)) p ≡ false = subst (λ z. among z p ≡ false) ask.split h in
-        let parts : ((a == p) ≡ false) × (among (ask.behind ++ ask.fresh) p ≡ false) = or_parts (a == p) (among (ask.behind ++ ask.fresh) p) out in
-        st.served p l (subst (λ z. among z p ≡ false) (sym line_after) parts.1) ∙ get_or-set_other s.given a p o None (λ e. both_ways (a == p) parts.0 (eq-eqb a p (sym e)))
+        let parts : ((a == p) ≡ false) × (among (ask.behind ++ ask.fresh) p ≡ false) =
+        or_parts (a == p) (among (ask.behind ++ ask.fresh) p) out in
+        st.served p l (subst (λ z. among z p ≡ false) (sym line_after) parts.1) ∙ get_or-set_other s.given a p o None
+        (λ e. both_ways (a == p) parts.0 (eq-eqb a p (sym e)))
 
   -- the front takes the floor
-  pub floor_onward : (s : State) (a : ℕ) → Asks m a s → wish m (stage_at s) a ≡ home m a → Onward m s (granted s a (home m a))
+  pub floor_onward : (s : State) (a : ℕ) → Asks m a s → wish m (stage_at s) a ≡ home m a
+      → Onward m s (granted s a (home m a))
   floor_onward s a ask w = record {
     consistent = front_consistent s a ask (home m a) w free;
     fewer = front_fewer s a ask (home m a) w;
@@ -272,7 +267,8 @@ module _ (m : Market) where
     settles = λ f st. record {
       served = front_served s a ask (home m a) w f st;
       leads = trade (among (a ∷ [])) self
-          (λ p h. subst (λ z. f z ≡ wish m (stage_at s) z) (eqb-true a p (sym (or-false (a == p)) ∙ h)) (front_given s a ask (home m a) w f st ∙ sym w))
+          (λ p h. subst (λ z. f z ≡ wish m (stage_at s) z) (eqb-true a p (sym (or-false (a == p)) ∙ h))
+          (front_given s a ask (home m a) w f st ∙ sym w))
           (subst (λ z. Leads m f z) (front_stage s a ask (home m a) w) st.leads);
     };
   }
@@ -282,16 +278,22 @@ module _ (m : Market) where
 
       free : (q h : ℕ) → among ask.behind q ≡ true → home m q ≡ Some h → taken m (stage_at s) (among (a ∷ [])) h ≡ false
       free q h i e = false_from_ne_true (taken m (stage_at s) (among (a ∷ [])) h) (λ y.
-          let g : (x : ℕ) × (x < m.people) × (among (a ∷ []) x ≡ true) × (wish m (stage_at s) x ≡ Some h) = taken_gives m (stage_at s) (among (a ∷ [])) h y in
+          let g : (x : ℕ) × (x < m.people) × (among (a ∷ []) x ≡ true) × (wish m (stage_at s) x ≡ Some h) =
+          taken_gives m (stage_at s) (among (a ∷ [])) h y in
           let ax : a ≡ g.0 = eqb-true a g.0 (sym (or-false (a == g.0)) ∙ g.2) in
           let ha : home m a ≡ Some h = sym w ∙ subst (λ z. wish m (stage_at s) z ≡ Some h) (sym ax) g.3 in
-          let q_known : q < m.people = ask.known q (subst (λ z. among z q ≡ true) (sym ask.split) (among_more a (ask.behind ++ ask.fresh) q (among_left ask.behind ask.fresh q i))) in
+          let q_known : q < m.people =
+          ask.known q
+          (subst (λ z. among z q ≡ true) (sym ask.split)
+          (among_more a (ask.behind ++ ask.fresh) q (among_left ask.behind ask.fresh q i))) in
           let qa : q ≡ a = ask.fits.market.homes_differ q a h q_known (ask.known a in_line) e ha in
-          both_ways (among (ask.behind ++ ask.fresh) a) (a_once s a ask (home m a) w) (subst (λ z. among (ask.behind ++ ask.fresh) z ≡ true) qa (among_left ask.behind ask.fresh q i)))
+          both_ways (among (ask.behind ++ ask.fresh) a) (a_once s a ask (home m a) w)
+          (subst (λ z. among (ask.behind ++ ask.fresh) z ≡ true) qa (among_left ask.behind ask.fresh q i)))
 
       points : (o : Option ℕ) → home m a ≡ o → successor m (stage_at s) a ≡ a
       points None e = successor_at m (stage_at s) a None (w ∙ e)
-      points (Some h) e = successor_at m (stage_at s) a (Some h) (w ∙ e) ∙ home_holder m ask.fits.market (stage_at s) a h (ask.known a in_line) e in_line
+      points (Some h) e = successor_at m (stage_at s) a (Some h) (w ∙ e) ∙ home_holder m ask.fits.market
+          (stage_at s) a h (ask.known a in_line) e in_line
 
       one : (p : ℕ) → among (a ∷ []) p ≡ true → among s.line p ≡ true
       one p h = subst (λ z. among s.line z ≡ true) (eqb-true a p (sym (or-false (a == p)) ∙ h)) in_line
@@ -300,14 +302,16 @@ module _ (m : Market) where
       self = ring_trade m (stage_at s) a [] (λ p h. ask.known p (one p h)) one tt (points (home m a) refl)
 
   -- the front takes a vacant room
-  pub vacant_onward : (s : State) (a v : ℕ) → Asks m a s → wish m (stage_at s) a ≡ Some v → IsVacant m (stage_at s) v → Onward m s (granted s a (Some v))
+  pub vacant_onward : (s : State) (a v : ℕ) → Asks m a s → wish m (stage_at s) a ≡ Some v → IsVacant m (stage_at s) v
+      → Onward m s (granted s a (Some v))
   vacant_onward s a v ask w none = record {
     consistent = front_consistent s a ask (Some v) w free;
     fewer = front_fewer s a ask (Some v) w;
     turns = front_turns s a ask (Some v) w;
     settles = λ f st. record {
       served = front_served s a ask (Some v) w f st;
-      leads = head_first m ask.fits.market (stage_at s) a ask.behind v f (λ p h. ask.known p (chain p h)) chain apart ask.waits is_first w none
+      leads = head_first m ask.fits.market (stage_at s) a ask.behind v f (λ p h. ask.known p (chain p h)) chain apart
+          ask.waits is_first w none
           (front_given s a ask (Some v) w f st ∙ sym w)
           (subst (λ z. Leads m f z) (front_stage s a ask (Some v) w ∙ ap (leave m (stage_at s)) one) st.leads);
     };
@@ -320,16 +324,24 @@ module _ (m : Market) where
       chain p h = subst (λ z. among z p ≡ true) (sym ask.split) (among_left (a ∷ ask.behind) ask.fresh p h)
 
       apart : among ask.behind a ≡ false
-      apart = false_from_ne_true (among ask.behind a) (λ y. both_ways (among (ask.behind ++ ask.fresh) a) (a_once s a ask (Some v) w) (among_left ask.behind ask.fresh a y))
+      apart = false_from_ne_true (among ask.behind a)
+          (λ y. both_ways (among (ask.behind ++ ask.fresh) a) (a_once s a ask (Some v) w)
+          (among_left ask.behind ask.fresh a y))
 
       free : (q h : ℕ) → among ask.behind q ≡ true → home m q ≡ Some h → taken m (stage_at s) (among (a ∷ [])) h ≡ false
       free q h i e = false_from_ne_true (taken m (stage_at s) (among (a ∷ [])) h) (λ y.
-          let g : (x : ℕ) × (x < m.people) × (among (a ∷ []) x ≡ true) × (wish m (stage_at s) x ≡ Some h) = taken_gives m (stage_at s) (among (a ∷ [])) h y in
+          let g : (x : ℕ) × (x < m.people) × (among (a ∷ []) x ≡ true) × (wish m (stage_at s) x ≡ Some h) =
+          taken_gives m (stage_at s) (among (a ∷ [])) h y in
           let ax : a ≡ g.0 = eqb-true a g.0 (sym (or-false (a == g.0)) ∙ g.2) in
           let z : Some v ≡ Some h = sym w ∙ subst (λ z. wish m (stage_at s) z ≡ Some h) (sym ax) g.3 in
           let vh : v ≡ h = cc in
           let q_in : among s.line q ≡ true = chain q (among_more a ask.behind q i) in
-          both_ways (among s.line q) (none q (subst (λ x. tenant m x ≡ Some q) (sym vh) (tenant_at m ask.fits.market q h (ask.known q q_in) e))) q_in)
+          both_ways (among s.line q)
+          (none q (subst (λ x. tenant m x ≡ Some q) (sym vh)
+          (tenant_at m ask.fits.market q h (ask.known q q_in) e))) q_in)
 
       is_first : first m (stage_at s) ≡ last_of a ask.behind
-      is_first = first_least (stage_at s) (last_of a ask.behind) (ask.known (last_of a ask.behind) (chain (last_of a ask.behind) (among_last a ask.behind))) (chain (last_of a ask.behind) (among_last a ask.behind)) ask.least
+      is_first =
+          first_least (stage_at s) (last_of a ask.behind)
+          (ask.known (last_of a ask.behind) (chain (last_of a ask.behind) (among_last a ask.behind)))
+          (chain (last_of a ask.behind) (among_last a ask.behind)) ask.least

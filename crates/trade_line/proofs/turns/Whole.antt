@@ -1,7 +1,9 @@
 -- A whole run: its start and its end.
 use Rattle.trade_line.proofs.askers.Lines.{among_none}
 use Rattle.trade_line.proofs.counts.Asked.{asked_none}
-use Rattle.std.proofs.Common.{◌≡◌, ℕ, zero, suc, ◌+◌, ◌<◌, ◌≤◌, true, false, not, ◌&&◌, ◌==◌, List, [], ◌∷◌, length, replicate, None, get_or, refl, sym, ap, ◌∙◌, subst, inl, inr, arith, ltb, ltb-true, lt-ltb, le-ltb, eqb-true, eq-eqb}
+use Rattle.std.proofs.Common.{◌≡◌, ℕ, zero, suc, ◌+◌, ◌<◌, ◌≤◌, true, false, not, ◌&&◌, ◌==◌, List, [], ◌∷◌, length}
+use Rattle.std.proofs.Common.{replicate, None, get_or, refl, sym, ap, ◌∙◌, subst, inl, inr, arith, ltb, ltb-true}
+use Rattle.std.proofs.Common.{lt-ltb, le-ltb, eqb-true, eq-eqb}
 use Rattle.std.specs.List.{range_with_len}
 use Rattle.std.proofs.lemmas.List.FromFn.{length-range_with_len, fill_by_all}
 use Rattle.std.proofs.lemmas.List.{get_or_past, get_or-replicate, length-replicate}
@@ -27,7 +29,8 @@ pub range_has : (a n p : ℕ) → a ≤ p → p < a + n → among (range_with_le
 range_has a zero p l h = absurd (omega arith)
 range_has a (suc n) p l h =
     elim (cases_lt a p) [
-      | inl b ↦ or_right (a == p) (among (range_with_len (a + 1) n) p) (range_has (a + 1) n p (omega arith) (omega arith))
+      | inl b ↦ or_right (a == p) (among (range_with_len (a + 1) n) p)
+          (range_has (a + 1) n p (omega arith) (omega arith))
       | inr b ↦ or_left (a == p) (among (range_with_len (a + 1) n) p) (eq-eqb a p (omega arith))
     ]
 
@@ -36,13 +39,17 @@ range_within a zero p h = absurd (both_ways false refl h)
 range_within a (suc n) p h =
     elim (or_cases (a == p) (among (range_with_len (a + 1) n) p) h) [
       | inl e ↦ let z : a ≡ p = eqb-true a p e in (omega arith, omega arith)
-      | inr i ↦ let r : (a + 1 ≤ p) × (p < (a + 1) + n) = range_within (a + 1) n p i in (omega (arith, r.0), omega (arith, r.1))
+      | inr i ↦ let r : (a + 1 ≤ p) × (p < (a + 1) + n) = range_within (a + 1) n p i in
+          (omega (arith, r.0), omega (arith, r.1))
     ]
 
 pub range_once : (a n : ℕ) → Once (range_with_len a n)
 range_once a zero = tt
-range_once a (suc n) =
-    (false_from_ne_true (among (range_with_len (a + 1) n) a) (λ h. let r : (a + 1 ≤ a) × (a < (a + 1) + n) = range_within (a + 1) n a h in absurd (omega (arith, r.0))), range_once (a + 1) n)
+range_once a (suc n) = (
+  false_from_ne_true (among (range_with_len (a + 1) n) a) (λ h. let r : (a + 1 ≤ a) × (a < (a + 1) + n) =
+      range_within (a + 1) n a h in absurd (omega (arith, r.0))),
+  range_once (a + 1) n,
+)
 
 range_ascends_from : (b a n : ℕ) → b < a → AscendsFrom b (range_with_len a n)
 range_ascends_from b a zero h = tt
@@ -58,23 +65,29 @@ all_same (suc n) x zero = refl
 all_same (suc n) x (suc i) = all_same n x i
 
 module _ (m : Market) where
-  start_stage : (s : State) → s.line ≡ range_with_len 0 m.people → s.remaining ≡ replicate m.rooms true → stage_at s ≡ start m
+  start_stage : (s : State) → s.line ≡ range_with_len 0 m.people → s.remaining ≡ replicate m.rooms true
+      → stage_at s ≡ start m
   unfolding start
   start_stage s le ve = same_stage (stage_at s) (start m) people rooms
     where
       people : (p : ℕ) → among s.line p ≡ ltb p m.people
       people p = one_truth (among s.line p) (ltb p m.people)
-          (λ h. let r : (0 ≤ p) × (p < 0 + m.people) = range_within 0 m.people p (subst (λ z. among z p ≡ true) le h) in lt-ltb p m.people (omega (arith, r.1)))
-          (λ h. let l : p < m.people = ltb-true p m.people h in subst (λ z. among z p ≡ true) (sym le) (range_has 0 m.people p (omega arith) (omega arith)))
+          (λ h. let r : (0 ≤ p) × (p < 0 + m.people) = range_within 0 m.people p (subst (λ z. among z p ≡ true) le h) in
+          lt-ltb p m.people (omega (arith, r.1)))
+          (λ h. let l : p < m.people = ltb-true p m.people h in
+          subst (λ z. among z p ≡ true) (sym le) (range_has 0 m.people p (omega arith) (omega arith)))
 
       rooms : (r : ℕ) → get_or s.remaining r false ≡ ltb r m.rooms
       rooms r =
           elim (cases_lt r m.rooms) [
             | inl l ↦ ap (λ z. get_or z r false) ve ∙ get_or-replicate m.rooms r true false l ∙ sym (lt-ltb r m.rooms l)
-            | inr l ↦ get_or_past s.remaining r false (let e : length s.remaining ≡ m.rooms = ap length ve ∙ length-replicate m.rooms true in omega arith) ∙ sym (le-ltb r m.rooms l)
+            | inr l ↦ get_or_past s.remaining r false (let e : length s.remaining ≡ m.rooms = ap length ve
+                ∙ length-replicate m.rooms true in omega arith) ∙ sym (le-ltb r m.rooms l)
           ]
 
-  pub underway_start : IsMarket m → (s : State) (c : List ℕ) → s.line ≡ range_with_len 0 m.people → IsFresh s.asked s.remaining s.given c → length s.asked ≡ m.people → length s.remaining ≡ m.rooms → Underway m s 0
+  pub underway_start : IsMarket m → (s : State) (c : List ℕ) → s.line ≡ range_with_len 0 m.people
+      → IsFresh s.asked s.remaining s.given c → length s.asked ≡ m.people → length s.remaining ≡ m.rooms
+      → Underway m s 0
   underway_start ok s c le fresh ae ve = record {
     consistent = record {
       fits = record { market = ok; asked_len = ae; remaining_len = ve; given_len = fresh.given_len ∙ ae };
@@ -88,18 +101,24 @@ module _ (m : Market) where
         least = tt;
         ascends = subst Ascends (sym le) (range_ascends 0 m.people);
         once = subst Once (sym le) (range_once 0 m.people);
-        known = λ p h. (let r : (0 ≤ p) × (p < 0 + m.people) = range_within 0 m.people p (subst (λ z. among z p ≡ true) le h) in omega (arith, r.1));
+        known = λ p h.
+            (let r : (0 ≤ p) × (p < 0 + m.people) = range_within 0 m.people p (subst (λ z. among z p ≡ true) le h) in
+            omega (arith, r.1));
       };
     };
-    settles = λ f st. subst (λ z. Leads m f z) (start_stage s le (fresh.all_remain ∙ ap (λ n. replicate n true) ve)) st.leads;
+    settles =
+        λ f st. subst (λ z. Leads m f z) (start_stage s le (fresh.all_remain ∙ ap (λ n. replicate n true) ve)) st.leads;
     turns = (
         let a : length s.line ≡ m.people = ap length le ∙ length-range_with_len 0 m.people in
         let b : count_below m.people (λ p. is_tenant m p && not (get_or s.asked p false)) ≤ tenant_count m =
-        count_le m.people (λ p. is_tenant m p && not (get_or s.asked p false)) (is_tenant m) (λ y h. (and_parts (is_tenant m y) (not (get_or s.asked y false)) h).0) in
+        count_le m.people (λ p. is_tenant m p && not (get_or s.asked p false)) (is_tenant m)
+        (λ y h. (and_parts (is_tenant m y) (not (get_or s.asked y false)) h).0) in
         omega arith);
     at_least = (
         let a : length s.line ≡ m.people = ap length le ∙ length-range_with_len 0 m.people in
-        let b : asked_in s.asked s.line ≡ 0 = asked_none s.asked s.line (λ p h. ap (λ z. get_or z p false) fresh.none_asked ∙ all_same (length s.asked) false p) in
+        let b : asked_in s.asked s.line ≡ 0 =
+        asked_none s.asked s.line
+        (λ p h. ap (λ z. get_or z p false) fresh.none_asked ∙ all_same (length s.asked) false p) in
         omega arith);
     tenants_few = count_most m.people (is_tenant m);
   }
@@ -107,7 +126,8 @@ module _ (m : Market) where
   pub underway_end : (s : State) (asks : ℕ) → Underway m s asks → front_of s.line ≡ None → s.given ≡ ttc m
   unfolding ttc
   underway_end s asks u e =
-      fill_by_all (gets m) s.given m.people None u.consistent.fits.given_len (λ k l. leads_gets m (given_to s) (u.settles (given_to s) ended) k l)
+      fill_by_all (gets m) s.given m.people None u.consistent.fits.given_len
+      (λ k l. leads_gets m (given_to s) (u.settles (given_to s) ended) k l)
     where
       ended : Settles m s.line s.remaining s.given (given_to s)
       ended = record {

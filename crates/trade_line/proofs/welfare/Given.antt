@@ -14,18 +14,23 @@ module _ (m : Market) (ok : IsMarket m) where
   given_gets p l = get_or-map-range_with_len (gets m) 0 m.people p p None l (zero-add p)
 
   pub given_rational : IsIndividuallyRational m (given_in (ttc m))
-  given_rational p l = subst (λ z. rank m p z ≤ rank m p (get_or m.homes p None)) (sym (given_gets p l)) (gets_rational m ok p l)
+  given_rational p l = subst (λ z. rank m p z ≤ rank m p (get_or m.homes p None)) (sym (given_gets p l))
+      (gets_rational m ok p l)
 
   pub given_assignment : IsAssignment m (given_in (ttc m))
   given_assignment = record {
     known = λ p r l e. (gets_assignment m ok).known p r l (sym (given_gets p l) ∙ e);
-    differ = λ p q r lp lq ep eq. (gets_assignment m ok).differ p q r lp lq (sym (given_gets p lp) ∙ ep) (sym (given_gets q lq) ∙ eq);
+    differ = λ p q r lp lq ep eq. (gets_assignment m ok).differ p q r lp lq (sym (given_gets p lp) ∙ ep)
+        (sym (given_gets q lq) ∙ eq);
   }
 
   pub given_efficient : IsEfficient m (given_in (ttc m))
   given_efficient a ia better p l =
-      gets_efficient m ok a ia (λ q k. subst (λ z. rank m q (a q) ≤ rank m q z) (given_gets q k) (better q k)) p l ∙ sym (given_gets p l)
+      gets_efficient m ok a ia (λ q k. subst (λ z. rank m q (a q) ≤ rank m q z) (given_gets q k) (better q k)) p l
+      ∙ sym (given_gets p l)
 
   pub given_apart : HasNoBetterTradeApart m (given_in (ttc m))
   given_apart group a tr better p gp =
-      gets_apart m ok group a tr (λ q k. subst (λ z. rank m q (a q) ≤ rank m q z) (given_gets q (tr.people q k)) (better q k)) p gp ∙ sym (given_gets p (tr.people p gp))
+      gets_apart m ok group a tr
+      (λ q k. subst (λ z. rank m q (a q) ≤ rank m q z) (given_gets q (tr.people q k)) (better q k)) p gp
+      ∙ sym (given_gets p (tr.people p gp))

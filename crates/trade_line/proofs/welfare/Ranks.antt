@@ -1,5 +1,7 @@
 -- Ranks, and that nothing available ranks better than the wish.
-use Rattle.std.proofs.Common.{◌≡◌, ℕ, suc, ◌+◌, ◌<◌, ◌≤◌, Bool, true, false, cond, ◌==◌, ◌≢◌, List, [], ◌∷◌, length, Option, Some, None, is_none, find, All, refl, sym, ap, ◌∙◌, subst, inl, inr, arith, eqb-true, eq-eqb, ne_eqb}
+use Rattle.std.proofs.Common.{◌≡◌, ℕ, suc, ◌+◌, ◌<◌, ◌≤◌, Bool, true, false, cond, ◌==◌, ◌≢◌, List, [], ◌∷◌, length}
+use Rattle.std.proofs.Common.{Option, Some, None, is_none, find, All, refl, sym, ap, ◌∙◌, subst, inl, inr, arith}
+use Rattle.std.proofs.Common.{eqb-true, eq-eqb, ne_eqb}
 use Rattle.std.proofs.lemmas.Bool.{cases_Bool, or_cases, or_left, or_right, both_ways, cond-true, cond-false}
 use Rattle.trade_line.specs.Below.{or_else}
 use Rattle.trade_line.specs.Market.{Market, IsMarket, home, list_of, is_room}
@@ -13,7 +15,10 @@ place_lt x [] h = absurd (both_ways false refl h)
 place_lt x (y ∷ ys) h =
     elim (cases_Bool (y == x)) [
       | inl t ↦ rw t (omega arith)
-      | inr f ↦ rw f (let ih : place x ys < length ys = place_lt x ys (elim (or_cases (y == x) (among ys x) h) [ inl t ↦ clash (y == x) t f | inr i ↦ i ]) in omega arith)
+      | inr f ↦ rw f
+          (let ih : place x ys < length ys =
+          place_lt x ys (elim (or_cases (y == x) (among ys x) h) [ inl t ↦ clash (y == x) t f | inr i ↦ i ]) in
+          omega arith)
     ]
 
 pub find_among : (q : ℕ → Bool) (xs : List ℕ) (y : ℕ) → find q xs ≡ Some y → among xs y ≡ true
@@ -39,7 +44,8 @@ find_none q (z ∷ zs) e r h =
     ]
 
 -- what is found comes before all others that pass
-pub find_first : (q : ℕ → Bool) (xs : List ℕ) (y r : ℕ) → find q xs ≡ Some y → q r ≡ true → among xs r ≡ true → place r xs ≤ place y xs → r ≡ y
+pub find_first : (q : ℕ → Bool) (xs : List ℕ) (y r : ℕ) → find q xs ≡ Some y → q r ≡ true → among xs r ≡ true
+    → place r xs ≤ place y xs → r ≡ y
 find_first q [] y r e t h le = absurd (both_ways false refl h)
 find_first q (z ∷ zs) y r e t h le =
     elim (cases_Bool (q z)) [
@@ -60,7 +66,8 @@ find_first q (z ∷ zs) y r e t h le =
           let ny : (z == y) ≡ false = ne_eqb z y (λ x. both_ways (q z) qz (subst (λ v. q v ≡ true) (sym x) qy)) in
           let pr : place r (z ∷ zs) ≡ suc (place r zs) = cond-false (z == r) 0 (suc (place r zs)) nr in
           let py : place y (z ∷ zs) ≡ suc (place y zs) = cond-false (z == y) 0 (suc (place y zs)) ny in
-          find_first q zs y r e2 t (elim (or_cases (z == r) (among zs r) h) [ inl u ↦ clash (z == r) u nr | inr i ↦ i ]) (omega arith)
+          find_first q zs y r e2 t (elim (or_cases (z == r) (among zs r) h) [ inl u ↦ clash (z == r) u nr | inr i ↦ i ])
+          (omega arith)
     ]
 
 pub not_among : (xs : List ℕ) (r : ℕ) → All (λ x. x ≢ r) xs → among xs r ≡ false
@@ -71,10 +78,15 @@ not_among (x ∷ xs) r h =
 
 module _ (m : Market) (ok : IsMarket m) where
   pub rank_listed : (p x : ℕ) → among (list_of m p) x ≡ true → rank m p (Some x) ≡ place x (list_of m p)
-  rank_listed p x h = cond-true (among (list_of m p) x) (place x (list_of m p)) (cond (is_room x (home m p)) (length (list_of m p)) (length (list_of m p) + 1)) h
+  rank_listed p x h =
+      cond-true (among (list_of m p) x) (place x (list_of m p))
+      (cond (is_room x (home m p)) (length (list_of m p)) (length (list_of m p) + 1)) h
 
-  pub rank_unlisted : (p x : ℕ) → among (list_of m p) x ≡ false → rank m p (Some x) ≡ cond (is_room x (home m p)) (length (list_of m p)) (length (list_of m p) + 1)
-  rank_unlisted p x h = cond-false (among (list_of m p) x) (place x (list_of m p)) (cond (is_room x (home m p)) (length (list_of m p)) (length (list_of m p) + 1)) h
+  pub rank_unlisted : (p x : ℕ) → among (list_of m p) x ≡ false → rank m p (Some x) ≡ cond (is_room x (home m p))
+      (length (list_of m p)) (length (list_of m p) + 1)
+  rank_unlisted p x h =
+      cond-false (among (list_of m p) x) (place x (list_of m p))
+      (cond (is_room x (home m p)) (length (list_of m p)) (length (list_of m p) + 1)) h
 
   pub rank_home : (p : ℕ) → p < m.people → rank m p (home m p) ≡ length (list_of m p)
   rank_home p l = by_home (home m p) refl
@@ -83,20 +95,24 @@ module _ (m : Market) (ok : IsMarket m) where
       by_home None e = cond-true (is_none (home m p)) (length (list_of m p)) (length (list_of m p) + 1) (ap is_none e)
       by_home (Some h) e =
           rank_unlisted p h (not_among (list_of m p) h (ok.own_unlisted p h l e))
-          ∙ cond-true (is_room h (home m p)) (length (list_of m p)) (length (list_of m p) + 1) (is_room_from h (home m p) e)
+          ∙ cond-true (is_room h (home m p)) (length (list_of m p)) (length (list_of m p) + 1)
+          (is_room_from h (home m p) e)
 
   -- nothing available ranks better than the wish
-  pub wish_is_best : (s : Stage) (p : ℕ) → p < m.people → (x : Option ℕ) → ((r : ℕ) → x ≡ Some r → s.rooms r ≡ true) → rank m p x ≤ rank m p (wish m s p) → x ≡ wish m s p
+  pub wish_is_best : (s : Stage) (p : ℕ) → p < m.people → (x : Option ℕ) → ((r : ℕ) → x ≡ Some r → s.rooms r ≡ true)
+      → rank m p x ≤ rank m p (wish m s p) → x ≡ wish m s p
   unfolding wish
   wish_is_best s p l x can le = by_found (find s.rooms (list_of m p)) refl le
     where
-      listed : (r : ℕ) → x ≡ Some r → (y : ℕ) → find s.rooms (list_of m p) ≡ Some y → rank m p x ≤ rank m p (Some y) → among (list_of m p) r ≡ true → x ≡ Some y
+      listed : (r : ℕ) → x ≡ Some r → (y : ℕ) → find s.rooms (list_of m p) ≡ Some y → rank m p x ≤ rank m p (Some y)
+          → among (list_of m p) r ≡ true → x ≡ Some y
       listed r e y f le i =
           let ry : rank m p (Some y) ≡ place y (list_of m p) = rank_listed p y (find_among s.rooms (list_of m p) y f) in
           let rx : rank m p x ≡ place r (list_of m p) = ap (rank m p) e ∙ rank_listed p r i in
           e ∙ ap Some (find_first s.rooms (list_of m p) y r f (can r e) i (omega arith))
 
-      by_found : (o : Option ℕ) → find s.rooms (list_of m p) ≡ o → rank m p x ≤ rank m p (or_else o (home m p)) → x ≡ or_else o (home m p)
+      by_found : (o : Option ℕ) → find s.rooms (list_of m p) ≡ o → rank m p x ≤ rank m p (or_else o (home m p))
+          → x ≡ or_else o (home m p)
       by_found (Some y) f le = by_room x refl
         where
           ry : rank m p (Some y) ≡ place y (list_of m p)
@@ -109,17 +125,28 @@ module _ (m : Market) (ok : IsMarket m) where
           by_room None e =
               let rx : rank m p x ≡ rank m p None = ap (rank m p) e in
               elim (cases_Bool (is_none (home m p))) [
-                | inl t ↦ let rn : rank m p None ≡ length (list_of m p) = cond-true (is_none (home m p)) (length (list_of m p)) (length (list_of m p) + 1) t in absurd (omega (arith, py, ry))
-                | inr t ↦ let rn : rank m p None ≡ length (list_of m p) + 1 = cond-false (is_none (home m p)) (length (list_of m p)) (length (list_of m p) + 1) t in absurd (omega (arith, py, ry))
+                | inl t ↦ let rn : rank m p None ≡ length (list_of m p) =
+                    cond-true (is_none (home m p)) (length (list_of m p)) (length (list_of m p) + 1) t in
+                    absurd (omega (arith, py, ry))
+                | inr t ↦ let rn : rank m p None ≡ length (list_of m p) + 1 =
+                    cond-false (is_none (home m p)) (length (list_of m p)) (length (list_of m p) + 1) t in
+                    absurd (omega (arith, py, ry))
               ]
           by_room (Some r) e =
               elim (cases_Bool (among (list_of m p) r)) [
                 | inl i ↦ listed r e y f le i
                 | inr n ↦
-                    let rx : rank m p x ≡ cond (is_room r (home m p)) (length (list_of m p)) (length (list_of m p) + 1) = ap (rank m p) e ∙ rank_unlisted p r n in
+                    let rx : rank m p x ≡ cond (is_room r (home m p)) (length (list_of m p))
+                    (length (list_of m p) + 1) = ap (rank m p) e ∙ rank_unlisted p r n in
                     elim (cases_Bool (is_room r (home m p))) [
-                      | inl t ↦ let rt : cond (is_room r (home m p)) (length (list_of m p)) (length (list_of m p) + 1) ≡ length (list_of m p) = cond-true (is_room r (home m p)) (length (list_of m p)) (length (list_of m p) + 1) t in absurd (omega (arith, py, ry))
-                      | inr t ↦ let rt : cond (is_room r (home m p)) (length (list_of m p)) (length (list_of m p) + 1) ≡ length (list_of m p) + 1 = cond-false (is_room r (home m p)) (length (list_of m p)) (length (list_of m p) + 1) t in absurd (omega (arith, py, ry))
+                      | inl t ↦ let rt : cond (is_room r (home m p)) (length (list_of m p))
+                          (length (list_of m p) + 1) ≡ length (list_of m p) =
+                          cond-true (is_room r (home m p)) (length (list_of m p)) (length (list_of m p) + 1) t in
+                          absurd (omega (arith, py, ry))
+                      | inr t ↦ let rt : cond (is_room r (home m p)) (length (list_of m p))
+                          (length (list_of m p) + 1) ≡ length (list_of m p) + 1 =
+                          cond-false (is_room r (home m p)) (length (list_of m p)) (length (list_of m p) + 1) t in
+                          absurd (omega (arith, py, ry))
                     ]
               ]
       by_found None f le = by_room x refl
@@ -136,16 +163,22 @@ module _ (m : Market) (ok : IsMarket m) where
               elim (cases_Bool (is_none (home m p))) [
                 | inl t ↦ e ∙ none_is (home m p) t
                 | inr t ↦
-                    let rn : rank m p x ≡ length (list_of m p) + 1 = ap (rank m p) e ∙ cond-false (is_none (home m p)) (length (list_of m p)) (length (list_of m p) + 1) t in
+                    let rn : rank m p x ≡ length (list_of m p) + 1 =
+                    ap (rank m p) e ∙ cond-false (is_none (home m p)) (length (list_of m p))
+                    (length (list_of m p) + 1) t in
                     absurd (omega (arith, rh))
               ]
           by_room (Some r) e =
               elim (cases_Bool (among (list_of m p) r)) [
                 | inl i ↦ clash (s.rooms r) (can r e) (find_none s.rooms (list_of m p) f r i)
                 | inr n ↦
-                    let rx : rank m p x ≡ cond (is_room r (home m p)) (length (list_of m p)) (length (list_of m p) + 1) = ap (rank m p) e ∙ rank_unlisted p r n in
+                    let rx : rank m p x ≡ cond (is_room r (home m p)) (length (list_of m p))
+                    (length (list_of m p) + 1) = ap (rank m p) e ∙ rank_unlisted p r n in
                     elim (cases_Bool (is_room r (home m p))) [
                       | inl t ↦ e ∙ sym (is_room_gives r (home m p) t)
-                      | inr t ↦ let rt : cond (is_room r (home m p)) (length (list_of m p)) (length (list_of m p) + 1) ≡ length (list_of m p) + 1 = cond-false (is_room r (home m p)) (length (list_of m p)) (length (list_of m p) + 1) t in absurd (omega (arith, rh))
+                      | inr t ↦ let rt : cond (is_room r (home m p)) (length (list_of m p))
+                          (length (list_of m p) + 1) ≡ length (list_of m p) + 1 =
+                          cond-false (is_room r (home m p)) (length (list_of m p)) (length (list_of m p) + 1) t in
+                          absurd (omega (arith, rh))
                     ]
               ]

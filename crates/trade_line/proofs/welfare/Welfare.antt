@@ -1,7 +1,9 @@
 -- The result of removals from a stage is rational, an assignment, efficient, and leaves no better trade
 -- apart.
-use Rattle.std.proofs.Common.{◌≡◌, ℕ, zero, suc, ◌+◌, ◌-◌, ◌<◌, ◌≤◌, ◌⊎◌, Bool, true, false, not, ◌&&◌, Option, Some, None, find, refl, sym, ap, ◌∙◌, subst, inl, inr, arith, lt-ltb, ltb-true}
-use Rattle.std.proofs.lemmas.Bool.{cases_Bool, cases_order, and_parts, and_from, false_from_ne_true, both_ways, not-true, not_from_false}
+use Rattle.std.proofs.Common.{◌≡◌, ℕ, zero, suc, ◌+◌, ◌-◌, ◌<◌, ◌≤◌, ◌⊎◌, Bool, true, false, not, ◌&&◌, Option, Some}
+use Rattle.std.proofs.Common.{None, find, refl, sym, ap, ◌∙◌, subst, inl, inr, arith, lt-ltb, ltb-true}
+use Rattle.std.proofs.lemmas.Bool.{cases_Bool, cases_order, and_parts, and_from, false_from_ne_true, both_ways}
+use Rattle.std.proofs.lemmas.Bool.{not-true, not_from_false}
 use Rattle.std.specs.Fn.{iterate}
 use Rattle.trade_line.specs.Below.{or_else}
 use Rattle.trade_line.specs.Cycles.{IsStageOf}
@@ -34,7 +36,8 @@ module _ (m : Market) (ok : IsMarket m) where
           let i : among (list_of m p) y ≡ true = find_among s.rooms (list_of m p) y f in
           omega (arith, rank_listed m ok p y i, place_lt y (list_of m p) i, rank_home m ok p l)
 
-  pub rational_from : (f : ℕ → Option ℕ) {s : Stage} → Leads m f s → (p : ℕ) → p < m.people → s.people p ≡ true → rank m p (f p) ≤ rank m p (home m p)
+  pub rational_from : (f : ℕ → Option ℕ) {s : Stage} → Leads m f s → (p : ℕ) → p < m.people → s.people p ≡ true
+      → rank m p (f p) ≤ rank m p (home m p)
   unfolding leave
   rational_from f {s} (done none) p l h = clash (s.people p) h (none p)
   rational_from f {s} (trade k tk fk d) p l h =
@@ -54,10 +57,12 @@ module _ (m : Market) (ok : IsMarket m) where
       elim (cases_Bool (k p)) [
         | inl y ↦ at_k p y ∙ sym (fk p y)
         | inr n ↦ efficient_from f d a
-            (λ p q r hp hq ep eq. differ p q r (and_parts (s.people p) (not (k p)) hp).0 (and_parts (s.people q) (not (k q)) hq).0 ep eq)
+            (λ p q r hp hq ep eq. differ p q r (and_parts (s.people p) (not (k p)) hp).0
+            (and_parts (s.people q) (not (k q)) hq).0 ep eq)
             (λ p r hp ep.
             (let b : (s.people p ≡ true) × (not (k p) ≡ true) = and_parts (s.people p) (not (k p)) hp in
-            and_from (s.rooms r) (not (taken m s k r)) (can p r b.0 ep) (not_from_false (taken m s k r) (false_from_ne_true (taken m s k r) (λ t.
+            and_from (s.rooms r) (not (taken m s k r)) (can p r b.0 ep)
+            (not_from_false (taken m s k r) (false_from_ne_true (taken m s k r) (λ t.
             let g : (q : ℕ) × (q < m.people) × (k q ≡ true) × (wish m s q ≡ Some r) = taken_gives m s k r t in
             let same : p ≡ g.0 = differ p g.0 r b.0 (tk.remain g.0 g.2) ep (at_k g.0 g.2 ∙ g.3) in
             both_ways (k p) (not-true (k p) b.1) (subst (λ z. k z ≡ true) (sym same) g.2))))))
@@ -68,10 +73,12 @@ module _ (m : Market) (ok : IsMarket m) where
       at_k : (p : ℕ) → k p ≡ true → a p ≡ wish m s p
       at_k p y =
           let b : (p < m.people) × (rank m p (a p) ≤ rank m p (f p)) = better p (tk.remain p y) in
-          wish_is_best m ok s p b.0 (a p) (λ r e. can p r (tk.remain p y) e) (subst (λ z. rank m p (a p) ≤ rank m p z) (fk p y) b.1)
+          wish_is_best m ok s p b.0 (a p) (λ r e. can p r (tk.remain p y) e)
+          (subst (λ z. rank m p (a p) ≤ rank m p z) (fk p y) b.1)
 
 -- two people on cycles with one successor are one
-same_before : (g : ℕ → ℕ) (fuel a b x p q : ℕ) → a + b < fuel → iterate g a x ≡ p → iterate g b x ≡ q → g p ≡ x → g q ≡ x → p ≡ q
+same_before : (g : ℕ → ℕ) (fuel a b x p q : ℕ) → a + b < fuel → iterate g a x ≡ p → iterate g b x ≡ q → g p ≡ x
+    → g q ≡ x → p ≡ q
 same_before g zero a b x p q h ep eq gp gq = absurd (omega arith)
 same_before g (suc fuel) a b x p q h ep eq gp gq =
     elim (cases_order a b) [
@@ -80,18 +87,21 @@ same_before g (suc fuel) a b x p q h ep eq gp gq =
         | inl l ↦
             let d : ℕ = b - suc a in
             let e : a + suc d ≡ b = omega arith in
-            let eq2 : iterate g d x ≡ q = ap (iterate g d) (sym gp) ∙ ap (iterate g (suc d)) (sym ep) ∙ times_sum g a (suc d) x ∙ ap (λ k. iterate g k x) e ∙ eq in
+            let eq2 : iterate g d x ≡ q = ap (iterate g d) (sym gp) ∙ ap (iterate g (suc d)) (sym ep)
+            ∙ times_sum g a (suc d) x ∙ ap (λ k. iterate g k x) e ∙ eq in
             same_before g fuel a d x p q (omega arith) ep eq2 gp gq
         | inr l ↦
             let d : ℕ = a - suc b in
             let e : b + suc d ≡ a = omega arith in
-            let ep2 : iterate g d x ≡ p = ap (iterate g d) (sym gq) ∙ ap (iterate g (suc d)) (sym eq) ∙ times_sum g b (suc d) x ∙ ap (λ k. iterate g k x) e ∙ ep in
+            let ep2 : iterate g d x ≡ p = ap (iterate g d) (sym gq) ∙ ap (iterate g (suc d)) (sym eq)
+            ∙ times_sum g b (suc d) x ∙ ap (λ k. iterate g k x) e ∙ ep in
             same_before g fuel d b x p q (omega arith) ep2 eq gp gq
       ]
     ]
 
 -- if a group is closed under g, everybody reached from it is in it already or right behind somebody
-pub reach_before : (g : ℕ → ℕ) (group : ℕ → Bool) → ((p : ℕ) → group p ≡ true → group (g p) ≡ true) → {a b : ℕ} → Reach g a b → group a ≡ true → (a ≡ b) ⊎ ((z : ℕ) × (group z ≡ true) × (g z ≡ b))
+pub reach_before : (g : ℕ → ℕ) (group : ℕ → Bool) → ((p : ℕ) → group p ≡ true → group (g p) ≡ true) → {a b : ℕ}
+    → Reach g a b → group a ≡ true → (a ≡ b) ⊎ ((z : ℕ) × (group z ≡ true) × (g z ≡ b))
 reach_before g group closed here h = inl refl
 reach_before g group closed {a} (there r) h =
     elim (reach_before g group closed r (closed a h)) [
@@ -100,11 +110,15 @@ reach_before g group closed {a} (there r) h =
     ]
 
 module _ (m : Market) (ok : IsMarket m) where
-  trade_differ : (s : Stage) (k : ℕ → Bool) → IsTrade m s k → (p q : ℕ) → k p ≡ true → k q ≡ true → successor m s p ≡ successor m s q → p ≡ q
+  trade_differ : (s : Stage) (k : ℕ → Bool) → IsTrade m s k → (p q : ℕ) → k p ≡ true → k q ≡ true
+      → successor m s p ≡ successor m s q → p ≡ q
   trade_differ s k tk p q hp hq e =
-      let a : (n : ℕ) × (iterate (successor m s) n (successor m s p) ≡ p) = reach_times (successor m s) (tk.cycle p hp) in
-      let b : (n : ℕ) × (iterate (successor m s) n (successor m s q) ≡ q) = reach_times (successor m s) (tk.cycle q hq) in
-      same_before (successor m s) (suc (a.0 + b.0)) a.0 b.0 (successor m s p) p q (omega arith) a.1 (ap (iterate (successor m s) b.0) e ∙ b.1) refl (sym e)
+      let a : (n : ℕ) × (iterate (successor m s) n (successor m s p) ≡ p) =
+      reach_times (successor m s) (tk.cycle p hp) in
+      let b : (n : ℕ) × (iterate (successor m s) n (successor m s q) ≡ q) =
+      reach_times (successor m s) (tk.cycle q hq) in
+      same_before (successor m s) (suc (a.0 + b.0)) a.0 b.0 (successor m s p) p q (omega arith) a.1
+      (ap (iterate (successor m s) b.0) e ∙ b.1) refl (sym e)
 
   -- the homes of those who remain also remain
   abbrev pub HomesThere : Stage → Type 0
@@ -114,7 +128,8 @@ module _ (m : Market) (ok : IsMarket m) where
   unfolding leave
   homes_stay s k tk known kept t h ht e =
       let b : (s.people t ≡ true) × (not (k t) ≡ true) = and_parts (s.people t) (not (k t)) ht in
-      and_from (s.rooms h) (not (taken m s k h)) (kept t h b.0 e) (not_from_false (taken m s k h) (false_from_ne_true (taken m s k h) (λ y.
+      and_from (s.rooms h) (not (taken m s k h)) (kept t h b.0 e)
+      (not_from_false (taken m s k h) (false_from_ne_true (taken m s k h) (λ y.
       let g : (q : ℕ) × (q < m.people) × (k q ≡ true) × (wish m s q ≡ Some h) = taken_gives m s k h y in
       let to : successor m s g.0 ≡ t = successor_at m s g.0 (Some h) g.3 ∙ home_holder m ok s t h (known t b.0) e b.0 in
       both_ways (k t) (not-true (k t) b.1) (subst (λ z. k z ≡ true) to (tk.closed g.0 g.2)))))
@@ -130,27 +145,34 @@ module _ (m : Market) (ok : IsMarket m) where
           subst (λ v. s.rooms v ≡ true) z (find_passes s.rooms (list_of m p) y f)
 
   -- what a person gets later still remains now
-  pub there_from : (f : ℕ → Option ℕ) {s : Stage} → Leads m f s → IsStageOf m s → HomesThere s → (p r : ℕ) → s.people p ≡ true → f p ≡ Some r → s.rooms r ≡ true
+  pub there_from : (f : ℕ → Option ℕ) {s : Stage} → Leads m f s → IsStageOf m s → HomesThere s → (p r : ℕ)
+      → s.people p ≡ true → f p ≡ Some r → s.rooms r ≡ true
   unfolding leave
   there_from f {s} (done none) known homes p r h e = clash (s.people p) h (none p)
   there_from f {s} (trade k tk fk d) known homes p r h e =
       elim (cases_Bool (k p)) [
         | inl y ↦ wish_there s homes p r h (sym (fk p y) ∙ e)
-        | inr n ↦ (and_parts (s.rooms r) (not (taken m s k r)) (there_from f d (leave_known m s k known) (homes_stay s k tk known homes) p r (and_from (s.people p) (not (k p)) h (not_from_false (k p) n)) e)).0
+        | inr n ↦
+            (and_parts (s.rooms r) (not (taken m s k r))
+            (there_from f d (leave_known m s k known) (homes_stay s k tk known homes) p r
+            (and_from (s.people p) (not (k p)) h (not_from_false (k p) n)) e)).0
       ]
 
-  differ_from : (f : ℕ → Option ℕ) {s : Stage} → Leads m f s → IsStageOf m s → HomesThere s → (p q r : ℕ) → s.people p ≡ true → s.people q ≡ true → f p ≡ Some r → f q ≡ Some r → p ≡ q
+  differ_from : (f : ℕ → Option ℕ) {s : Stage} → Leads m f s → IsStageOf m s → HomesThere s → (p q r : ℕ)
+      → s.people p ≡ true → s.people q ≡ true → f p ≡ Some r → f q ≡ Some r → p ≡ q
   unfolding leave
   differ_from f {s} (done none) known homes p q r hp hq ep eq = clash (s.people p) hp (none p)
   differ_from f {s} (trade k tk fk d) known homes p q r hp hq ep eq =
       elim (cases_Bool (k p)) [
         | inl yp ↦ elim (cases_Bool (k q)) [
-          | inl yq ↦ trade_differ s k tk p q yp yq (successor_at m s p (Some r) (sym (fk p yp) ∙ ep) ∙ sym (successor_at m s q (Some r) (sym (fk q yq) ∙ eq)))
+          | inl yq ↦ trade_differ s k tk p q yp yq (successor_at m s p (Some r) (sym (fk p yp) ∙ ep)
+              ∙ sym (successor_at m s q (Some r) (sym (fk q yq) ∙ eq)))
           | inr nq ↦ absurd (gone p q yp nq hq ep eq)
         ]
         | inr np ↦ elim (cases_Bool (k q)) [
           | inl yq ↦ absurd (gone q p yq np hp eq ep)
-          | inr nq ↦ differ_from f d (leave_known m s k known) (homes_stay s k tk known homes) p q r (after p hp np) (after q hq nq) ep eq
+          | inr nq ↦ differ_from f d (leave_known m s k known) (homes_stay s k tk known homes) p q r (after p hp np)
+              (after q hq nq) ep eq
         ]
       ]
     where
@@ -160,11 +182,14 @@ module _ (m : Market) (ok : IsMarket m) where
       gone : (p q : ℕ) → k p ≡ true → k q ≡ false → s.people q ≡ true → f p ≡ Some r → f q ≡ Some r → ⊥
       gone p q yp nq hq ep eq =
           let t : taken m s k r ≡ true = taken_from m s k r p (tk.known p yp) yp (sym (fk p yp) ∙ ep) in
-          let b : (s.rooms r && not (taken m s k r)) ≡ true = there_from f d (leave_known m s k known) (homes_stay s k tk known homes) q r (after q hq nq) eq in
+          let b : (s.rooms r && not (taken m s k r)) ≡ true =
+          there_from f d (leave_known m s k known) (homes_stay s k tk known homes) q r (after q hq nq) eq in
           both_ways (taken m s k r) (not-true (taken m s k r) (and_parts (s.rooms r) (not (taken m s k r)) b).1) t
 
-  apart_from : (f : ℕ → Option ℕ) {s : Stage} → Leads m f s → IsStageOf m s → HomesThere s → (group : ℕ → Bool) (a : ℕ → Option ℕ) → TradesApart m group a
-      → ((p : ℕ) → group p ≡ true → s.people p ≡ true → (q : ℕ) × (group q ≡ true) × (s.people q ≡ true) × (a p ≡ home m q))
+  apart_from : (f : ℕ → Option ℕ) {s : Stage} → Leads m f s → IsStageOf m s → HomesThere s
+      → (group : ℕ → Bool) (a : ℕ → Option ℕ) → TradesApart m group a
+      → ((p : ℕ) → group p ≡ true → s.people p ≡ true → (q : ℕ) × (group q ≡ true) × (s.people q ≡ true)
+      × (a p ≡ home m q))
       → ((p : ℕ) → group p ≡ true → rank m p (a p) ≤ rank m p (f p))
       → (p : ℕ) → group p ≡ true → s.people p ≡ true → a p ≡ f p
   unfolding leave
@@ -172,7 +197,8 @@ module _ (m : Market) (ok : IsMarket m) where
   apart_from f {s} (trade k tk fk d) known homes group a tr own better p gp h =
       elim (cases_Bool (k p)) [
         | inl y ↦ at_k p gp y ∙ sym (fk p y)
-        | inr n ↦ apart_from f d (leave_known m s k known) (homes_stay s k tk known homes) group a tr own2 better p gp (and_from (s.people p) (not (k p)) h (not_from_false (k p) n))
+        | inr n ↦ apart_from f d (leave_known m s k known) (homes_stay s k tk known homes) group a tr own2 better p gp
+            (and_from (s.people p) (not (k p)) h (not_from_false (k p) n))
       ]
     where
       both : ℕ → Bool
@@ -181,14 +207,17 @@ module _ (m : Market) (ok : IsMarket m) where
       at_k : (p : ℕ) → group p ≡ true → k p ≡ true → a p ≡ wish m s p
       at_k p gp y =
           let q : (q : ℕ) × (group q ≡ true) × (s.people q ≡ true) × (a p ≡ home m q) = own p gp (tk.remain p y) in
-          wish_is_best m ok s p (tk.known p y) (a p) (λ r e. homes q.0 r q.2 (sym q.3 ∙ e)) (subst (λ z. rank m p (a p) ≤ rank m p z) (fk p y) (better p gp))
+          wish_is_best m ok s p (tk.known p y) (a p) (λ r e. homes q.0 r q.2 (sym q.3 ∙ e))
+          (subst (λ z. rank m p (a p) ≤ rank m p z) (fk p y) (better p gp))
 
       -- the successor of a member who trades now is the one whose home it gets
-      to_own : (p : ℕ) → group p ≡ true → k p ≡ true → (group (successor m s p) ≡ true) × (a p ≡ home m (successor m s p))
+      to_own : (p : ℕ) → group p ≡ true → k p ≡ true → (group (successor m s p) ≡ true)
+          × (a p ≡ home m (successor m s p))
       to_own p gp y =
           let q : (q : ℕ) × (group q ≡ true) × (s.people q ≡ true) × (a p ≡ home m q) = own p gp (tk.remain p y) in
           let h : (h : ℕ) × (home m q.0 ≡ Some h) = tr.tenants q.0 q.1 in
-          let to : successor m s p ≡ q.0 = successor_at m s p (Some h.0) (sym (at_k p gp y) ∙ q.3 ∙ h.1) ∙ home_holder m ok s q.0 h.0 (tr.people q.0 q.1) h.1 q.2 in
+          let to : successor m s p ≡ q.0 = successor_at m s p (Some h.0) (sym (at_k p gp y) ∙ q.3 ∙ h.1)
+          ∙ home_holder m ok s q.0 h.0 (tr.people q.0 q.1) h.1 q.2 in
           (subst (λ z. group z ≡ true) (sym to) q.1, q.3 ∙ ap (home m) (sym to))
 
       both_closed : (p : ℕ) → both p ≡ true → both (successor m s p) ≡ true
@@ -204,7 +233,8 @@ module _ (m : Market) (ok : IsMarket m) where
             | inr t ↦ t
           ]
 
-      own2 : (p : ℕ) → group p ≡ true → (s.people p && not (k p)) ≡ true → (q : ℕ) × (group q ≡ true) × ((s.people q && not (k q)) ≡ true) × (a p ≡ home m q)
+      own2 : (p : ℕ) → group p ≡ true → (s.people p && not (k p)) ≡ true → (q : ℕ) × (group q ≡ true)
+          × ((s.people q && not (k q)) ≡ true) × (a p ≡ home m q)
       own2 p gp h =
           let b : (s.people p ≡ true) × (not (k p) ≡ true) = and_parts (s.people p) (not (k p)) h in
           let q : (q : ℕ) × (group q ≡ true) × (s.people q ≡ true) × (a p ≡ home m q) = own p gp b.0 in
@@ -236,8 +266,10 @@ module _ (m : Market) (ok : IsMarket m) where
 
   pub gets_assignment : IsAssignment m (gets m)
   gets_assignment = record {
-    known = λ p r l e. room_known r (there_from (gets m) (gets_leads m) (start_known m) start_homes p r (start_has_person p l) e);
-    differ = λ p q r lp lq ep eq. differ_from (gets m) (gets_leads m) (start_known m) start_homes p q r (start_has_person p lp) (start_has_person q lq) ep eq;
+    known = λ p r l e. room_known r
+        (there_from (gets m) (gets_leads m) (start_known m) start_homes p r (start_has_person p l) e);
+    differ = λ p q r lp lq ep eq. differ_from (gets m) (gets_leads m) (start_known m) start_homes p q r
+        (start_has_person p lp) (start_has_person q lq) ep eq;
   }
 
   pub gets_efficient : IsEfficient m (gets m)
@@ -251,5 +283,6 @@ module _ (m : Market) (ok : IsMarket m) where
   pub gets_apart : HasNoBetterTradeApart m (gets m)
   gets_apart group a tr better p gp =
       apart_from (gets m) (gets_leads m) (start_known m) start_homes group a tr
-      (λ p gp h. let q : (q : ℕ) × (group q ≡ true) × (a p ≡ home m q) = tr.own p gp in (q.0, q.1, start_has_person q.0 (tr.people q.0 q.1), q.2))
+      (λ p gp h. let q : (q : ℕ) × (group q ≡ true) × (a p ≡ home m q) = tr.own p gp in
+      (q.0, q.1, start_has_person q.0 (tr.people q.0 q.1), q.2))
       better p gp (start_has_person p (tr.people p gp))

@@ -8,7 +8,8 @@ pub loop-place-preserved : goal.loop-place-preserved
 loop-place-preserved g c =
     let start = g.R.Rng.stream c.args.generator.now in
     let n = c.loop-place._place in
-    let answer : (c.next_word.result, g.R.Rng.stream c.next_word.new.generator) ≡ next_u64 (stream_after n start) = c.next_word.ensures ∙ ap next_u64 c.loop-place.invariant.after in
+    let answer : (c.next_word.result, g.R.Rng.stream c.next_word.new.generator) ≡ next_u64 (stream_after n start) =
+    c.next_word.ensures ∙ ap next_u64 c.loop-place.invariant.after in
     let word = ap (λ (p : ℕ × Stream). p.0) answer in
     let left = ap (λ (p : ℕ × Stream). p.1) answer in
     record {

@@ -9,5 +9,14 @@ returns-in-Ok-into_inner c =
     let from = c.from_writer-writer.ensures in
     let plain : c.from_writer-writer.result.cfg.style ≢ style.NonNumeric = rw (from.cfg, c.new.ensures) (λ e. cc e) in
     let written = c.in-Ok.ensures.bytes from.fields from.wrote plain in
-    let text = rw (from.cfg, c.new.ensures, from.wtr, c.new-2.ensures.items, from.empty, c.as_byte_record.ensures, c.in_ok-record.ensures.fields) at written in
+    let text =
+    rw (
+      from.cfg,
+      c.new.ensures,
+      from.wtr,
+      c.new-2.ensures.items,
+      from.empty,
+      c.as_byte_record.ensures,
+      c.in_ok-record.ensures.fields,
+    ) at written in
     c.in-Ok-into_inner.ensures.ok ∙ text

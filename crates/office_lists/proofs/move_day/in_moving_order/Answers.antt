@@ -15,10 +15,14 @@ use Rattle.office_lists.proofs.move_day.in_moving_order.Goals as goal
 pub returns-clause-ordered : goal.returns-clause-ordered
 returns-clause-ordered c =
     let view : Bor Move → Move = λ row. row.now in
-    let shows : map view c.in_ok-rows.rows.items ≡ c.args.moves.now = IfOk-at_ok _ c.in_ok-rows.was (map_from_collect _ c.collect.ensures.ran (YieldsList-from_slice c.args.moves.now cc)) in
+    let shows : map view c.in_ok-rows.rows.items ≡ c.args.moves.now =
+    IfOk-at_ok _ c.in_ok-rows.was
+    (map_from_collect _ c.collect.ensures.ran (YieldsList-from_slice c.args.moves.now cc)) in
     let weak = ranks_by move_total view in
     let sorted = c.in_ok-sort_by.ensures.sorted _ weak (search (rules, answers_always)) in
     let stable = c.sort_by.ensures.stable _ weak (search (rules, answers_always)) in
     let one = arrangements_agree (on view move_cmp) (on_total view move_total) c.in_ok-rows.rows.items in
-    ap (map view) (one.one c.sort_by.new.self.items (record { same_items = c.sort_by.ensures.permutation; ascends = sorted; ties_stay = stable }))
+    ap (map view)
+    (one.one c.sort_by.new.self.items
+    (record { same_items = c.sort_by.ensures.permutation; ascends = sorted; ties_stay = stable }))
     ∙ map-ascending view move_cmp c.in_ok-rows.rows.items ∙ ap (ascending move_cmp) shows

@@ -25,4 +25,5 @@ loop-entry-preserved c =
     ∙ sym (map_more leaver_of entries c.loop-entry.entry-index entry c.loop-entry-test.true)
 
 pub returns : goal.returns
-returns c = c.loop-entry.invariant ∙ ap (map (λ entry. option_and_then (leaver c.args.entries.now) entry.2)) (take_all c.loop-entry.entry-index c.args.entries.now c.loop-entry-test.false)
+returns c = c.loop-entry.invariant ∙ ap (map (λ entry. option_and_then (leaver c.args.entries.now) entry.2))
+    (take_all c.loop-entry.entry-index c.args.entries.now c.loop-entry-test.false)

@@ -11,12 +11,16 @@ loop-at-preserved c =
     let count = c.loop-at.count in
     let end = c.args.end in
     let there : followed successors count end ≡ Some c.in-Some.here = sym c.loop-at.invariant.here ∙ c.in-Some.is in
-    let within : c.in-Some.here < length c.loop-at.waves = omega (arith, c.requires.within count c.in-Some.here there, c.loop-at.invariant.numbered.same_length) in
+    let within : c.in-Some.here < length c.loop-at.waves =
+    omega (arith, c.requires.within count c.in-Some.here there, c.loop-at.invariant.numbered.same_length) in
     record {
-      numbered = one_numbered successors end c.args.first count c.in-Some.here c.args.waves.now c.loop-at.waves c.loop-at.invariant.numbered there within;
+      numbered =
+          one_numbered successors end c.args.first count c.in-Some.here c.args.waves.now c.loop-at.waves
+          c.loop-at.invariant.numbered there within;
       here = sym (ap (λ n. followed successors n end) (add-one count) ∙ ap (option_and_then (next successors)) there);
     }
 
 pub returns : goal.returns
 returns c =
-    all_numbered c.args.successors.now c.args.end c.args.first c.loop-at.count c.args.waves.now c.loop-at.waves c.loop-at.invariant.numbered (sym c.loop-at.invariant.here ∙ none_if_never c.loop-at.at c.in_default.not-Some)
+    all_numbered c.args.successors.now c.args.end c.args.first c.loop-at.count c.args.waves.now c.loop-at.waves
+    c.loop-at.invariant.numbered (sym c.loop-at.invariant.here ∙ none_if_never c.loop-at.at c.in_default.not-Some)

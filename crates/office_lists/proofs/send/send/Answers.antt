@@ -5,11 +5,13 @@ use Rattle.std.proofs.Math.Seq.{take-add}
 use Rattle.std.proofs.lemmas.List.{length-drop, length-take}
 use Rattle.room_types.specs.Watched.{counted, is_empty_buffer}
 use Rattle.room_types.specs.Streams.{count_after}
-use Rattle.room_types.proofs.watched_bytes.Streams.{Puts-nil, Puts-none, count_after-counted, take_rest, kept_by_write, or_known, nonempty_buffer}
+use Rattle.room_types.proofs.watched_bytes.Streams.{Puts-nil, Puts-none, count_after-counted, take_rest, kept_by_write}
+use Rattle.room_types.proofs.watched_bytes.Streams.{or_known, nonempty_buffer}
 use Rattle.office_lists.proofs.send.send.Goals as goal
 
 pub loop-sent-init : goal.loop-sent-init
-loop-sent-init g c = record { within = omega arith; written = Puts-nil _; flushes = refl; failed = refl; stops = λ e. refl }
+loop-sent-init g c =
+    record { within = omega arith; written = Puts-nil _; flushes = refl; failed = refl; stops = λ e. refl }
 
 pub loop-sent-preserved : goal.loop-sent-preserved
 loop-sent-preserved g c =
@@ -23,19 +25,23 @@ loop-sent-preserved g c =
     let some : 0 < n = search (rules, tests) in
     let room : is_empty_buffer (take (length text - sent) (drop sent text)) ≡ false =
     rw rest (nonempty_buffer (drop sent text) (omega (arith, length-drop sent text))) in
-    let counts : length (take sent text) + n ≡ length (take (sent + n) text) = omega (arith, length-take sent text, length-take (sent + n) text) in
+    let counts : length (take sent text) + n ≡ length (take (sent + n) text) =
+    omega (arith, length-take sent text, length-take (sent + n) text) in
     record {
       within = all;
       written = record {
-        written = rw take-add (Appends-trans _ _ _ _ _ c.loop-sent.invariant.written.written (rw rest at clauses.bytes));
+        written =
+            rw take-add (Appends-trans _ _ _ _ _ c.loop-sent.invariant.written.written (rw rest at clauses.bytes));
         taken = clauses.taken ∙ ap (λ t. counted t n) c.loop-sent.invariant.written.taken
             ∙ count_after-counted _ (length (take sent text)) n some ∙ ap (count_after _) counts;
       };
       flushes = clauses.flushes ∙ c.loop-sent.invariant.flushes;
       failed = clauses.failed ∙ kept_by_write _ _ n some ∙ c.loop-sent.invariant.failed;
-      stops = λ e. clauses.wasted ∙ or_known _ _ room ∙ or_known _ _ (c.loop-sent.invariant.failed ∙ e) ∙ c.loop-sent.invariant.stops e;
+      stops = λ e. clauses.wasted ∙ or_known _ _ room ∙ or_known _ _ (c.loop-sent.invariant.failed ∙ e)
+          ∙ c.loop-sent.invariant.stops e;
     }
 
 pub returns-in-Ok-eq0-clause-prefix : goal.returns-in-Ok-eq0-clause-prefix
 returns-in-Ok-eq0-clause-prefix g c =
-    Puts-none _ _ _ _ _ _ c.loop-sent.invariant.written (omega arith) c.in-Ok-eq0.ensures.bytes c.in-Ok-eq0.ensures.taken (search (rules, tests))
+    Puts-none _ _ _ _ _ _ c.loop-sent.invariant.written (omega arith) c.in-Ok-eq0.ensures.bytes
+    c.in-Ok-eq0.ensures.taken (search (rules, tests))

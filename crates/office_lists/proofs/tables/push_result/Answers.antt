@@ -6,5 +6,7 @@ use Rattle.office_lists.proofs.tables.push_result.Goals as goal
 
 pub returns : goal.returns
 returns c =
-    let person : styled_text c.laid_out.result c.args.person.now ≡ left_aligned 12 c.args.person.now = ap (λ options. styled_text options c.args.person.now) c.laid_out.ensures ∙ padded-left 12 c.args.person.now (omega arith) in
+    let person : styled_text c.laid_out.result c.args.person.now ≡ left_aligned 12 c.args.person.now =
+    ap (λ options. styled_text options c.args.person.now) c.laid_out.ensures
+    ∙ padded-left 12 c.args.person.now (omega arith) in
     rw (← person) c.writeln.ensures.bytes

@@ -10,7 +10,8 @@ abbrev pub invariant-loop-row : goal.invariant-loop-row
 invariant-loop-row g l =
     let contents = g.W.Write.contents in
     record {
-      written : IsWritten (export l.fn.kind g.R.ExportRow.fields l.rows) (l.row-index + 1) l.sent (output_of contents l.fn.output) (output_of contents l.output);
+      written : IsWritten (export l.fn.kind g.R.ExportRow.fields l.rows) (l.row-index + 1) l.sent
+          (output_of contents l.fn.output) (output_of contents l.output);
       failed : watched_failed l.output ≡ watched_failed l.fn.output;
       flushes : watched_flushes l.output ≡ watched_flushes l.fn.output;
       stops : StopsAtFailure l.fn.output l.output;

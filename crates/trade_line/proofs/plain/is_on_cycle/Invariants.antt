@@ -9,5 +9,6 @@ abbrev pub invariant-loop-turn : goal.invariant-loop-turn
 invariant-loop-turn l = record {
   reached : l.at ≡ iterate (successor l.problem (remains l.stage)) l.turn l.person;
   holds : (remains l.stage).people l.at ≡ true;
-  not_yet : some_below l.turn (λ k. iterate (successor l.problem (remains l.stage)) (suc k) l.person == l.person) ≡ false;
+  not_yet : some_below l.turn
+      (λ k. iterate (successor l.problem (remains l.stage)) (suc k) l.person == l.person) ≡ false;
 }

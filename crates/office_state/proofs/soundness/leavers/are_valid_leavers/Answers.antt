@@ -11,11 +11,14 @@ pub returns-then-is_idle : goal.returns-then-is_idle
 returns-then-is_idle c =
     let office = c.args.office.now in
     as_well _
-    (λ none. subst (λ going. AreValidLeavers office.phase office.people office.withdrawn going) (sym none) (no_leavers office.phase office.people office.withdrawn))
+    (λ none. subst (λ going. AreValidLeavers office.phase office.people office.withdrawn going) (sym none)
+    (no_leavers office.phase office.people office.withdrawn))
     (λ l. l.idle_going (sym c.is_idle.ensures ∙ c.if-is_idle.true))
     (Decides-at (eqb c.len.result 0) _ (ap (λ n. eqb n 0) c.len.ensures) (empty-decides office.going))
 
 pub returns : goal.returns
 returns c =
     let office = c.args.office.now in
-    Decides-at _ _ c.are_leavers_eligible.ensures (leavers-decide office.phase office.people office.withdrawn office.going (sym c.is_idle.ensures ∙ c.if-is_idle.false))
+    Decides-at _ _ c.are_leavers_eligible.ensures
+    (leavers-decide office.phase office.people office.withdrawn office.going
+    (sym c.is_idle.ensures ∙ c.if-is_idle.false))

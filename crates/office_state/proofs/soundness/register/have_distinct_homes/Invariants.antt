@@ -9,5 +9,6 @@ invariant-loop-person l = record {
   can : (goal.iterator-loop-person).can_next l.person-iterator;
   ends : (goal.iterator-loop-person).is_finite l.person-iterator;
   fewer : length l.person-iterator ≤ length (map.entries l.office.people);
-  left : differ_from (λ p. p.home) map.empty (map.entries l.office.people) ≡ differ_from (λ p. p.home) l.seen l.person-iterator;
+  left : differ_from (λ p. p.home) map.empty (map.entries l.office.people) ≡ differ_from (λ p. p.home) l.seen
+      l.person-iterator;
 }

@@ -9,11 +9,13 @@ use Rattle.office_state.proofs.soundness.register.is_valid_register.Goals as goa
 pub returns-then-not-are_homes_open-clause-lawful : goal.returns-then-not-are_homes_open-clause-lawful
 returns-then-not-are_homes_open-clause-lawful c =
     let office = c.args.office.now in
-    never (λ l. both_ways _ (sym c.are_homes_open.ensures ∙ c.if-not-are_homes_open.true) ((homes_open-decides office.rooms office.people).1 l.homes_open))
+    never (λ l. both_ways _ (sym c.are_homes_open.ensures ∙ c.if-not-are_homes_open.true)
+    ((homes_open-decides office.rooms office.people).1 l.homes_open))
 
 pub returns-then-not-branch-clause-lawful : goal.returns-then-not-branch-clause-lawful
 returns-then-not-branch-clause-lawful c =
-    never (λ l. both_ways _ (sym c.in_ok-have_distinct_keys.ensures.differ ∙ c.if-not-branch.true) ((differ-decides (λ p. Some p.key) c.args.office.now.people).1 l.keys))
+    never (λ l. both_ways _ (sym c.in_ok-have_distinct_keys.ensures.differ ∙ c.if-not-branch.true)
+    ((differ-decides (λ p. Some p.key) c.args.office.now.people).1 l.keys))
 
 pub returns-clause-lawful : goal.returns-clause-lawful
 returns-clause-lawful c =
@@ -21,9 +23,12 @@ returns-clause-lawful c =
     IfOk-weaker c.have_distinct_homes.result _ _ (λ b e.
     as_well b
     (λ homes. record {
-      keys = (differ-decides (λ p. Some p.key) office.people).0 (sym c.in_ok-have_distinct_keys.ensures.differ ∙ c.if-not-branch.false);
+      keys = (differ-decides (λ p. Some p.key) office.people).0 (sym c.in_ok-have_distinct_keys.ensures.differ
+          ∙ c.if-not-branch.false);
       homes = homes;
-      homes_open = (homes_open-decides office.rooms office.people).0 (sym c.are_homes_open.ensures ∙ c.if-not-are_homes_open.false);
+      homes_open =
+          (homes_open-decides office.rooms office.people).0
+          (sym c.are_homes_open.ensures ∙ c.if-not-are_homes_open.false);
       few_rooms = omega (arith, c.len.ensures, c.if-len-gt-ROOM_LIMIT.false);
       few_people = omega (arith, c.len-2.ensures, c.if-len-gt-PEOPLE_LIMIT.false);
     })

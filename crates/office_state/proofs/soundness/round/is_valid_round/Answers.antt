@@ -10,7 +10,9 @@ use Rattle.office_state.proofs.soundness.round.is_valid_round.Goals as goal
 
 pub returns-then-len-ne0 : goal.returns-then-len-ne0
 returns-then-len-ne0 c =
-    never (λ r. c.if-len-ne0.true (c.len.ensures ∙ ap (λ m. map.len m) (r.idle_choices (sym c.is_idle.ensures ∙ c.if-not-is_idle.false)) ∙ len-empty text_cmp _))
+    never (λ r. c.if-len-ne0.true
+    (c.len.ensures ∙ ap (λ m. map.len m) (r.idle_choices (sym c.is_idle.ensures ∙ c.if-not-is_idle.false))
+    ∙ len-empty text_cmp _))
 
 pub returns : goal.returns
 returns c =

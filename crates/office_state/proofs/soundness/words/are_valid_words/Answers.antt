@@ -2,7 +2,8 @@ use Rattle.std.proofs.Common.{sym, ap, ◌∙◌}
 use Rattle.std.specs.Prelude.{eqb}
 use Rattle.std.proofs.lemmas.Bool.Decides.{Decides-at}
 use Rattle.std.proofs.lemmas.Bool.{both_ways}
-use Rattle.office_state.proofs.sound_offices.InvariantTests.{never, as_well, empty-decides, words-sound, words-first, words-second}
+use Rattle.office_state.proofs.sound_offices.InvariantTests.{never, as_well, empty-decides, words-sound, words-first}
+use Rattle.office_state.proofs.sound_offices.InvariantTests.{words-second}
 use Rattle.office_state.proofs.soundness.words.are_valid_words.Goals as goal
 
 pub returns-then-not-has_words : goal.returns-then-not-has_words
@@ -17,7 +18,8 @@ pub returns-then-not-only_participants_drew : goal.returns-then-not-only_partici
 returns-then-not-only_participants_drew c =
     let office = c.args.office.now in
     let drawn = sym c.has_words.ensures ∙ c.if-not-has_words.false in
-    never (λ l. both_ways _ (sym c.only_participants_drew.ensures ∙ c.if-not-only_participants_drew.true) (words-first office.people office.withdrawn office.going office.words (l.each drawn)))
+    never (λ l. both_ways _ (sym c.only_participants_drew.ensures ∙ c.if-not-only_participants_drew.true)
+    (words-first office.people office.withdrawn office.going office.words (l.each drawn)))
 
 pub returns : goal.returns
 returns c =
@@ -25,7 +27,10 @@ returns c =
     let drawn = sym c.has_words.ensures ∙ c.if-not-has_words.false in (
       λ e. record {
         none = λ undrawn. absurd (both_ways _ undrawn drawn);
-        each = λ _. words-sound office.people office.withdrawn office.going office.words (sym c.only_participants_drew.ensures ∙ c.if-not-only_participants_drew.false) (sym c.all_participants_drew.ensures ∙ e);
+        each = λ _. words-sound office.people office.withdrawn office.going office.words
+            (sym c.only_participants_drew.ensures ∙ c.if-not-only_participants_drew.false)
+            (sym c.all_participants_drew.ensures ∙ e);
       },
-      λ l. c.all_participants_drew.ensures ∙ words-second office.people office.withdrawn office.going office.words (l.each drawn),
+      λ l. c.all_participants_drew.ensures ∙ words-second office.people office.withdrawn office.going office.words
+          (l.each drawn),
     )

@@ -11,5 +11,7 @@ returns-then-len-eq0-clause-copy g c =
 
 pub returns-clause-copy : goal.returns-clause-copy
 returns-clause-copy g c =
-    ap (λ es. map.from_entries {R = text_cmp} es) (same_pairs _ _ (λ x y h. h) g.met.V.ExactClone.same c.self.inside.tree.entries c.in_ok-tree.tree.entries c.in_ok-tree.ensures.cases)
+    ap (λ es. map.from_entries {R = text_cmp} es)
+    (same_pairs _ _ (λ x y h. h) g.met.V.ExactClone.same c.self.inside.tree.entries c.in_ok-tree.tree.entries
+    c.in_ok-tree.ensures.cases)
     ∙ c.self.view_is

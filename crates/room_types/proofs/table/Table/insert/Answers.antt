@@ -7,7 +7,8 @@ use Rattle.room_types.proofs.table.Table.insert.Goals as goal
 
 pub returns-clause-ok : goal.returns-clause-ok
 returns-clause-ok g c =
-    insert-tree nat_list_cmp_total exact_texts c.self.inside.tree c.insert.new.self c.args.key c.args.value c.in_ok-insert.ensures.updates.0
+    insert-tree nat_list_cmp_total exact_texts c.self.inside.tree c.insert.new.self c.args.key c.args.value
+    c.in_ok-insert.ensures.updates.0
     ∙ ap (λ m. map.insert m c.args.key c.args.value) c.self.view_is
 
 pub returns-in_err-insert-clause-absent : goal.returns-in_err-insert-clause-absent

@@ -13,7 +13,8 @@ returns-clause-rest g c =
 pub returns-clause-fits : goal.returns-clause-fits
 returns-clause-fits g c =
     let P : ℕ → Type 0 = λ n. n < 2 ^ 63 in
-    subst P (sym (len-tree nat_list_cmp_total c.self.inside.tree c.iter.ensures.ordered) ∙ ap (λ m. map.len m) c.self.view_is) c.iter.ensures.fits
+    subst P (sym (len-tree nat_list_cmp_total c.self.inside.tree c.iter.ensures.ordered)
+    ∙ ap (λ m. map.len m) c.self.view_is) c.iter.ensures.fits
 
 pub returns-clause-ascending : goal.returns-clause-ascending
 returns-clause-ascending g c = entries_ascend c.args.self.now

@@ -7,5 +7,6 @@ use Rattle.room_types.proofs.table.Table.remove.Goals as goal
 
 pub returns : goal.returns
 returns g c =
-    remove-tree nat_list_cmp_total exact_texts c.self.inside.tree c.remove.new.self c.args.key.now c.remove.ensures.updates.0
+    remove-tree nat_list_cmp_total exact_texts c.self.inside.tree c.remove.new.self c.args.key.now
+    c.remove.ensures.updates.0
     ∙ ap (λ m. map.remove m c.args.key.now) c.self.view_is

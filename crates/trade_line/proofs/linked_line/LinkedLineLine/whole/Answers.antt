@@ -2,7 +2,8 @@ use Rattle.std.proofs.Common.{◌≡◌, ◌+◌, ◌∷◌, ◌++◌, [], ap, �
 use Rattle.std.specs.List.{range_with_len}
 use Rattle.trade_line.specs.Inner.Links.{IsLinkedRing}
 use Rattle.trade_line.proofs.askers.Lines.{range_push}
-use Rattle.trade_line.proofs.askers.Links.{whole_ring, people_are}
+use Rattle.trade_line.proofs.askers.Links.{people_are}
+use Rattle.trade_line.proofs.askers.WholeRing.{whole_ring}
 use Rattle.trade_line.proofs.linked_line.LinkedLineLine.whole.Goals as goal
 
 pub loop-person-preserved : goal.loop-person-preserved
@@ -18,12 +19,22 @@ loop-person-preserved c =
 
 pub invariant_of-result : goal.invariant_of-result
 invariant_of-result c =
-    let all : c.loop-person.person ≡ c.args.count = omega (arith, c.loop-person-test.false, c.loop-person.auto.person-end) in
-    let ring = whole_ring c.args.count _ _ _ (c.in_ok-push-4.ensures.items ∙ ap (λ z. z ++ 0 ∷ []) c.loop-person.invariant.next ∙ ap (λ n. range_with_len 1 n ++ 0 ∷ []) all) (c.loop-person.invariant.previous ∙ ap (λ n. c.args.count ∷ range_with_len 0 n) all) c.loop-person.invariant.waits in
+    let all : c.loop-person.person ≡ c.args.count =
+    omega (arith, c.loop-person-test.false, c.loop-person.auto.person-end) in
+    let ring =
+    whole_ring c.args.count _ _ _ (c.in_ok-push-4.ensures.items ∙ ap (λ z. z ++ 0 ∷ []) c.loop-person.invariant.next
+    ∙ ap (λ n. range_with_len 1 n ++ 0 ∷ []) all)
+    (c.loop-person.invariant.previous ∙ ap (λ n. c.args.count ∷ range_with_len 0 n) all)
+    c.loop-person.invariant.waits in
     subst (IsLinkedRing _ _ _) (sym (people_are _ _ _ _ ring)) ring
 
 pub returns : goal.returns
 returns c =
-    let all : c.loop-person.person ≡ c.args.count = omega (arith, c.loop-person-test.false, c.loop-person.auto.person-end) in
-    let ring = whole_ring c.args.count _ _ _ (c.in_ok-push-4.ensures.items ∙ ap (λ z. z ++ 0 ∷ []) c.loop-person.invariant.next ∙ ap (λ n. range_with_len 1 n ++ 0 ∷ []) all) (c.loop-person.invariant.previous ∙ ap (λ n. c.args.count ∷ range_with_len 0 n) all) c.loop-person.invariant.waits in
+    let all : c.loop-person.person ≡ c.args.count =
+    omega (arith, c.loop-person-test.false, c.loop-person.auto.person-end) in
+    let ring =
+    whole_ring c.args.count _ _ _ (c.in_ok-push-4.ensures.items ∙ ap (λ z. z ++ 0 ∷ []) c.loop-person.invariant.next
+    ∙ ap (λ n. range_with_len 1 n ++ 0 ∷ []) all)
+    (c.loop-person.invariant.previous ∙ ap (λ n. c.args.count ∷ range_with_len 0 n) all)
+    c.loop-person.invariant.waits in
     people_are _ _ _ _ ring
