@@ -2,11 +2,16 @@
 
 import re
 import sys
+from collections.abc import Iterator
 from pathlib import Path
 
 TOP = Path(__file__).resolve().parent.parent
 
 IMPORT = re.compile(r"^(?:pub )?use Rattle\.(\w+)\.specs\.([\w.-]+)", re.M)
+
+# Where a definition begins, and where a module whose arguments its definitions take.
+DEFINITION = re.compile(r"( *)(?:abbrev pub|unfoldable pub|pub record|pub data) (\S+)")
+MODULE = re.compile(r"module _ ")
 
 # Lines of a file of definitions that define nothing: what it imports, and the files of its folder.
 IMPORT_OR_FOLDER = re.compile(r"^(?:pub )?(?:use|mod) .*\n?", re.M)
@@ -18,17 +23,54 @@ def crate_names():
     return [crate for crate in listed if (TOP / "crates" / crate).is_dir()]
 
 
-def imports(path, folders):
+def file_of(crate: str, parts: list[str], folders: list[Path]) -> list[Path]:
+    """The file of definitions that a path of names leads to, of a crate in one of these folders; none if there is none."""
+    for length in range(len(parts), 0, -1):
+        name = Path(crate, "specs", *parts[:length]).with_suffix(".antt")
+        for folder in folders:
+            if (folder / name).is_file():
+                return [folder / name]
+    return []
+
+
+def imports(path: Path, folders: list[Path]) -> Iterator[Path]:
     """The files of definitions that a file imports, of the crates in these folders."""
     for crate, dotted in IMPORT.findall(path.read_text(encoding="utf-8")):
-        parts = [part for part in dotted.split(".") if part]
-        while parts:
-            name = Path(crate, "specs", *parts).with_suffix(".antt")
-            file = next((folder / name for folder in folders if (folder / name).is_file()), None)
-            if file:
-                yield file
-                break
-            parts.pop()
+        yield from file_of(crate, [part for part in dotted.split(".") if part], folders)
+
+
+def end_of(lines: list[str], start: int, indent: str) -> int:
+    """The line after a definition: where the next thing of its depth begins."""
+    after = start + 1
+    while after < len(lines):
+        line = lines[after]
+        if DEFINITION.match(line) or MODULE.match(line) or line.startswith(indent + "--"):
+            break
+        after += 1
+    while not lines[after - 1].strip():
+        after -= 1
+    return after
+
+
+def start_of(lines: list[str], start: int, indent: str) -> int:
+    """The first line of the comment of a definition, or the definition's own."""
+    while start > 0 and lines[start - 1].startswith(indent + "--"):
+        start -= 1
+    return start
+
+
+def definitions(text: str) -> Iterator[tuple[str, int, list[str]]]:
+    """The definitions of a text: the name of each, its line (from 0), and its lines after those of its comment and its module."""
+    lines = text.splitlines()
+    module: list[str] = []
+    for at, line in enumerate(lines):
+        if MODULE.match(line):
+            module = lines[start_of(lines, at, "") : at + 1]
+        start = DEFINITION.match(line)
+        if start:
+            indent, name = start.groups()
+            own = lines[start_of(lines, at, indent) : end_of(lines, at, indent)]
+            yield name, at, [*(module if indent else []), *own]
 
 
 def is_named(path, wanted):
