@@ -30,7 +30,7 @@ use Rattle.office_state.specs.declared.office.Office.{Office}
 use Rattle.office_state.specs.declared.office.person.Person.{Person}
 use Rattle.office_state.specs.declared.office.stored_import.StoredImport.{StoredImport}
 use Rattle.office_state.proofs.offices.Dropping.{person_dropped}
-use Rattle.office_schema.specs.rows.Rows.{person_row, person_rows, choices_from, list_rows}
+use Rattle.office_schema.specs.rows.Rows.{row_of_person, rows_of_people, choices_from, list_rows}
 use Rattle.office_schema.specs.rows.SameRows.{AreSameRows}
 use Rattle.office_schema.specs.rows.Tables.{Tables, rows_at, rows_of}
 use Rattle.office_schema.specs.declared.rows.records.ChoiceRecord.{ChoiceRecord}
@@ -79,7 +79,7 @@ module _ (office : Office) (room : Text) (shut : Bool) where
 
 module _ (office : Office) (person : Text) where
   abbrev shown : Text × Person → PersonRecord
-  shown e = person_row office.withdrawn e
+  shown e = row_of_person office.withdrawn e
 
   abbrev is_that : PersonRecord → Bool
   is_that r = text_eq r.id person
@@ -95,8 +95,8 @@ module _ (office : Office) (person : Text) where
       let head : shown (person, v) ≡ record { id = person; person = v; withdrawn = false } =
       ap (λ b. record { id = person; person = v; withdrawn = b }) here in
       people_alike (rows_of office) _ _
-      (subst (λ r. IsPermutation (person_rows (maps.insert office.people person v) office.withdrawn)
-      (r ∷ person_rows office.people office.withdrawn)) head
+      (subst (λ r. IsPermutation (rows_of_people (maps.insert office.people person v) office.withdrawn)
+      (r ∷ rows_of_people office.people office.withdrawn)) head
       (row_added shown (λ (r : PersonRecord). r.id) (λ e. refl) person is_that
       (λ r. tells r.id person) office.people v
       (none_if_not_some (maps.get office.people person) new)))
@@ -169,7 +169,7 @@ module _ (office : Office) (person : Text) where
 
   -- the row of a person, once somebody has withdrawn
   marked : (e : Text × Person)
-      → person_row (maps.insert office.withdrawn person tt) e
+      → row_of_person (maps.insert office.withdrawn person tt) e
       ≡ cond (text_eq e.0 person) (record (shown e) { withdrawn = true }) (shown e)
   marked e =
       ap (λ o. record { id = e.0; person = e.1; withdrawn = is_some o })
@@ -179,7 +179,7 @@ module _ (office : Office) (person : Text) where
     where
       either : (b : Bool)
           → record { id = e.0; person = e.1; withdrawn = is_some (cond b (Some tt) (maps.get office.withdrawn e.0)) }
-          ≡ cond b (record { id = e.0; person = e.1; withdrawn = true }) (person_row office.withdrawn e)
+          ≡ cond b (record { id = e.0; person = e.1; withdrawn = true }) (row_of_person office.withdrawn e)
       either true = refl
       either false = refl
 
@@ -323,11 +323,11 @@ unfolding rows_at with_round
 round_put office number phase = alike-refl (rows_of (applied office (PutRound number phase)))
 
 unmarked : (people : TextMap Person) (withdrawn : TextMap (Unit {0}))
-    → person_rows people maps.empty ≡ map taking_part (person_rows people withdrawn)
+    → rows_of_people people maps.empty ≡ map taking_part (rows_of_people people withdrawn)
 unmarked people withdrawn =
     map_same _ _ (λ e. ap (λ o. record { id = e.0; person = e.1; withdrawn = is_some o }) (get-empty text_cmp e.0))
     (maps.entries people)
-    ∙ sym (map-map taking_part (person_row withdrawn) (maps.entries people))
+    ∙ sym (map-map taking_part (row_of_person withdrawn) (maps.entries people))
 
 -- Lists, withdrawals, words and results are deleted, and nobody leaves.
 pub round_cleared : (office : Office)

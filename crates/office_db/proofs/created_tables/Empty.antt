@@ -14,7 +14,7 @@ use Rattle.office_state.specs.declared.office.Assigned.{Assigned}
 use Rattle.office_state.specs.declared.office.stored_import.StoredImport.{StoredImport}
 use Rattle.office_state.specs.declared.office.moves.RoundMoves.{RoundMoves}
 use Rattle.office_state.specs.declared.office.person.Person.{Person}
-use Rattle.office_schema.specs.rows.Rows.{person_row, list_rows, round_rows}
+use Rattle.office_schema.specs.rows.Rows.{row_of_person, list_rows, round_rows}
 use Rattle.office_schema.specs.rows.Tables.{Tables, rows_at, rows_of}
 use Rattle.office_schema.specs.cells.Columns as columns
 use Rattle.std.specs.List.{AllByRecursion}
@@ -64,7 +64,7 @@ made_empty old new made clean none =
 abbrev rows_from : List (Text × Bool) → List (Text × Person) → List (Text × List Text) → List (Text × ℕ) → List (Text × Assigned) → List (ℕ × RoundMoves) → List (Text × StoredImport) → List (Text × ℕ) → List (Text × Unit {0}) → Tables
 rows_from rooms people choices words results moves lists grades going = record {
   rooms = rooms;
-  people = list_map (person_row map.empty) people;
+  people = list_map (row_of_person map.empty) people;
   rounds = record { version = 3; number = 0; phase = Idle } ∷ [];
   choices = flat_map list_rows choices;
   words = words;

@@ -21,7 +21,7 @@ use Rattle.room_types.proofs.maps.Entries.{at_keys, at_entries, each_always, ins
 use Rattle.room_types.proofs.options.Options.{none_if_not_some}
 use Rattle.office_schema.specs.rows.Inner.FilledPeople.{marked, nobody, with_person, filled_people}
 use Rattle.office_schema.specs.rows.People.{AreValid, people_rows}
-use Rattle.office_schema.specs.rows.Rows.{person_row}
+use Rattle.office_schema.specs.rows.Rows.{row_of_person}
 use Rattle.office_schema.specs.rows.Reads.{Reads}
 use Rattle.office_schema.specs.declared.rows.people.People.{People}
 use Rattle.office_schema.specs.declared.rows.records.PersonRecord.{PersonRecord}
@@ -49,19 +49,19 @@ module _ (p : People) (row : PersonRecord) (known : AreValid p) (new : maps.cont
     | false ↦ refl
   ]
 
-  others : AllByRecursion (λ (e : Text × Person). person_row p.withdrawn e ≡ person_row (marked p.withdrawn row) e) (maps.entries p.people)
-  others = at_entries nat_list_cmp_total exact_texts (λ k v. person_row p.withdrawn (k, v) ≡ person_row (marked p.withdrawn row) (k, v)) p.people (λ k v f.
-      elim (text_cases k row.id) as (λ _. person_row p.withdrawn (k, v) ≡ person_row (marked p.withdrawn row) (k, v)) [
+  others : AllByRecursion (λ (e : Text × Person). row_of_person p.withdrawn e ≡ row_of_person (marked p.withdrawn row) e) (maps.entries p.people)
+  others = at_entries nat_list_cmp_total exact_texts (λ k v. row_of_person p.withdrawn (k, v) ≡ row_of_person (marked p.withdrawn row) (k, v)) p.people (λ k v f.
+      elim (text_cases k row.id) as (λ _. row_of_person p.withdrawn (k, v) ≡ row_of_person (marked p.withdrawn row) (k, v)) [
         | inl same ↦ absurd (both_ways (maps.contains_key p.people k) (ap (λ q. maps.contains_key p.people q) same ∙ new) (ap is_some f))
         | inr apart ↦ ap (λ b. record { id = k; person = v; withdrawn = b }) (sym (other_flag k apart))
       ])
 
   pub rows_more : IsPermutation (row ∷ people_rows p) (people_rows (with_person p row))
   rows_more =
-      let one : IsPermutation (map (person_row (marked p.withdrawn row)) ((row.id, row.person) ∷ maps.entries p.people)) (people_rows (with_person p row)) =
-      IsPermutation-map (person_row (marked p.withdrawn row)) _ _ (insert-new nat_list_cmp_total exact_texts p.people row.id row.person (none_if_not_some (maps.get p.people row.id) new)) in
-      let head : person_row (marked p.withdrawn row) (row.id, row.person) ≡ row = ap (λ b. record { id = row.id; person = row.person; withdrawn = b }) own_flag in
-      let tail : map (person_row (marked p.withdrawn row)) (maps.entries p.people) ≡ people_rows p = sym (map_each (person_row p.withdrawn) (person_row (marked p.withdrawn row)) (maps.entries p.people) others) in
+      let one : IsPermutation (map (row_of_person (marked p.withdrawn row)) ((row.id, row.person) ∷ maps.entries p.people)) (people_rows (with_person p row)) =
+      IsPermutation-map (row_of_person (marked p.withdrawn row)) _ _ (insert-new nat_list_cmp_total exact_texts p.people row.id row.person (none_if_not_some (maps.get p.people row.id) new)) in
+      let head : row_of_person (marked p.withdrawn row) (row.id, row.person) ≡ row = ap (λ b. record { id = row.id; person = row.person; withdrawn = b }) own_flag in
+      let tail : map (row_of_person (marked p.withdrawn row)) (maps.entries p.people) ≡ people_rows p = sym (map_each (row_of_person p.withdrawn) (row_of_person (marked p.withdrawn row)) (maps.entries p.people) others) in
       subst (λ l. IsPermutation l (people_rows (with_person p row))) (λ i. head i ∷ tail i) one
 
   pub known_more : AreValid (with_person p row)
@@ -110,7 +110,7 @@ abbrev entry_of : PersonRecord → Text × Person
 entry_of r = (r.id, r.person)
 
 listed : (p : People) → map entry_of (people_rows p) ≡ maps.entries p.people
-listed p = map-map entry_of (person_row p.withdrawn) (maps.entries p.people) ∙ itself (maps.entries p.people)
+listed p = map-map entry_of (row_of_person p.withdrawn) (maps.entries p.people) ∙ itself (maps.entries p.people)
   where
     itself : (es : List (Text × Person)) → map (λ (e : Text × Person). (e.0, e.1)) es ≡ es
     itself [] = refl
@@ -131,9 +131,9 @@ one_people p q known_p known_q same =
     one_map nat_list_cmp_total exact_texts p.people q.people (subst (λ l. IsPermutation (maps.entries p.people) l) (listed q) (entries_moved p (people_rows q) same)) in
     let flags : (k : Text) (v : Person) → maps.get q.people k ≡ Some v → maps.contains_key p.withdrawn k ≡ maps.contains_key q.withdrawn k =
     at_keys nat_list_cmp_total exact_texts (λ k v. maps.contains_key p.withdrawn k ≡ maps.contains_key q.withdrawn k) q.people
-    (all_unmap (λ (r : PersonRecord). maps.contains_key p.withdrawn r.id ≡ r.withdrawn) (person_row q.withdrawn) (maps.entries q.people)
+    (all_unmap (λ (r : PersonRecord). maps.contains_key p.withdrawn r.id ≡ r.withdrawn) (row_of_person q.withdrawn) (maps.entries q.people)
     (permuted_all (λ (r : PersonRecord). maps.contains_key p.withdrawn r.id ≡ r.withdrawn) (people_rows p) (people_rows q) same
-    (all_map (λ (r : PersonRecord). maps.contains_key p.withdrawn r.id ≡ r.withdrawn) (person_row p.withdrawn) (maps.entries p.people) (each_always (λ (e : Text × Person). maps.contains_key p.withdrawn e.0 ≡ maps.contains_key p.withdrawn e.0) (λ e. refl) (maps.entries p.people))))) in
+    (all_map (λ (r : PersonRecord). maps.contains_key p.withdrawn r.id ≡ r.withdrawn) (row_of_person p.withdrawn) (maps.entries p.people) (each_always (λ (e : Text × Person). maps.contains_key p.withdrawn e.0 ≡ maps.contains_key p.withdrawn e.0) (λ e. refl) (maps.entries p.people))))) in
     let withdrawn : p.withdrawn ≡ q.withdrawn = same_map nat_list_cmp_total exact_texts p.withdrawn q.withdrawn (λ k.
     units (maps.get p.withdrawn k) (maps.get q.withdrawn k) (
     elim (maps.get q.people k) as (λ o. maps.get q.people k ≡ o → maps.contains_key p.withdrawn k ≡ maps.contains_key q.withdrawn k) [
@@ -155,7 +155,7 @@ nobody_known : AreValid nobody
 nobody_known = record { withdrawers = λ q h. absurd (both_ways _ (ap is_some (get-empty {X = Unit {0}} text_cmp q)) h) }
 
 no_rows : people_rows nobody ≡ []
-no_rows = ap (map (person_row maps.empty)) (entries-empty nat_list_cmp_total)
+no_rows = ap (map (row_of_person maps.empty)) (entries-empty nat_list_cmp_total)
 
 all_new : (rows : List PersonRecord) → AreNew nobody rows
 all_new = each_always (λ (r : PersonRecord). maps.contains_key nobody.people r.id ≡ false) (λ r. ap is_some (get-empty {X = Person} text_cmp r.id))

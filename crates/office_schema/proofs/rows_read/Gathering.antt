@@ -24,7 +24,7 @@ use Rattle.office_state.proofs.sound_offices.InvariantTests.{choices_at, at_choi
 use Rattle.room_types.proofs.maps.Entries.{key_after, at_keys, at_entries, below_less, each_always, each_weaker, none_below}
 use Rattle.room_types.proofs.maps.TextMaps.{first_holds, second_holds}
 use Rattle.office_state.proofs.round_problems.Puts.{with_all-entries}
-use Rattle.office_schema.specs.rows.Rows.{AreValidLists, choices_from, list_rows, choice_rows}
+use Rattle.office_schema.specs.rows.Rows.{AreStorableLists, choices_from, list_rows, choice_rows}
 use Rattle.office_schema.specs.rows.Inner.Gathered.{list_at, gathered, chosen_from, row_cmp}
 use Rattle.office_schema.specs.rows.Reads.{Reads}
 use Rattle.office_schema.specs.declared.rows.records.ChoiceRecord.{ChoiceRecord}
@@ -107,7 +107,7 @@ gathered-all (e ∷ es) lists s filled new =
 all_new : (es : List (Text × List Text)) → AreNew map.empty es
 all_new = each_always (λ (e : Text × List Text). map.get map.empty e.0 ≡ None) (λ e. get-empty text_cmp e.0)
 
-pub gathered-rows : (lists : Lists) → AreValidLists lists → gathered map.empty (choice_rows lists) ≡ Some lists
+pub gathered-rows : (lists : Lists) → AreStorableLists lists → gathered map.empty (choice_rows lists) ≡ Some lists
 gathered-rows lists sound =
     gathered-all (map.entries lists) map.empty (entries_sorted lists)
     (at_entries nat_list_cmp_total exact_texts (λ p codes. codes ≡ [] → ⊥) lists (λ p codes f none. sound.none_empty p (f ∙ ap (λ l. Some l) none)))
@@ -115,7 +115,7 @@ gathered-rows lists sound =
     ∙ ap (λ m. Some m) (with_all-entries lists)
 
 -- Rows determine the lists.
-pub one_lists : (m n : Lists) → AreValidLists m → AreValidLists n → IsPermutation (choice_rows m) (choice_rows n) → m ≡ n
+pub one_lists : (m n : Lists) → AreStorableLists m → AreStorableLists n → IsPermutation (choice_rows m) (choice_rows n) → m ≡ n
 one_lists m n valid_m valid_n same =
     same_Some m n (sym (gathered-rows m valid_m) ∙ ap (gathered map.empty) (sym (sorted_rows m (choice_rows n) same (rows_sorted n))) ∙ gathered-rows n valid_n)
 
@@ -243,11 +243,11 @@ chosen-if_choices (f ∷ es) made h = ap (λ b. cond b (chosen_from (map.insert 
 -- ---- both directions
 
 module _ (rows sorted : List ChoiceRecord) (moved : IsPermutation rows sorted) (ascends : IsSorted row_cmp sorted) where
-  these : (lists : Lists) → AreValidLists lists → IsPermutation (choice_rows lists) rows → gathered map.empty sorted ≡ Some lists
+  these : (lists : Lists) → AreStorableLists lists → IsPermutation (choice_rows lists) rows → gathered map.empty sorted ≡ Some lists
   these lists sound same =
       ap (gathered map.empty) (sorted_rows lists sorted (IsPermutation-trans _ _ _ same moved) ascends) ∙ gathered-rows lists sound
 
-  pub reads-none : gathered map.empty sorted ≡ None → Reads AreValidLists choice_rows rows None
+  pub reads-none : gathered map.empty sorted ≡ None → Reads AreStorableLists choice_rows rows None
   reads-none none = record {
     returned = tt;
     only = λ lists sound same. let some = these lists sound same in absurd (cc);
@@ -256,15 +256,15 @@ module _ (rows sorted : List ChoiceRecord) (moved : IsPermutation rows sorted) (
   no_rows : choice_rows map.empty ≡ []
   no_rows = ap (λ es. flat_map list_rows es) (entries-empty nat_list_cmp_total)
 
-  pub reads-some : (lists : Lists) → gathered map.empty sorted ≡ Some lists → Reads AreValidLists choice_rows rows (chosen_from map.empty (map.entries lists))
+  pub reads-some : (lists : Lists) → gathered map.empty sorted ≡ Some lists → Reads AreStorableLists choice_rows rows (chosen_from map.empty (map.entries lists))
   reads-some lists some = record {
-    returned = elim (chosen_from map.empty (map.entries lists)) as (λ o. chosen_from map.empty (map.entries lists) ≡ o → IfSome o (λ m. AreValidLists m × IsPermutation (choice_rows m) rows)) [
+    returned = elim (chosen_from map.empty (map.entries lists)) as (λ o. chosen_from map.empty (map.entries lists) ≡ o → IfSome o (λ m. AreStorableLists m × IsPermutation (choice_rows m) rows)) [
       | None ↦ λ _. tt
       | Some m ↦ λ e.
           let tells = chosen-is (map.entries lists) map.empty m e in
           let same : lists ≡ m = sym (tells.0 ∙ with_all-entries lists) in
           let has : IsPermutation sorted (choice_rows lists) = subst (λ l. IsPermutation (l ++ sorted) (choice_rows lists)) no_rows (gathered-has sorted map.empty lists some) in
-          subst (λ l. AreValidLists l × IsPermutation (choice_rows l) rows) same (
+          subst (λ l. AreStorableLists l × IsPermutation (choice_rows l) rows) same (
             record {
               none_empty = gathered-filled sorted map.empty lists some (λ p f. let none = get-empty {X = List Text} text_cmp p in cc);
               chosen = at_keys nat_list_cmp_total exact_texts (λ p codes. IsChoices codes) lists (each_weaker (λ e. is_choices e.1 ≡ true) (λ e. IsChoices e.1) (λ e t. choices_at e.1 t) (map.entries lists) tells.1);

@@ -7,7 +7,7 @@ use Rattle.std.proofs.lemmas.List.Sorted.{length_permutation}
 use Rattle.office_state.specs.Soundness as soundness
 use Rattle.office_state.specs.declared.office.Office.{Office}
 use Rattle.office_schema.specs.rows.ReadsOffice.{AreRecordsOf, Allocates}
-use Rattle.office_schema.specs.rows.Rows.{person_row, person_rows}
+use Rattle.office_schema.specs.rows.Rows.{row_of_person, rows_of_people}
 use Rattle.office_schema.specs.rows.Tables.{rows_at}
 use Rattle.office_schema.specs.declared.rows.records.OfficeRecords.{OfficeRecords}
 
@@ -15,8 +15,8 @@ pub allocates : (version : ℕ) (records : OfficeRecords) (office : Office) → 
 unfolding rows_at
 allocates version records office has takes = elim takes as (λ _. Allocates version records) [
   | inl noted ↦
-      let rows = length_permutation (person_rows office.people office.withdrawn) records.people.items has.people in
-      let each = length-map (maps.entries office.people) (person_row office.withdrawn) in
+      let rows = length_permutation (rows_of_people office.people office.withdrawn) records.people.items has.people in
+      let each = length-map (maps.entries office.people) (row_of_person office.withdrawn) in
       let known = len-entries office.people in
       let some = noted.somebody in
       inl (omega (arith, rows, each, known, some))

@@ -1,4 +1,4 @@
--- Recording moves inverts `move_rows`.
+-- Recording moves inverts `rows_of_moves`.
 use Rattle.std.proofs.Common.{◌≡◌, ℕ, Bool, true, false, List, [], ◌∷◌, ◌++◌, map, Option, Some, None, cond, refl, sym, ap, ◌∙◌, subst, T, ◌&&◌, append-nil, IsPermutation}
 use Rattle.std.specs.Prelude.{unwrap_or, reverse}
 use Rattle.std.specs.Option.{is_some}
@@ -28,7 +28,7 @@ use Rattle.office_state.proofs.offices.Moves.{kept_moves}
 use Rattle.room_types.proofs.maps.Entries.{at_keys, at_entries, below_less, insert-new, permuted_all, none_below, same_finds}
 use Rattle.room_types.proofs.maps.TextMaps.{first_holds, second_holds}
 use Rattle.room_types.proofs.options.Options.{none_if_not_some}
-use Rattle.office_schema.specs.rows.Rows.{move_row, round_rows, move_rows, AreValidMoves}
+use Rattle.office_schema.specs.rows.Rows.{row_of_move, round_rows, rows_of_moves, AreStorableMoves}
 use Rattle.office_schema.specs.rows.Inner.Recorded.{recorded_moves}
 use Rattle.office_schema.specs.rows.Reads.{Reads}
 
@@ -61,25 +61,25 @@ put-known k v old row (e ∷ es) s f h =
     ] refl f
 
 module _ (moves : Moves) (row : Move) (new : maps.contains_key (moves_of moves row.round) row.person ≡ false) where
-  one_more : (recorded : TextMap Moved) → maps.get recorded row.person ≡ None → IsPermutation (row ∷ map (move_row row.round) (maps.entries recorded)) (round_rows (row.round, with_row recorded row))
-  one_more recorded none = IsPermutation-map (move_row row.round) _ _ (insert-new nat_list_cmp_total exact_texts recorded row.person (rest_of row) none)
+  one_more : (recorded : TextMap Moved) → maps.get recorded row.person ≡ None → IsPermutation (row ∷ map (row_of_move row.round) (maps.entries recorded)) (round_rows (row.round, with_row recorded row))
+  one_more recorded none = IsPermutation-map (row_of_move row.round) _ _ (insert-new nat_list_cmp_total exact_texts recorded row.person (rest_of row) none)
 
-  pub rows_more : IsPermutation (row ∷ move_rows moves) (move_rows (with_move moves row))
+  pub rows_more : IsPermutation (row ∷ rows_of_moves moves) (rows_of_moves (with_move moves row))
   rows_more = elim (maps.get moves row.round) as (λ o. maps.get moves row.round ≡ o → maps.contains_key (kept_moves o) row.person ≡ false
-      → IsPermutation (row ∷ move_rows moves) (move_rows (maps.insert moves row.round (with_row (kept_moves o) row)))) [
+      → IsPermutation (row ∷ rows_of_moves moves) (rows_of_moves (maps.insert moves row.round (with_row (kept_moves o) row)))) [
         | None ↦ λ none fresh.
             let v : RoundMoves = with_row maps.empty row in
             let head : IsPermutation (row ∷ []) (round_rows (row.round, v)) =
-            subst (λ es. IsPermutation (row ∷ map (move_row row.round) es) (round_rows (row.round, v))) (entries-empty {X = Moved} nat_list_cmp_total) (one_more maps.empty (none_if_not_some (maps.get (maps.empty {R = text_cmp}) row.person) fresh)) in
-            IsPermutation-trans _ _ _ (IsPermutation-append_left (move_rows moves) _ _ head)
+            subst (λ es. IsPermutation (row ∷ map (row_of_move row.round) es) (round_rows (row.round, v))) (entries-empty {X = Moved} nat_list_cmp_total) (one_more maps.empty (none_if_not_some (maps.get (maps.empty {R = text_cmp}) row.person) fresh)) in
+            IsPermutation-trans _ _ _ (IsPermutation-append_left (rows_of_moves moves) _ _ head)
             (IsPermutation-flat_map round_rows _ _ (insert-new nat_cmp_total nat_cmp-IsAntisymmetric moves row.round v none))
         | Some recorded ↦ λ some fresh.
             let v : RoundMoves = with_row recorded.by_person row in
-            subst (λ es. IsPermutation (row ∷ move_rows moves) (flat_map round_rows es)) (sym (entries-insert nat_cmp_total moves row.round v))
+            subst (λ es. IsPermutation (row ∷ rows_of_moves moves) (flat_map round_rows es)) (sym (entries-insert nat_cmp_total moves row.round v))
             (put-known row.round v recorded row (maps.entries moves) (entries_sorted moves) (sym (get-entries moves row.round) ∙ some) (one_more recorded.by_person (none_if_not_some (maps.get recorded.by_person row.person) fresh)))
       ] refl new
 
-  pub recorded_more : AreValidMoves moves → AreValidMoves (with_move moves row)
+  pub recorded_more : AreStorableMoves moves → AreStorableMoves (with_move moves row)
   recorded_more before = record {
     none_empty = λ round recorded f none.
         let v : RoundMoves = with_row (moves_of moves row.round) row in
@@ -94,19 +94,19 @@ module _ (moves : Moves) (row : Move) (new : maps.contains_key (moves_of moves r
         ] (sym (get-insert nat_cmp_total moves row.round v round) ∙ f);
   }
 
-recorded_moves-has : (rows : List Move) (m final : Moves) → AreValidMoves m → recorded_moves m rows ≡ Some final → AreValidMoves final × IsPermutation (move_rows m ++ rows) (move_rows final)
+recorded_moves-has : (rows : List Move) (m final : Moves) → AreStorableMoves m → recorded_moves m rows ≡ Some final → AreStorableMoves final × IsPermutation (rows_of_moves m ++ rows) (rows_of_moves final)
 recorded_moves-has [] m final sound e =
     let same = same_Some m final e in (
-      subst (λ q. AreValidMoves q) same sound,
-      subst (λ q. IsPermutation (move_rows m ++ []) (move_rows q)) same (subst (λ l. IsPermutation l (move_rows m)) (sym (append-nil (move_rows m))) (IsPermutation-refl (move_rows m))),
+      subst (λ q. AreStorableMoves q) same sound,
+      subst (λ q. IsPermutation (rows_of_moves m ++ []) (rows_of_moves q)) same (subst (λ l. IsPermutation l (rows_of_moves m)) (sym (append-nil (rows_of_moves m))) (IsPermutation-refl (rows_of_moves m))),
     )
 recorded_moves-has (row ∷ rows) m final sound e =
-    elim (maps.contains_key (moves_of m row.round) row.person) as (λ b. maps.contains_key (moves_of m row.round) row.person ≡ b → cond b None (recorded_moves (with_move m row) rows) ≡ Some final → AreValidMoves final × IsPermutation (move_rows m ++ row ∷ rows) (move_rows final)) [
+    elim (maps.contains_key (moves_of m row.round) row.person) as (λ b. maps.contains_key (moves_of m row.round) row.person ≡ b → cond b None (recorded_moves (with_move m row) rows) ≡ Some final → AreStorableMoves final × IsPermutation (rows_of_moves m ++ row ∷ rows) (rows_of_moves final)) [
       | true ↦ λ t h. absurd (cc)
       | false ↦ λ t h.
           let rest = recorded_moves-has rows (with_move m row) final (recorded_more m row t sound) h in (
             rest.0,
-            IsPermutation-trans _ _ _ (IsPermutation-middle (move_rows m) row rows) (IsPermutation-trans _ _ _ (IsPermutation-append_left rows _ _ (rows_more m row t)) rest.1),
+            IsPermutation-trans _ _ _ (IsPermutation-middle (rows_of_moves m) row rows) (IsPermutation-trans _ _ _ (IsPermutation-append_left rows _ _ (rows_more m row t)) rest.1),
           )
     ] refl e
 
@@ -126,15 +126,15 @@ unfolding IsDistinct
 distinct_from [] up = tt
 distinct_from (r ∷ rows) up = (up.0, distinct_from rows up.1)
 
-round_apart : (k : ℕ) (e : Text × Moved) (es : List (Text × Moved)) → T (below_all text_cmp e.0 es) → AllByRecursion (Apart (move_row k e)) (map (move_row k) es)
+round_apart : (k : ℕ) (e : Text × Moved) (es : List (Text × Moved)) → T (below_all text_cmp e.0 es) → AllByRecursion (Apart (row_of_move k e)) (map (row_of_move k) es)
 round_apart k e [] b = tt
 round_apart k e (f ∷ es) b = (and_right (eq_by_cmp nat_cmp k k) (eq_by_cmp text_cmp e.0 f.0) (ap is_eq (less_from_test _ (first_holds _ _ b))), round_apart k e es (second_holds _ _ b))
 
-round_up : (k : ℕ) (es : List (Text × Moved)) → T (is_sorted text_cmp es) → IsAscending Apart (map (move_row k) es)
+round_up : (k : ℕ) (es : List (Text × Moved)) → T (is_sorted text_cmp es) → IsAscending Apart (map (row_of_move k) es)
 round_up k [] s = tt
 round_up k (e ∷ es) s = (round_apart k e es (first_holds _ _ s), round_up k es (second_holds _ _ s))
 
-of_round : (k : ℕ) (es : List (Text × Moved)) → AllByRecursion (λ r. r.round ≡ k) (map (move_row k) es)
+of_round : (k : ℕ) (es : List (Text × Moved)) → AllByRecursion (λ r. r.round ≡ k) (map (row_of_move k) es)
 of_round k [] = tt
 of_round k (e ∷ es) = (refl, of_round k es)
 
@@ -153,8 +153,8 @@ all_up (e ∷ es) s =
     (λ r same. all_weaker (λ (t : Move). nat_cmp e.0 t.round ≡ Less) (Apart r) (λ t h. ap (λ o. is_eq o && eq_by_cmp text_cmp r.person t.person) (ap (λ k. nat_cmp k t.round) same ∙ h)) (flat_map round_rows es) (later_rounds e.0 es (first_holds _ _ s)))
     (round_rows e) (of_round e.0 (maps.entries e.1.by_person)))
 
-moves_distinct : (m : Moves) (rows : List Move) → IsPermutation (move_rows m) rows → IsDistinct is_same_move rows
-moves_distinct m rows same = IsDistinct-IsPermutation is_same_move turned (move_rows m) rows same (distinct_from (move_rows m) (all_up (maps.entries m) (entries_sorted m)))
+moves_distinct : (m : Moves) (rows : List Move) → IsPermutation (rows_of_moves m) rows → IsDistinct is_same_move rows
+moves_distinct m rows same = IsDistinct-IsPermutation is_same_move turned (rows_of_moves m) rows same (distinct_from (rows_of_moves m) (all_up (maps.entries m) (entries_sorted m)))
 
 abbrev IsNew : Moves → Move → Type 0
 IsNew m r = maps.contains_key (moves_of m r.round) r.person ≡ false
@@ -194,12 +194,12 @@ all_new (r ∷ rows) =
 abbrev IsIn : Moves → Move → Type 0
 IsIn m r = maps.get (moves_of m r.round) r.person ≡ Some (rest_of r)
 
-all_in : (m : Moves) → AllByRecursion (IsIn m) (move_rows m)
+all_in : (m : Moves) → AllByRecursion (IsIn m) (rows_of_moves m)
 all_in m =
     all-flat_map (IsIn m) round_rows (maps.entries m)
     (at_entries nat_cmp_total nat_cmp-IsAntisymmetric (λ round recorded. AllByRecursion (IsIn m) (round_rows (round, recorded))) m (λ round recorded f.
-    all_map (IsIn m) (move_row round) (maps.entries recorded.by_person)
-    (at_entries nat_list_cmp_total exact_texts (λ p moved. IsIn m (move_row round (p, moved))) recorded.by_person (λ p moved g. ap (λ o. maps.get (kept_moves o) p) f ∙ g))))
+    all_map (IsIn m) (row_of_move round) (maps.entries recorded.by_person)
+    (at_entries nat_list_cmp_total exact_texts (λ p moved. IsIn m (row_of_move round (p, moved))) recorded.by_person (λ p moved g. ap (λ o. maps.get (kept_moves o) p) f ∙ g))))
 
 split_all : {A : Type 0} (P : A → Type 0) (xs ys : List A) → AllByRecursion P (xs ++ ys) → AllByRecursion P xs × AllByRecursion P ys
 split_all P [] ys h = (tt, h)
@@ -210,22 +210,22 @@ all_apart P f [] h = tt
 all_apart P f (x ∷ xs) h = let parts = split_all P (f x) (flat_map f xs) h in (parts.0, all_apart P f xs parts.1)
 
 -- What holds for each row holds for each move.
-at_moves : (P : Move → Type 0) (m : Moves) → AllByRecursion P (move_rows m) → (round : ℕ) (p : Text) (moved : Moved) → maps.get (moves_of m round) p ≡ Some moved → P (move_row round (p, moved))
+at_moves : (P : Move → Type 0) (m : Moves) → AllByRecursion P (rows_of_moves m) → (round : ℕ) (p : Text) (moved : Moved) → maps.get (moves_of m round) p ≡ Some moved → P (row_of_move round (p, moved))
 at_moves P m h round p moved f =
-    elim (maps.get m round) as (λ o. maps.get m round ≡ o → maps.get (kept_moves o) p ≡ Some moved → P (move_row round (p, moved))) [
+    elim (maps.get m round) as (λ o. maps.get m round ≡ o → maps.get (kept_moves o) p ≡ Some moved → P (row_of_move round (p, moved))) [
       | None ↦ λ none g. let nothing = get-empty {X = Moved} text_cmp p in absurd (cc)
       | Some recorded ↦ λ some g.
-          at_keys nat_list_cmp_total exact_texts (λ q v. P (move_row round (q, v))) recorded.by_person
-          (all_unmap P (move_row round) (maps.entries recorded.by_person)
+          at_keys nat_list_cmp_total exact_texts (λ q v. P (row_of_move round (q, v))) recorded.by_person
+          (all_unmap P (row_of_move round) (maps.entries recorded.by_person)
           (at_keys nat_cmp_total nat_cmp-IsAntisymmetric (λ r k. AllByRecursion P (round_rows (r, k))) m (all_apart P round_rows (maps.entries m) h) round recorded some)) p moved g
     ] refl f
 
-pub one_moves : (m n : Moves) → AreValidMoves m → AreValidMoves n → IsPermutation (move_rows m) (move_rows n) → m ≡ n
+pub one_moves : (m n : Moves) → AreStorableMoves m → AreStorableMoves n → IsPermutation (rows_of_moves m) (rows_of_moves n) → m ≡ n
 one_moves m n sound_m sound_n same =
     let alike : (round : ℕ) → moves_of m round ≡ moves_of n round = λ round.
     same_finds nat_list_cmp_total exact_texts (moves_of m round) (moves_of n round)
-    (at_moves (IsIn m) n (permuted_all (IsIn m) (move_rows m) (move_rows n) same (all_in m)) round)
-    (at_moves (IsIn n) m (permuted_all (IsIn n) (move_rows n) (move_rows m) (IsPermutation-sym _ _ same) (all_in n)) round) in
+    (at_moves (IsIn m) n (permuted_all (IsIn m) (rows_of_moves m) (rows_of_moves n) same (all_in m)) round)
+    (at_moves (IsIn n) m (permuted_all (IsIn n) (rows_of_moves n) (rows_of_moves m) (IsPermutation-sym _ _ same) (all_in n)) round) in
     same_map nat_cmp_total nat_cmp-IsAntisymmetric m n (λ round.
     rounds (maps.get m round) (maps.get n round) (λ k f. sound_m.none_empty round k f) (λ k f. sound_n.none_empty round k f) (alike round))
   where
@@ -235,25 +235,25 @@ one_moves m n sound_m sound_n same =
     rounds (Some k) None f g e = absurd (f k refl e)
     rounds (Some k) (Some l) f g e = λ i. Some (record { by_person = e i })
 
-nothing_recorded : AreValidMoves maps.empty
+nothing_recorded : AreStorableMoves maps.empty
 nothing_recorded = record { none_empty = λ round recorded f. let none = get-empty {X = RoundMoves} nat_cmp round in absurd (cc) }
 
-no_rows : move_rows maps.empty ≡ []
+no_rows : rows_of_moves maps.empty ≡ []
 no_rows = ap (flat_map round_rows) (entries-empty nat_cmp_total)
 
-recorded_moves-rows : (rows moved : List Move) → IsPermutation rows moved → (found : Option Moves) → recorded_moves maps.empty moved ≡ found → Reads AreValidMoves move_rows rows found
+recorded_moves-rows : (rows moved : List Move) → IsPermutation rows moved → (found : Option Moves) → recorded_moves maps.empty moved ≡ found → Reads AreStorableMoves rows_of_moves rows found
 recorded_moves-rows rows moved same None e = record {
   returned = tt;
   only = λ m sound has. absurd (recorded_moves-all moved maps.empty (moves_distinct m moved (IsPermutation-trans _ _ _ has same)) (all_new moved) e);
 }
 recorded_moves-rows rows moved same (Some final) e =
     let has = recorded_moves-has moved maps.empty final nothing_recorded e in
-    let returned : IsPermutation (move_rows final) rows =
-    IsPermutation-sym _ _ (IsPermutation-trans _ _ _ same (subst (λ l. IsPermutation (l ++ moved) (move_rows final)) no_rows has.1)) in
+    let returned : IsPermutation (rows_of_moves final) rows =
+    IsPermutation-sym _ _ (IsPermutation-trans _ _ _ same (subst (λ l. IsPermutation (l ++ moved) (rows_of_moves final)) no_rows has.1)) in
     record {
       returned = (has.0, returned);
       only = λ m sound these. ap (λ q. Some q) (one_moves final m has.0 sound (IsPermutation-trans _ _ _ returned (IsPermutation-sym _ _ these)));
     }
 
-pub recorded_moves-reads : (rows : List Move) → Reads AreValidMoves move_rows rows (recorded_moves maps.empty (reverse rows))
+pub recorded_moves-reads : (rows : List Move) → Reads AreStorableMoves rows_of_moves rows (recorded_moves maps.empty (reverse rows))
 recorded_moves-reads rows = recorded_moves-rows rows (reverse rows) (IsPermutation-reverse rows) (recorded_moves maps.empty (reverse rows)) refl

@@ -14,13 +14,13 @@ use Rattle.office_schema.specs.declared.rows.records.PersonRecord.{PersonRecord}
 use Rattle.office_schema.specs.declared.rows.records.RoundRecord.{RoundRecord}
 
 -- the row of a person
-abbrev pub person_row : TextMap (Unit {0}) → Text × Person → PersonRecord
-person_row withdrawn e =
+abbrev pub row_of_person : TextMap (Unit {0}) → Text × Person → PersonRecord
+row_of_person withdrawn e =
     record { id = e.0; person = e.1; withdrawn = maps.contains_key withdrawn e.0 }
 
 -- a row for each person
-abbrev pub person_rows : TextMap Person → TextMap (Unit {0}) → List PersonRecord
-person_rows people withdrawn = map (person_row withdrawn) (maps.entries people)
+abbrev pub rows_of_people : TextMap Person → TextMap (Unit {0}) → List PersonRecord
+rows_of_people people withdrawn = map (row_of_person withdrawn) (maps.entries people)
 
 -- The row of the round holds this version.
 abbrev pub IsOfVersion : ℕ → RoundRecord → Type 0
@@ -45,17 +45,17 @@ abbrev pub choice_rows : TextMap (List Text) → List ChoiceRecord
 choice_rows lists = flat_map list_rows (maps.entries lists)
 
 -- the row of a move
-abbrev pub move_row : ℕ → Text × Moved → Move
-move_row round e =
+abbrev pub row_of_move : ℕ → Text × Moved → Move
+row_of_move round e =
     record { round = round; person = e.0; from = e.1.from; to = e.1.to; wave = e.1.wave }
 
 -- the rows of a round's moves
 abbrev pub round_rows : ℕ × RoundMoves → List Move
-round_rows e = map (move_row e.0) (maps.entries e.1.by_person)
+round_rows e = map (row_of_move e.0) (maps.entries e.1.by_person)
 
 -- a row for each move of all rounds
-abbrev pub move_rows : RoundMap RoundMoves → List Move
-move_rows moves = flat_map round_rows (maps.entries moves)
+abbrev pub rows_of_moves : RoundMap RoundMoves → List Move
+rows_of_moves moves = flat_map round_rows (maps.entries moves)
 
 -- a row for each key of a set
 abbrev pub key_rows : TextMap (Unit {0}) → List Text
@@ -65,16 +65,16 @@ key_rows keys = map (λ e. e.0) (maps.entries keys)
 -- move.
 
 -- Each person who has withdrawn is in `people`.
-pub record AreValidPeople (people : TextMap Person) (withdrawn : TextMap (Unit {0})) : Type 0 where
+pub record AreStorablePeople (people : TextMap Person) (withdrawn : TextMap (Unit {0})) : Type 0 where
   pub withdrawers : (p : Text) → maps.contains_key withdrawn p ≡ true
       → maps.contains_key people p ≡ true
 
 -- No list is empty. Each list has at most forty rooms, and no room twice.
-pub record AreValidLists (lists : TextMap (List Text)) : Type 0 where
+pub record AreStorableLists (lists : TextMap (List Text)) : Type 0 where
   pub none_empty : (p : Text) → maps.get lists p ≡ Some [] → ⊥
   pub chosen : (p : Text) (codes : List Text) → maps.get lists p ≡ Some codes → IsChoices codes
 
 -- Each recorded round has a move.
-pub record AreValidMoves (moves : RoundMap RoundMoves) : Type 0 where
+pub record AreStorableMoves (moves : RoundMap RoundMoves) : Type 0 where
   pub none_empty : (round : ℕ) (recorded : RoundMoves) → maps.get moves round ≡ Some recorded
       → recorded.by_person ≡ maps.empty → ⊥

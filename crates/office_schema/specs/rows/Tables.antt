@@ -6,7 +6,7 @@ use Rattle.room_types.specs.declared.moves.Move.{Move}
 use Rattle.office_state.specs.declared.office.Assigned.{Assigned}
 use Rattle.office_state.specs.declared.office.Office.{Office}
 use Rattle.office_state.specs.declared.office.stored_import.StoredImport.{StoredImport}
-use Rattle.office_schema.specs.rows.Rows.{only_row, person_rows, choice_rows, move_rows, key_rows}
+use Rattle.office_schema.specs.rows.Rows.{only_row, rows_of_people, choice_rows, rows_of_moves, key_rows}
 use Rattle.office_schema.specs.declared.rows.records.ChoiceRecord.{ChoiceRecord}
 use Rattle.office_schema.specs.declared.rows.records.PersonRecord.{PersonRecord}
 use Rattle.office_schema.specs.declared.rows.records.RoundRecord.{RoundRecord}
@@ -34,12 +34,12 @@ own_version = 3
 unfoldable pub rows_at : ℕ → Office → Tables
 rows_at version office = record {
   rooms = maps.entries office.rooms;
-  people = person_rows office.people office.withdrawn;
+  people = rows_of_people office.people office.withdrawn;
   rounds = only_row (record { version = version; number = office.number; phase = office.phase });
   choices = choice_rows office.choices;
   words = maps.entries office.words;
   results = maps.entries office.results;
-  moves = move_rows office.moves;
+  moves = rows_of_moves office.moves;
   lists = maps.entries office.lists;
   grades = maps.entries office.grades;
   going = key_rows office.going;

@@ -5,7 +5,7 @@ ghost use Rattle.std.specs.FinMap as map;
 ghost use Rattle.room_types.specs.Choices.{IsChoices};
 ghost use Rattle.office_schema.specs.rows.Inner.Gathered.{chosen_from, gathered, row_cmp};
 ghost use Rattle.office_schema.specs.rows.Reads.{Reads};
-ghost use Rattle.office_schema.specs.rows.Rows.{AreValidLists, choice_rows};
+ghost use Rattle.office_schema.specs.rows.Rows.{AreStorableLists, choice_rows};
 
 use crate::rows::records::ChoiceRecord;
 use room_types::grammars::PersonIds;
@@ -19,7 +19,7 @@ pub fn read_choices(
     alloc: Global,
     rows: Vec<ChoiceRecord>,
 ) -> Result<Option<Table<PersonIds, Choices>>, OutOfMemory>
-    ensures reads { IfOk result (λ found. Reads AreValidLists choice_rows rows.items found) }
+    ensures reads { IfOk result (λ found. Reads AreStorableLists choice_rows rows.items found) }
     ensures memory { OnErr result (0 < length rows.items) }
 {
     let mut rows = rows;

@@ -2,7 +2,7 @@
 ghost use Rattle.std.specs.Prelude.{◌≡◌, ◌<◌, IfOk, OnErr, length, reverse};
 ghost use Rattle.std.specs.FinMap as map;
 ghost use Rattle.office_state.specs.Office.Moves.{moves_of};
-ghost use Rattle.office_schema.specs.rows.Rows.{AreValidMoves, move_rows};
+ghost use Rattle.office_schema.specs.rows.Rows.{AreStorableMoves, rows_of_moves};
 ghost use Rattle.office_schema.specs.rows.Inner.Recorded.{recorded_moves};
 ghost use Rattle.office_schema.specs.rows.Reads.{Reads};
 
@@ -14,7 +14,7 @@ use std::alloc::Global;
 /// twice in a round; otherwise the result is unique. Fails only if an allocation fails, and cannot fail if `rows` is
 /// empty.
 pub fn read_moves(alloc: Global, rows: Vec<Move>) -> Result<Option<Rounds<RoundMoves>>, OutOfMemory>
-    ensures reads { IfOk result (λ found. Reads AreValidMoves move_rows rows.items found) }
+    ensures reads { IfOk result (λ found. Reads AreStorableMoves rows_of_moves rows.items found) }
     ensures memory { OnErr result (0 < length rows.items) }
 {
     fill_moves(alloc, rows)

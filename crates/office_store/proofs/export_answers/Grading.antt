@@ -14,7 +14,7 @@ use Rattle.office_state.specs.declared.office.Office.{Office}
 use Rattle.office_state.specs.declared.office.person.Person.{Person}
 use Rattle.office_lists.specs.Exports.{grade_fields, header_of}
 use Rattle.office_lists.specs.declared.exports.ExportKind.TheVariants.{Grades}
-use Rattle.office_schema.specs.rows.Rows.{person_row, person_rows}
+use Rattle.office_schema.specs.rows.Rows.{row_of_person, rows_of_people}
 use Rattle.office_schema.specs.rows.Tables.{rows_at}
 use Rattle.office_schema.specs.declared.rows.records.PersonRecord.{PersonRecord}
 use Rattle.office_schema.specs.cells.Cells.{count_or_null}
@@ -40,12 +40,12 @@ abbrev recorded : Office → Bytes → Option ℕ
 recorded office id = maps.get office.grades id
 
 abbrev records : Office → List PersonRecord
-records office = person_rows office.people office.withdrawn
+records office = rows_of_people office.people office.withdrawn
 
 outs_rise : (office : Office) → Rises from (col 1 1 ∷ col 2 2 ∷ []) (up (col 1 1) ∷ []) (map (out (recorded office)) (records office))
 outs_rise office =
     let shown = out (recorded office) in
-    let row = person_row office.withdrawn in
+    let row = row_of_person office.withdrawn in
     ascending-map (λ a b. output_cmp grades_query a b ≡ Less) shown (records office)
     (ascending-map (λ a b. output_cmp grades_query (shown a) (shown b) ≡ Less) row (maps.entries office.people)
     (ascending_weaker (λ a b. text_cmp a.0 b.0 ≡ Less) (λ a b. output_cmp grades_query (shown (row a)) (shown (row b)) ≡ Less)
@@ -70,7 +70,7 @@ outs_are office people grades h k =
     ap₂ (λ (l m : List Row). map (output grades_query) (flat_map (λ person. joined person (filter (meets person) m)) l)) h.rows_are k.rows_are
     ∙ grades_shown (recorded office) k.entries (graded office grades k) h.entries
 
-shown_again : (office : Office) (e : Bytes × Person) → grade_record ((out (recorded office) (person_row office.withdrawn e)).1) ≡ grade_fields (grade_row office e)
+shown_again : (office : Office) (e : Bytes × Person) → grade_record ((out (recorded office) (row_of_person office.withdrawn e)).1) ≡ grade_fields (grade_row office e)
 shown_again office e = go (recorded office e.0)
   where
     go : (o : Option ℕ) → grade_record (Text e.0 ∷ count_or_null o ∷ []) ≡ grade_fields (record { person = e.0; grade = unwrap_or o 0 })
@@ -83,7 +83,7 @@ unfolding rows_at
 grades_answer db office rows holds lawful h =
     let held = holds.rows.people in
     let shown = out (recorded office) in
-    let row = person_row office.withdrawn in
+    let row = row_of_person office.withdrawn in
     let entries = maps.entries office.people in
     let all : IsPermutation (map shown (records office)) (map (output grades_query) (matches db.trees [] from ([] ∷ []))) =
     subst (IsPermutation (map shown (records office))) (sym (outs_are office (db.trees 2) (db.trees 11) held holds.rows.grades))

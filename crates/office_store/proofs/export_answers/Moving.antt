@@ -28,7 +28,7 @@ use Rattle.office_state.specs.declared.office.moves.RoundMoves.{RoundMoves}
 use Rattle.office_lists.specs.Exports.{header_of, move_fields}
 use Rattle.office_lists.specs.declared.exports.ExportKind.TheVariants.{Moves}
 use Rattle.office_schema.specs.rows.Tables.{rows_at}
-use Rattle.office_schema.specs.rows.Rows.{move_row, move_rows, round_rows}
+use Rattle.office_schema.specs.rows.Rows.{row_of_move, rows_of_moves, round_rows}
 use Rattle.office_schema.specs.cells.Cells.{text_or_null, wave_value}
 use Rattle.office_schema.specs.cells.Columns.{move_columns}
 use Rattle.office_schema.specs.tables.Holds.{Holds, stored}
@@ -60,18 +60,18 @@ number_same a = value_cmp-Int (pos a) (pos a) ∙ tied_itself int_cmp_total (pos
 earlier_round : (a b : Move) → nat_cmp a.round b.round ≡ Less → Before a b
 earlier_round a b less = ap (λ o. ordering_then o (ordering_then (value_cmp (Text a.person) (Text b.person)) Equal)) (number_before a.round b.round less)
 
-earlier_person : (round : ℕ) (a b : Bytes × Moved) → text_cmp a.0 b.0 ≡ Less → Before (move_row round a) (move_row round b)
+earlier_person : (round : ℕ) (a b : Bytes × Moved) → text_cmp a.0 b.0 ≡ Less → Before (row_of_move round a) (row_of_move round b)
 earlier_person round a b less =
     ap (λ o. ordering_then o (ordering_then (value_cmp (Text a.0) (Text b.0)) Equal)) (number_same round)
     ∙ text_before a.0 b.0 Equal less
 
 round_rises : (e : ℕ × RoundMoves) → IsAscending Before (round_rows e)
 round_rises e =
-    ascending-map Before (move_row e.0) (maps.entries e.1.by_person)
-    (ascending_weaker (λ a b. text_cmp a.0 b.0 ≡ Less) (λ a b. Before (move_row e.0 a) (move_row e.0 b)) (earlier_person e.0) (maps.entries e.1.by_person) (entries_rise text_cmp e.1.by_person))
+    ascending-map Before (row_of_move e.0) (maps.entries e.1.by_person)
+    (ascending_weaker (λ a b. text_cmp a.0 b.0 ≡ Less) (λ a b. Before (row_of_move e.0 a) (row_of_move e.0 b)) (earlier_person e.0) (maps.entries e.1.by_person) (entries_rise text_cmp e.1.by_person))
 
 of_round : (e : ℕ × RoundMoves) → AllByRecursion (λ x. x.round ≡ e.0) (round_rows e)
-of_round e = all-map (λ x. x.round ≡ e.0) (move_row e.0) (λ _. refl) (maps.entries e.1.by_person)
+of_round e = all-map (λ x. x.round ≡ e.0) (row_of_move e.0) (λ _. refl) (maps.entries e.1.by_person)
 
 later_rounds : (round : ℕ) (es : List (ℕ × RoundMoves)) → AllByRecursion (λ e. nat_cmp round e.0 ≡ Less) es → AllByRecursion (λ x. nat_cmp round x.round ≡ Less) (flat_map round_rows es)
 later_rounds round [] above = tt
@@ -89,8 +89,8 @@ rounds_rise (e ∷ es) up =
     (round_rows e) (of_round e))
 
 outs_rise : (moves : RoundMap RoundMoves)
-    → Rises (inner 7 end) (col 1 1 ∷ col 1 2 ∷ col 1 3 ∷ col 1 4 ∷ col 1 5 ∷ []) (up (col 1 1) ∷ up (col 1 2) ∷ []) (map out (move_rows moves))
-outs_rise moves = ascending-map (λ a b. output_cmp moves_query a b ≡ Less) out (move_rows moves) (rounds_rise (maps.entries moves) (entries_rise nat_cmp moves))
+    → Rises (inner 7 end) (col 1 1 ∷ col 1 2 ∷ col 1 3 ∷ col 1 4 ∷ col 1 5 ∷ []) (up (col 1 1) ∷ up (col 1 2) ∷ []) (map out (rows_of_moves moves))
+outs_rise moves = ascending-map (λ a b. output_cmp moves_query a b ≡ Less) out (rows_of_moves moves) (rounds_rise (maps.entries moves) (entries_rise nat_cmp moves))
 
 -- what is shown of all rows of the table
 outs_are : (rows : List Row) (records : List Move) (h : Holds move_columns rows records)
@@ -122,7 +122,7 @@ moves_answer : (db : Database) (office : Office) (rows : List Row) → HoldsOffi
 unfolding rows_at
 moves_answer db office rows holds lawful h =
     let held = holds.rows.moves in
-    let records = move_rows office.moves in
+    let records = rows_of_moves office.moves in
     let all : IsPermutation (map out records) (map (output moves_query) (matches db.trees [] (inner 7 end) ([] ∷ []))) =
     subst (IsPermutation (map out records)) (sym (ap (map (output moves_query)) (one_table db.trees 7) ∙ outs_are (db.trees 7) records held))
     (IsPermutation-map out _ _ held.same) in

@@ -16,7 +16,7 @@ use Rattle.office_core.specs.Query.Rooms.{room_row, state_of}
 use Rattle.office_lists.specs.Exports.{header_of, room_fields}
 use Rattle.office_lists.specs.declared.exports.ExportKind.TheVariants.{Rooms}
 use Rattle.office_schema.specs.rows.Tables.{rows_at}
-use Rattle.office_schema.specs.rows.Rows.{person_rows}
+use Rattle.office_schema.specs.rows.Rows.{rows_of_people}
 use Rattle.office_schema.specs.declared.rows.records.PersonRecord.{PersonRecord}
 use Rattle.office_schema.specs.cells.Cells.{flag, text_or_null}
 use Rattle.office_schema.specs.cells.Columns.{person_columns, room_columns}
@@ -43,7 +43,7 @@ outs_rise office =
     (λ a b less. text_before a.0 b.0 Equal less) (maps.entries office.rooms) (entries_rise text_cmp office.rooms))
 
 -- who lives in a room, among the rows of the people
-named : (office : Office) → IsLawful office → (rows : List Row) (h : Holds person_columns rows (person_rows office.people office.withdrawn)) (code : Bytes)
+named : (office : Office) → IsLawful office → (rows : List Row) (h : Holds person_columns rows (rows_of_people office.people office.withdrawn)) (code : Bytes)
     → map (λ (e : ℤ × PersonRecord). e.1.id) (filter (λ (e : ℤ × PersonRecord). is_text e.1.person.home code) h.entries) ≡ option_to_list (tenant office code)
 named office lawful rows h code =
     let of : ℤ × PersonRecord → PersonRecord = λ e. e.1 in
@@ -54,7 +54,7 @@ named office lawful rows h code =
 
 -- what is shown of all matches
 outs_are : (office : Office) → IsLawful office → (rooms people : List Row) (h : Holds room_columns rooms (maps.entries office.rooms))
-    (k : Holds person_columns people (person_rows office.people office.withdrawn))
+    (k : Holds person_columns people (rows_of_people office.people office.withdrawn))
     → map (output rooms_query) (flat_map (λ room. joined room (filter (meets room) people)) rooms)
     ≡ map (out (tenant office)) (map (λ (e : ℤ × (Bytes × Bool)). e.1) h.entries)
 outs_are office lawful rooms people h k =

@@ -17,7 +17,7 @@ use Rattle.office_state.specs.Office.Invariants.{Unshared}
 use Rattle.office_state.specs.Office.{first_person, had_by, holder, is_text, lives_in}
 use Rattle.office_state.specs.declared.office.person.Person.{Person}
 use Rattle.office_state.proofs.offices.People.{held-is_text}
-use Rattle.office_schema.specs.rows.Rows.{person_row, person_rows}
+use Rattle.office_schema.specs.rows.Rows.{row_of_person, rows_of_people}
 use Rattle.office_schema.specs.declared.rows.records.PersonRecord.{PersonRecord}
 use Rattle.office_store.proofs.export_answers.Rising.{entries_rise}
 
@@ -64,12 +64,12 @@ module _ (people : TextMap Person) (code : Text) (differ : Unshared (λ p. p.hom
       (maps.entries people) (entries_found nat_list_cmp_total exact_texts (maps.entries people) (entries_sorted people))
 
   -- Among the rows of all people, in any order, those of the people who live there name the tenant.
-  pub tenant_named : (withdrawn : TextMap (Unit {0})) (rows : List PersonRecord) → IsPermutation (person_rows people withdrawn) rows
+  pub tenant_named : (withdrawn : TextMap (Unit {0})) (rows : List PersonRecord) → IsPermutation (rows_of_people people withdrawn) rows
       → map (λ (x : PersonRecord). x.id) (filter (λ (x : PersonRecord). is_text x.person.home code) rows) ≡ option_to_list (holder (λ p. p.home) people code)
   tenant_named withdrawn rows same =
       let test : PersonRecord → Bool = λ x. is_text x.person.home code in
-      let named : map (λ (x : PersonRecord). x.id) (filter test (person_rows people withdrawn)) ≡ option_to_list (holder (λ p. p.home) people code) =
-      ap (map (λ (x : PersonRecord). x.id)) (filter-map test (person_row withdrawn) (maps.entries people))
-      ∙ map-map (λ (x : PersonRecord). x.id) (person_row withdrawn) (filter lives (maps.entries people))
+      let named : map (λ (x : PersonRecord). x.id) (filter test (rows_of_people people withdrawn)) ≡ option_to_list (holder (λ p. p.home) people code) =
+      ap (map (λ (x : PersonRecord). x.id)) (filter-map test (row_of_person withdrawn) (maps.entries people))
+      ∙ map-map (λ (x : PersonRecord). x.id) (row_of_person withdrawn) (filter lives (maps.entries people))
       ∙ one_lives (maps.entries people) (entries_rise text_cmp people) each_found in
       few _ _ (subst (λ l. IsPermutation l (map (λ (x : PersonRecord). x.id) (filter test rows))) named (IsPermutation-map (λ (x : PersonRecord). x.id) _ _ (IsPermutation-filter test _ _ same)))

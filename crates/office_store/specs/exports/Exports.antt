@@ -12,7 +12,7 @@ use Rattle.office_lists.specs.Exports.{grades_export, moves_export, people_expor
 use Rattle.office_lists.specs.Records.{Record}
 use Rattle.office_lists.specs.declared.exports.ExportKind.{ExportKind}
 use Rattle.office_lists.specs.declared.exports.ExportKind.TheVariants.{Rooms, People, Moves, Grades}
-use Rattle.office_schema.specs.rows.Rows.{move_rows}
+use Rattle.office_schema.specs.rows.Rows.{rows_of_moves}
 
 -- a person's grade, which is 0 if none is recorded
 abbrev pub grade_row : Office → Text × Person → GradeRow
@@ -27,5 +27,5 @@ grade_rows office = map (grade_row office) (maps.entries office.people)
 abbrev pub exported : ExportKind → Office → List Record
 exported Rooms office = rooms_export (room_rows office)
 exported People office = people_export (person_rows office)
-exported Moves office = moves_export (move_rows office.moves)
+exported Moves office = moves_export (rows_of_moves office.moves)
 exported Grades office = grades_export (grade_rows office)

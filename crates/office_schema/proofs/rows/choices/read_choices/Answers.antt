@@ -1,7 +1,7 @@
 use Rattle.std.proofs.Common.{rules, ◌<◌, length, sym, ap, ◌∙◌, subst}
 use Rattle.std.specs.FinMap as map
 use Rattle.std.proofs.lemmas.Result.{IfOk-weaker, on_err_weaker}
-use Rattle.office_schema.specs.rows.Rows.{AreValidLists, choice_rows}
+use Rattle.office_schema.specs.rows.Rows.{AreStorableLists, choice_rows}
 use Rattle.office_schema.specs.rows.Inner.Gathered.{gathered}
 use Rattle.office_schema.specs.rows.Reads.{Reads}
 use Rattle.office_schema.proofs.rows_read.Gathering.{fewer_moved, gathered-from, reads-none, reads-some}
@@ -14,7 +14,7 @@ returns-in_default-clause-reads c =
 
 pub returns-clause-reads : goal.returns-clause-reads
 returns-clause-reads c =
-    IfOk-weaker c.all_chosen.result _ _ (λ found e. subst (λ o. Reads AreValidLists choice_rows c.args.rows.items o) (sym e)
+    IfOk-weaker c.all_chosen.result _ _ (λ found e. subst (λ o. Reads AreStorableLists choice_rows c.args.rows.items o) (sym e)
     (reads-some c.args.rows.items c.sort_choice_rows.new.rows.items c.sort_choice_rows.ensures.moved c.sort_choice_rows.ensures.ascending c.in-Some.lists
     (ap (gathered map.empty) (sym c.as_slice.ensures.value) ∙ sym c.in_ok-lists.ensures.gathers ∙ c.in-Some.is))) c.all_chosen.ensures.chooses
 
