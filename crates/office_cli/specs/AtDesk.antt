@@ -19,7 +19,8 @@ use Rattle.office_lists.specs.Exports.{export_bytes, header_of}
 use Rattle.office_lists.specs.Records.{Record}
 use Rattle.office_lists.specs.declared.exports.ExportKind.{ExportKind}
 use Rattle.office_db.specs.loading.Reading.{OnlyReads}
-use Rattle.office_store.specs.Desk.{DeskState, HandlesAt, Represents}
+use Rattle.office_store.specs.Desk.{DeskState, Represents}
+use Rattle.office_store.specs.Handling.{HandlesAt}
 use Rattle.office_store.specs.LawfulSteps.{HandlesLawfully}
 use Rattle.office_store.specs.declared.desk.faults.DeskFault.{DeskFault}
 use Rattle.office_schema.specs.tables.Steps.{Follows}

@@ -8,7 +8,8 @@ use Rattle.office_state.specs.declared.office.Office.{Office}
 use Rattle.office_schema.specs.rows.Tables.{rows_of}
 use Rattle.office_schema.specs.tables.Crashes.{LeavesNothingNew, ShowsCommitted}
 use Rattle.office_schema.specs.tables.Tables.{AreHeld}
-use Rattle.office_store.specs.Desk.{DeskState, HandlesAt, Shows}
+use Rattle.office_store.specs.Desk.{DeskState, Shows}
+use Rattle.office_store.specs.Handling.{HandlesAt}
 use Rattle.office_store.specs.LawfulSteps.{HandlesLawfully}
 use Rattle.office_core.specs.Requests.{IsRun, office_after}
 use Rattle.office_core.specs.declared.requests.Answer.{Answer}

@@ -16,7 +16,8 @@ use Rattle.office_lines.proofs.handled.Steps.{words_shown}
 use Rattle.office_lines.specs.Printing.{Prints, PrintsUnavailable}
 use Rattle.office_lines.specs.SingleLines.{DoesWords}
 use Rattle.office_store.proofs.desks.Runs.{step_represented}
-use Rattle.office_store.specs.Desk.{DeskState, HandlesAt, Represents}
+use Rattle.office_store.specs.Desk.{DeskState, Represents}
+use Rattle.office_store.specs.Handling.{HandlesAt}
 use Rattle.office_store.specs.LawfulSteps.{HandlesLawfully}
 use Rattle.office_state.specs.declared.office.Office.{Office}
 use Rattle.office_schema.proofs.statements.Steps.{follows-refl}

@@ -11,7 +11,8 @@ use Rattle.office_lines.specs.Runs.{Run}
 use Rattle.office_lines.specs.declared.ending.Ending.{Ending}
 use Rattle.office_state.specs.declared.office.Office.{Office}
 use Rattle.office_store.proofs.desks.Runs.{step_represented}
-use Rattle.office_store.specs.Desk.{DeskState, HandlesAt, Represents}
+use Rattle.office_store.specs.Desk.{DeskState, Represents}
+use Rattle.office_store.specs.Handling.{HandlesAt}
 use Rattle.office_store.specs.LawfulSteps.{HandlesLawfully}
 use Rattle.office_schema.proofs.statements.Steps.{follows-refl, follows_then}
 use Rattle.office_schema.specs.tables.Steps.{Follows}

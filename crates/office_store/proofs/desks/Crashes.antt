@@ -10,7 +10,8 @@ use Rattle.office_state.specs.declared.office.Office.{Office}
 use Rattle.office_schema.specs.rows.Tables.{rows_of}
 use Rattle.office_schema.specs.tables.Tables.{AreHeld, HoldsOffice}
 use Rattle.office_store.specs.Crashes.{LeavesAfterRequest, LeavesAfterRun, LeavesNothingOnceClosed, LeavesOffice, LeavesWhatIsShown}
-use Rattle.office_store.specs.Desk.{DeskState, HandlesAt, Represents}
+use Rattle.office_store.specs.Desk.{DeskState, Represents}
+use Rattle.office_store.specs.Handling.{HandlesAt}
 use Rattle.office_core.specs.Requests.{IsRun, office_after}
 use Rattle.office_core.specs.declared.requests.Answer.{Answer}
 use Rattle.office_core.specs.declared.requests.Request.{Request}

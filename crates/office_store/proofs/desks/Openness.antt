@@ -15,7 +15,7 @@ use Rattle.office_schema.proofs.statements.Crashes.{survives_nothing_new}
 use Rattle.office_db.specs.loading.Reading.{OnlyReads}
 use Rattle.office_db.proofs.found_offices.States.{reads_failed}
 use Rattle.office_store.proofs.desks.Requests.{represents_still}
-use Rattle.office_store.specs.Desk.{TellsIfOpen}
+use Rattle.office_store.specs.Handling.{TellsIfOpen}
 use Rattle.office_store.specs.declared.desk.faults.Unavailable.{Unavailable as NoAnswer}
 
 module _ (sql : List ℕ) (params : Row) (old new : State) where

@@ -26,7 +26,8 @@ use Rattle.office_db.specs.loading.Reading.{KeepsDatabase, OnlyReads}
 use Rattle.office_db.proofs.found_offices.Following.{keeps_then, reads-refl, reads_then}
 use Rattle.office_store.proofs.desks.Certain.{false_is_not_true}
 use Rattle.office_store.specs.Caching.{changes_allocate}
-use Rattle.office_store.specs.Desk.{CommitsRequest, DeskState, HandlesAt, IsAnsweredBy, UpdatesCache, Shows, Represents}
+use Rattle.office_store.specs.Desk.{DeskState, Shows, Represents}
+use Rattle.office_store.specs.Handling.{CommitsRequest, HandlesAt, IsAnsweredBy, UpdatesCache}
 use Rattle.office_store.specs.Certain.{is_certain}
 use Rattle.office_core.specs.Requests.{Handles, answer_unless, answer_to, office_after, office_unless}
 use Rattle.office_store.specs.Storing.{IsStored, changes_nothing, stores_nothing}

@@ -1,6 +1,6 @@
 //! Asks whether the connection of a desk is open.
 ghost use Rattle.std.specs.Prelude.{◌≡◌, false, IfOk};
-ghost use Rattle.office_store.specs.Desk.{TellsIfOpen};
+ghost use Rattle.office_store.specs.Handling.{TellsIfOpen};
 
 use crate::desk::Desk;
 use crate::desk::faults::Unavailable;

@@ -8,7 +8,8 @@ use Rattle.sqlite.specs.Steps.{over_memory}
 use Rattle.office_state.specs.declared.office.Office.{Office}
 use Rattle.office_schema.specs.tables.Steps.{Follows}
 use Rattle.office_schema.proofs.statements.Steps.{follows-refl, follows_then}
-use Rattle.office_store.specs.Desk.{DeskState, HandlesAt, Shows, Represents}
+use Rattle.office_store.specs.Desk.{DeskState, Shows, Represents}
+use Rattle.office_store.specs.Handling.{HandlesAt}
 use Rattle.office_core.specs.Requests.{Handles}
 use Rattle.office_store.proofs.desks.Runs.{step_in_memory}
 use Rattle.resident_http.specs.Connections.{Connection, ServesConnection}

@@ -1,7 +1,8 @@
 use Rattle.sqlite.specs.Steps.{over_memory}
 use Rattle.office_lines.proofs.rehearsals.Simulations.{rehearsal_shown}
 use Rattle.office_store.proofs.desks.Runs.{step_in_memory}
-use Rattle.office_store.specs.Desk.{HandlesAt, Shows}
+use Rattle.office_store.specs.Desk.{Shows}
+use Rattle.office_store.specs.Handling.{HandlesAt}
 use Rattle.office_store.specs.LawfulSteps.{HandlesLawfully}
 use Rattle.office_cli.proofs.carrying_out.rehearse_in_memory.Goals as goal
 

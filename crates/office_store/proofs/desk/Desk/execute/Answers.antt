@@ -4,7 +4,7 @@ use Rattle.office_state.specs.Empty.{is_empty}
 use Rattle.office_state.specs.Office.Invariants.{IsLawful}
 use Rattle.office_schema.specs.tables.Crashes.{LeavesOldOr}
 use Rattle.office_db.proofs.found_offices.Following.{reads-refl}
-use Rattle.office_store.specs.Desk.{CommitsRequest, HandlesAt, UpdatesCache}
+use Rattle.office_store.specs.Handling.{CommitsRequest, HandlesAt, UpdatesCache}
 use Rattle.office_store.specs.Storing.{changes_nothing}
 use Rattle.office_core.specs.declared.requests.Answer.TheVariants.{Reply, Unavailable}
 use Rattle.office_core.specs.declared.requests.Request.TheVariants.{Office as Request-Office}

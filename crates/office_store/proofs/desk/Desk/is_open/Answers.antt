@@ -1,7 +1,7 @@
 use Rattle.std.proofs.Common.{rules, not, sym, ap, ◌∙◌, subst}
 use Rattle.sqlite.specs.Held.{state}
 use Rattle.office_schema.specs.tables.Crashes.{ShowsCommitted}
-use Rattle.office_store.specs.Desk.{TellsIfOpen}
+use Rattle.office_store.specs.Handling.{TellsIfOpen}
 use Rattle.office_store.proofs.desks.Openness.{tells_open, tells_failed}
 use Rattle.office_store.proofs.desk.Desk.is_open.Goals.{in-Ok, in-Err}
 use Rattle.office_store.proofs.desk.Desk.is_open.Goals as goal
