@@ -14,7 +14,7 @@ use Rattle.office_store.specs.declared.desk.faults.DeskFault.TheVariants.{NotAnO
 use Rattle.office_schema.specs.tables.Crashes.{LeavesOldOr, ShowsCommitted}
 use Rattle.office_schema.specs.tables.Layouts.{schema_of}
 use Rattle.office_schema.specs.tables.Steps.{Follows, IsIntact}
-use Rattle.office_schema.specs.tables.Tables.{HoldsOfficeIn}
+use Rattle.office_schema.specs.tables.InLayout.{HoldsOfficeIn}
 use Rattle.office_schema.specs.declared.tables.layouts.Layout.{Layout}
 use Rattle.office_schema.specs.declared.tables.layouts.Layout.TheVariants.{Own}
 

@@ -18,7 +18,7 @@ use Rattle.office_store.specs.declared.desk.faults.DeskFault.TheVariants.{Alread
 use Rattle.office_schema.specs.tables.Crashes.{LeavesOldOr, ShowsCommitted}
 use Rattle.office_schema.specs.tables.Layouts.{schema_of, version_of}
 use Rattle.office_schema.specs.tables.Steps.{Follows, IsIntact}
-use Rattle.office_schema.specs.tables.Tables.{HoldsOfficeIn}
+use Rattle.office_schema.specs.tables.InLayout.{HoldsOfficeIn}
 use Rattle.office_schema.specs.declared.tables.layouts.Layout.{Layout}
 
 module _ {S : Type 0} (g : Ghosts S) where

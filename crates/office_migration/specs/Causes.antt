@@ -7,7 +7,7 @@ use Rattle.office_state.specs.declared.office.Office.{Office}
 use Rattle.office_schema.specs.rows.Tables.{rows_at}
 use Rattle.office_schema.specs.cells.WellFormed.{IsWellFormed}
 use Rattle.office_schema.specs.tables.Layouts.{schema_of, table_count, version_of}
-use Rattle.office_schema.specs.tables.Tables.{AreHeldIn, HoldsOfficeIn}
+use Rattle.office_schema.specs.tables.InLayout.{AreHeldIn, HoldsOfficeIn}
 use Rattle.office_schema.specs.declared.tables.layouts.Layout.{Layout}
 use Rattle.office_db.specs.loading.Finding.{AreWhole, DeclaresTables, HoldsVersion, names_round}
 use Rattle.office_db.specs.loading.FirstTables.{Begins, BeginsOffice}

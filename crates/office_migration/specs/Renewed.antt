@@ -6,7 +6,8 @@ use Rattle.office_state.specs.declared.office.Office.{Office}
 use Rattle.office_schema.specs.rows.Tables.{rows_at}
 use Rattle.office_schema.specs.cells.WellFormed.{IsWellFormed}
 use Rattle.office_schema.specs.tables.Layouts.{schema_of, version_of}
-use Rattle.office_schema.specs.tables.Tables.{HoldsOffice, HoldsOfficeIn}
+use Rattle.office_schema.specs.tables.Tables.{HoldsOffice}
+use Rattle.office_schema.specs.tables.InLayout.{HoldsOfficeIn}
 use Rattle.office_schema.specs.declared.tables.layouts.Layout.{Layout}
 use Rattle.office_db.specs.loading.Finding.{AreWhole}
 use Rattle.office_db.specs.loading.Numbers.{IsLaidOut}

@@ -2,6 +2,7 @@ pub mod Crashes
 pub mod Declaring
 pub mod Edits
 pub mod Holds
+pub mod InLayout
 pub mod Inner
 pub mod Layouts
 pub mod Makes

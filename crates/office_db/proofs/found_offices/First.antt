@@ -9,7 +9,7 @@ use Rattle.office_db.specs.loading.Numbers.{IsLaidFirst, IsLaidOut}
 use Rattle.office_db.specs.loading.Reading.{OnlyReads}
 use Rattle.office_schema.specs.tables.Layouts.{schema_of}
 use Rattle.office_schema.specs.tables.Steps.{IsIntact}
-use Rattle.office_schema.specs.tables.Tables.{HasTablesIn}
+use Rattle.office_schema.specs.tables.InLayout.{HasTablesIn}
 use Rattle.office_schema.specs.declared.tables.layouts.Layout.{Layout}
 use Rattle.office_schema.specs.declared.tables.layouts.Layout.TheVariants.{Own, Documented, DocumentedSecond, DocumentedFirst, EarlierFirst}
 

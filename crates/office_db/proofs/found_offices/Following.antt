@@ -5,7 +5,7 @@ use Rattle.sqlite.specs.Effect.{Database}
 use Rattle.office_schema.specs.rows.Tables.{Tables}
 use Rattle.office_schema.specs.tables.Crashes.{LeavesOldOr, WasOpen}
 use Rattle.office_schema.specs.tables.Steps.{IsIntact}
-use Rattle.office_schema.specs.tables.Tables.{HasTablesIn}
+use Rattle.office_schema.specs.tables.InLayout.{HasTablesIn}
 use Rattle.office_schema.specs.declared.tables.layouts.Layout.{Layout}
 use Rattle.office_schema.proofs.statements.Crashes.{nothing_new_then, old_or_then, old_or_weaker}
 use Rattle.office_schema.proofs.statements.Steps.{follows-refl, follows_then, intact_before}

@@ -13,7 +13,7 @@ use Rattle.office_schema.specs.declared.rows.records.RoundRecord.{RoundRecord}
 use Rattle.office_schema.specs.cells.Columns.{round_columns}
 use Rattle.office_schema.specs.tables.Holds.{stored}
 use Rattle.office_schema.specs.tables.Layouts.{schema_of, version_of}
-use Rattle.office_schema.specs.tables.Tables.{HoldsOfficeIn}
+use Rattle.office_schema.specs.tables.InLayout.{HoldsOfficeIn}
 use Rattle.office_schema.specs.declared.tables.layouts.Layout.{Layout}
 use Rattle.office_schema.specs.declared.tables.layouts.Layout.TheVariants.{Own, Documented, DocumentedSecond, DocumentedFirst, EarlierFirst}
 use Rattle.office_db.specs.loading.Finding.{HoldsVersion, names_round}

@@ -17,7 +17,8 @@ use Rattle.office_schema.specs.cells.WellFormed.{IsWellFormed}
 use Rattle.office_schema.specs.tables.Holds.{Holds, stored}
 use Rattle.std.proofs.lemmas.List.Elements.{All-from_recursion}
 use Rattle.office_schema.specs.tables.Layouts.{has_grades, has_leavers, table_count}
-use Rattle.office_schema.specs.tables.Tables.{AreHeldIn, HasTablesIn, HoldsIf}
+use Rattle.office_schema.specs.tables.Tables.{HoldsIf}
+use Rattle.office_schema.specs.tables.InLayout.{AreHeldIn, HasTablesIn}
 use Rattle.office_schema.specs.declared.tables.layouts.Layout.{Layout}
 use Rattle.office_schema.specs.declared.tables.layouts.Layout.TheVariants.{Own, Documented, DocumentedSecond, DocumentedFirst, EarlierFirst}
 use Rattle.office_db.specs.loading.Listing.{ShowRecords, listed}

@@ -11,7 +11,7 @@ use Rattle.sqlite.specs.Effect.{Database}
 use Rattle.office_schema.specs.rows.Tables.{own_version}
 use Rattle.office_db.specs.loading.Numbers.{IsWhole}
 use Rattle.office_schema.specs.tables.Layouts.{table_count, trees_of}
-use Rattle.office_schema.specs.tables.Schema.{documented_schema}
+use Rattle.office_schema.specs.tables.Layouts.{documented_schema}
 use Rattle.office_schema.specs.declared.tables.layouts.Layout.{Layout}
 
 -- A table, an index or a view has the name of table `round`. A table that the engine does not understand counts as a

@@ -8,7 +8,7 @@ use Rattle.office_state.specs.declared.office.Office.{Office}
 use Rattle.office_schema.specs.rows.Tables.{Tables, rows_at}
 use Rattle.office_schema.specs.tables.Layouts.{schema_of, version_of}
 use Rattle.office_schema.specs.tables.Schema.{room, person, round}
-use Rattle.office_schema.specs.tables.Tables.{AreHeldIn}
+use Rattle.office_schema.specs.tables.InLayout.{AreHeldIn}
 use Rattle.office_schema.specs.declared.tables.layouts.Layout.{Layout}
 
 -- The first three tables are `room`, `person` and `round`, and there are no views. Each layout begins with these

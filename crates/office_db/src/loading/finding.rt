@@ -10,7 +10,7 @@ ghost use Rattle.office_db.specs.loading.Numbers.{IsLaidOut};
 ghost use Rattle.office_schema.specs.tables.Crashes.{LeavesNothingNew};
 ghost use Rattle.office_schema.specs.tables.Layouts.{schema_of, version_of};
 ghost use Rattle.office_schema.specs.tables.Steps.{Follows, IsIntact};
-ghost use Rattle.office_schema.specs.tables.Tables.{HoldsOfficeIn};
+ghost use Rattle.office_schema.specs.tables.InLayout.{HoldsOfficeIn};
 ghost use Rattle.office_schema.specs.declared.tables.layouts.Layout.{Layout as AnyLayout};
 ghost use Rattle.office_db.specs.loading.Causes.{HasCause, HasCauseIn, IsAllowed, IsNotOwn, layout_fault};
 ghost use Rattle.office_db.specs.loading.Finding.{AreWhole, HoldsOtherVersion, names_round};

@@ -14,7 +14,7 @@ ghost use Rattle.office_schema.specs.tables.Crashes.{LeavesNothingNew};
 ghost use Rattle.office_schema.specs.tables.Holds.{Holds};
 ghost use Rattle.office_schema.specs.tables.Layouts.{version_of};
 ghost use Rattle.office_schema.specs.tables.Steps.{Follows, IsIntact};
-ghost use Rattle.office_schema.specs.tables.Tables.{HasTablesIn, HoldsOfficeIn};
+ghost use Rattle.office_schema.specs.tables.InLayout.{HasTablesIn, HoldsOfficeIn};
 ghost use Rattle.office_db.specs.loading.FirstTables.{Begins, HasTablesFirst, HoldsOfficeFirst};
 ghost use Rattle.office_db.specs.loading.Listing.{ShowRecords};
 ghost use Rattle.office_db.specs.loading.Reading.{AreShown, OnlyReads};

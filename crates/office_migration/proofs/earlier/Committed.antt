@@ -6,7 +6,8 @@ use Rattle.office_schema.specs.rows.Tables.{own_version}
 use Rattle.office_schema.specs.declared.rows.records.OfficeRecords.{OfficeRecords}
 use Rattle.office_schema.specs.tables.Edits.{with_version}
 use Rattle.office_schema.specs.tables.Refilling.{Migrates}
-use Rattle.office_schema.specs.tables.Tables.{HasTables, HasTablesIn}
+use Rattle.office_schema.specs.tables.Tables.{HasTables}
+use Rattle.office_schema.specs.tables.InLayout.{HasTablesIn}
 use Rattle.office_schema.specs.declared.tables.layouts.Layout.{Layout}
 
 pub committed : (layout : Layout) (records : OfficeRecords) (old begun mid new : State)

@@ -10,7 +10,8 @@ use Rattle.sqlite_schema.specs.Names.{same_name}
 use Rattle.sqlite.specs.Effect.{Database}
 use Rattle.office_state.specs.declared.office.Office.{Office}
 use Rattle.office_schema.specs.tables.Layouts.{schema_of, table_count, version_of}
-use Rattle.office_schema.specs.tables.Schema.{documented_schema, room, person, round, choice, word, result, move, list, grade, going}
+use Rattle.office_schema.specs.tables.Schema.{room, person, round, choice, word, result, move, list, grade, going}
+use Rattle.office_schema.specs.tables.Layouts.{documented_schema}
 use Rattle.office_schema.specs.declared.tables.layouts.Layout.{Layout}
 use Rattle.office_schema.specs.declared.tables.layouts.Layout.TheVariants.{Own, Documented, DocumentedSecond}
 use Rattle.office_schema.specs.declared.tables.layouts.Layout.TheVariants.{DocumentedFirst, EarlierFirst}

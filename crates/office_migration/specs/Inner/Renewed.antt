@@ -5,7 +5,8 @@ use Rattle.office_schema.specs.rows.Tables.{Tables, own_version}
 use Rattle.office_schema.specs.cells.WellFormed.{IsWellFormed}
 use Rattle.office_schema.specs.declared.rows.records.OfficeRecords.{OfficeRecords}
 use Rattle.office_schema.specs.tables.Edits.{with_version}
-use Rattle.office_schema.specs.tables.Tables.{HasTables, HasTablesIn}
+use Rattle.office_schema.specs.tables.Tables.{HasTables}
+use Rattle.office_schema.specs.tables.InLayout.{HasTablesIn}
 use Rattle.office_schema.specs.declared.tables.layouts.Layout.{Layout}
 
 -- If these records are the rows of the tables of `before`, `after` has tables with the same rows.

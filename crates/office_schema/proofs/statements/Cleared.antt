@@ -18,7 +18,8 @@ use Rattle.sqlite_value.specs.Order.{Row}
 use Rattle.office_schema.specs.tables.Edits as edit
 use Rattle.office_schema.specs.tables.Holds.{Holds}
 use Rattle.office_schema.specs.tables.Makes.{Makes}
-use Rattle.office_schema.specs.tables.Schema.{office_schema, documented_schema, earlier_schema, documented_tables, first_tables}
+use Rattle.office_schema.specs.tables.Schema.{office_schema, first_tables}
+use Rattle.office_schema.specs.tables.Layouts.{documented_schema, earlier_schema, documented_tables}
 use Rattle.office_schema.specs.tables.Schema as schema
 use Rattle.office_schema.specs.tables.Steps.{HasRun, StaysInside, RollsBack, IsIntact, IsUndone}
 use Rattle.sqlite_trees.proofs.ListLemmas.{all-slice_get}

@@ -17,7 +17,8 @@ use Rattle.sqlite.specs.State.{State, HasCleanDisk, Writes, Executes, mode_of}
 use Rattle.sqlite.proofs.Callers.{IsPlain, command_of, statement_of, runs_as}
 use Rattle.office_schema.specs.tables.Inner.Declaring.{Adds}
 use Rattle.office_schema.specs.tables.Declaring.{ChangesSchema}
-use Rattle.office_schema.specs.tables.Schema.{documented_tables, earlier_tables, first_tables}
+use Rattle.office_schema.specs.tables.Schema.{first_tables}
+use Rattle.office_schema.specs.tables.Layouts.{documented_tables, earlier_tables}
 use Rattle.office_schema.specs.tables.Schema as schema
 use Rattle.office_schema.specs.tables.Steps.{HasRun}
 use Rattle.office_schema.specs.tables.Inner.Texts.{drop_table_text}

@@ -1,13 +1,70 @@
 -- The five layouts that the tables of an office may have in a database. Each layout has a version, a schema, and a
 -- tree for each of its tables.
-use Rattle.std.specs.Prelude.{ℕ, Bool, true, false, slice_index_or}
+use Rattle.std.specs.Prelude.{ℕ, Bool, true, false, [], ◌∷◌, codes, take, slice_index_or}
 use Rattle.sqlite_schema.specs.declared.schema.Table.{Table}
 use Rattle.sqlite_schema.specs.declared.schema.Schema.{Schema}
-use Rattle.office_schema.specs.tables.Schema.{office_schema, documented_schema, earlier_schema}
-use Rattle.office_schema.specs.tables.Schema.{first_tables, documented_tables, earlier_tables, room}
+use Rattle.office_schema.specs.tables.Schema.{office_schema, first_tables, index_of, first}
+use Rattle.office_schema.specs.tables.Schema.{room, person, round, move, list, grade, word, result, choice, going}
+use Rattle.office_schema.specs.tables.Tables.{TableTrees, own_trees}
 use Rattle.office_schema.specs.declared.tables.layouts.Layout.{Layout}
 use Rattle.office_schema.specs.declared.tables.layouts.Layout.TheVariants.{Own, Documented, DocumentedSecond}
 use Rattle.office_schema.specs.declared.tables.layouts.Layout.TheVariants.{DocumentedFirst, EarlierFirst}
+
+-- ---- the schemas of the other layouts
+
+-- the ten tables of an office, created in the order of `docs/formats.md`
+abbrev pub documented_schema : Schema
+documented_schema = record {
+  tables =
+      room 0 ∷ person 2 ∷ round 6 ∷ choice 7 ∷ word 10 ∷ result 12 ∷ move 15 ∷ list 17 ∷ grade 19
+      ∷ going 21 ∷ [];
+  indexes =
+      index_of (codes "room_1") 1 0 first ∷ index_of (codes "person_1") 3 2 first
+      ∷ index_of (codes "person_2") 4 2 (3 ∷ []) ∷ index_of (codes "person_3") 5 2 (4 ∷ [])
+      ∷ index_of (codes "choice_1") 8 7 (1 ∷ 2 ∷ []) ∷ index_of (codes "choice_2") 9 7 (1 ∷ 3 ∷ [])
+      ∷ index_of (codes "word_1") 11 10 first ∷ index_of (codes "result_1") 13 12 first
+      ∷ index_of (codes "result_2") 14 12 (2 ∷ []) ∷ index_of (codes "move_1") 16 15 (1 ∷ 2 ∷ [])
+      ∷ index_of (codes "list_1") 18 17 first ∷ index_of (codes "grade_1") 20 19 first
+      ∷ index_of (codes "going_1") 22 21 first ∷ [];
+  views = [];
+}
+
+-- the first `tables` tables of `documented_schema`, with their indexes; version 2 has the first nine tables, and
+-- version 1 the first eight
+abbrev pub documented_tables : ℕ → Schema
+documented_tables tables = record {
+  tables = take tables documented_schema.tables;
+  indexes =
+      take (slice_index_or (0 ∷ 1 ∷ 4 ∷ 4 ∷ 6 ∷ 7 ∷ 9 ∷ 10 ∷ 11 ∷ 12 ∷ 13 ∷ []) tables 13)
+      documented_schema.indexes;
+  views = [];
+}
+
+-- the tables of version 1, as this program created them
+abbrev pub earlier_schema : Schema
+earlier_schema = record {
+  tables =
+      room 0 ∷ person 2 ∷ round 6 ∷ move 7 ∷ list 9 ∷ word 11 ∷ result 13 ∷ choice 16 ∷ [];
+  indexes =
+      index_of (codes "room_1") 1 0 first ∷ index_of (codes "person_1") 3 2 first
+      ∷ index_of (codes "person_2") 4 2 (3 ∷ []) ∷ index_of (codes "person_3") 5 2 (4 ∷ [])
+      ∷ index_of (codes "move_1") 8 7 (1 ∷ 2 ∷ []) ∷ index_of (codes "list_1") 10 9 first
+      ∷ index_of (codes "word_1") 12 11 first ∷ index_of (codes "result_1") 14 13 first
+      ∷ index_of (codes "result_2") 15 13 (2 ∷ []) ∷ index_of (codes "choice_1") 17 16 (1 ∷ 2 ∷ [])
+      ∷ index_of (codes "choice_2") 18 16 (1 ∷ 3 ∷ []) ∷ [];
+  views = [];
+}
+
+-- the first `tables` tables of `earlier_schema`, with their indexes
+abbrev pub earlier_tables : ℕ → Schema
+earlier_tables tables = record {
+  tables = take tables earlier_schema.tables;
+  indexes =
+      take (slice_index_or (0 ∷ 1 ∷ 4 ∷ 4 ∷ 5 ∷ 6 ∷ 7 ∷ 9 ∷ 11 ∷ []) tables 11) earlier_schema.indexes;
+  views = [];
+}
+
+-- ---- the layouts
 
 abbrev pub version_of : Layout → ℕ
 version_of Own = 3
@@ -66,27 +123,6 @@ schema_of Documented = documented_schema
 schema_of DocumentedSecond = documented_tables 9
 schema_of DocumentedFirst = documented_tables 8
 schema_of EarlierFirst = earlier_schema
-
--- for each table after the first three, the number of the tree that stores the table
-pub record TableTrees : Type 0 where
-  pub choices : ℕ
-  pub words : ℕ
-  pub results : ℕ
-  pub moves : ℕ
-  pub lists : ℕ
-  pub grades : ℕ
-  pub going : ℕ
-
-abbrev pub own_trees : TableTrees
-own_trees = record {
-  choices = 18;
-  words = 13;
-  results = 15;
-  moves = 7;
-  lists = 9;
-  grades = 11;
-  going = 21;
-}
 
 abbrev pub documented_trees : TableTrees
 documented_trees = record {

@@ -5,7 +5,8 @@ use Rattle.office_schema.specs.rows.ReadsOffice.{AreRecordsOf}
 use Rattle.office_schema.specs.rows.Tables.{Tables, own_version}
 use Rattle.office_schema.specs.declared.rows.records.OfficeRecords.{OfficeRecords}
 use Rattle.office_schema.specs.tables.Edits.{with_version}
-use Rattle.office_schema.specs.tables.Tables.{HasTables, HasTablesIn}
+use Rattle.office_schema.specs.tables.Tables.{HasTables}
+use Rattle.office_schema.specs.tables.InLayout.{HasTablesIn}
 use Rattle.office_schema.specs.declared.tables.layouts.Layout.{Layout}
 
 -- the tables after `with_row` has added each of these rows, one after another

@@ -1,6 +1,4 @@
--- The ten tables of an office, the statements that create them, and the schemas that result. The tables may have been
--- created in one of three orders: those of `office_schema`, `documented_schema` and `earlier_schema`. The first three
--- tables have the same place in all three orders.
+-- The ten tables of an office, the statements that create them, and the schema that results.
 use Rattle.std.specs.Prelude.{true, false, ℕ, pos, List, [], ◌∷◌, ◌++◌, map, codes, take, slice_index_or}
 use Rattle.std.specs.Prelude.{Option, Some, None}
 use Rattle.sqlite_value.specs.declared.keys.Collation.TheVariants.{Binary}
@@ -262,57 +260,5 @@ first_tables tables = record {
   indexes =
       take (slice_index_or (0 ∷ 1 ∷ 4 ∷ 4 ∷ 5 ∷ 6 ∷ 7 ∷ 8 ∷ 10 ∷ 12 ∷ 13 ∷ []) tables 13)
       office_schema.indexes;
-  views = [];
-}
-
--- the ten tables of an office, created in the order of `docs/formats.md`
-abbrev pub documented_schema : Schema
-documented_schema = record {
-  tables =
-      room 0 ∷ person 2 ∷ round 6 ∷ choice 7 ∷ word 10 ∷ result 12 ∷ move 15 ∷ list 17 ∷ grade 19
-      ∷ going 21 ∷ [];
-  indexes =
-      index_of (codes "room_1") 1 0 first ∷ index_of (codes "person_1") 3 2 first
-      ∷ index_of (codes "person_2") 4 2 (3 ∷ []) ∷ index_of (codes "person_3") 5 2 (4 ∷ [])
-      ∷ index_of (codes "choice_1") 8 7 (1 ∷ 2 ∷ []) ∷ index_of (codes "choice_2") 9 7 (1 ∷ 3 ∷ [])
-      ∷ index_of (codes "word_1") 11 10 first ∷ index_of (codes "result_1") 13 12 first
-      ∷ index_of (codes "result_2") 14 12 (2 ∷ []) ∷ index_of (codes "move_1") 16 15 (1 ∷ 2 ∷ [])
-      ∷ index_of (codes "list_1") 18 17 first ∷ index_of (codes "grade_1") 20 19 first
-      ∷ index_of (codes "going_1") 22 21 first ∷ [];
-  views = [];
-}
-
--- the first `tables` tables of `documented_schema`, with their indexes; version 2 has the first nine tables, and
--- version 1 the first eight
-abbrev pub documented_tables : ℕ → Schema
-documented_tables tables = record {
-  tables = take tables documented_schema.tables;
-  indexes =
-      take (slice_index_or (0 ∷ 1 ∷ 4 ∷ 4 ∷ 6 ∷ 7 ∷ 9 ∷ 10 ∷ 11 ∷ 12 ∷ 13 ∷ []) tables 13)
-      documented_schema.indexes;
-  views = [];
-}
-
--- the tables of version 1, as this program created them
-abbrev pub earlier_schema : Schema
-earlier_schema = record {
-  tables =
-      room 0 ∷ person 2 ∷ round 6 ∷ move 7 ∷ list 9 ∷ word 11 ∷ result 13 ∷ choice 16 ∷ [];
-  indexes =
-      index_of (codes "room_1") 1 0 first ∷ index_of (codes "person_1") 3 2 first
-      ∷ index_of (codes "person_2") 4 2 (3 ∷ []) ∷ index_of (codes "person_3") 5 2 (4 ∷ [])
-      ∷ index_of (codes "move_1") 8 7 (1 ∷ 2 ∷ []) ∷ index_of (codes "list_1") 10 9 first
-      ∷ index_of (codes "word_1") 12 11 first ∷ index_of (codes "result_1") 14 13 first
-      ∷ index_of (codes "result_2") 15 13 (2 ∷ []) ∷ index_of (codes "choice_1") 17 16 (1 ∷ 2 ∷ [])
-      ∷ index_of (codes "choice_2") 18 16 (1 ∷ 3 ∷ []) ∷ [];
-  views = [];
-}
-
--- the first `tables` tables of `earlier_schema`, with their indexes
-abbrev pub earlier_tables : ℕ → Schema
-earlier_tables tables = record {
-  tables = take tables earlier_schema.tables;
-  indexes =
-      take (slice_index_or (0 ∷ 1 ∷ 4 ∷ 4 ∷ 5 ∷ 6 ∷ 7 ∷ 9 ∷ 11 ∷ []) tables 11) earlier_schema.indexes;
   views = [];
 }

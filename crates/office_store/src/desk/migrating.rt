@@ -6,7 +6,7 @@ ghost use Rattle.office_state.specs.declared.office.Office.{Office as AnyOffice}
 ghost use Rattle.office_schema.specs.tables.Crashes.{LeavesOldOr, ShowsCommitted};
 ghost use Rattle.office_schema.specs.tables.Layouts.{schema_of, version_of};
 ghost use Rattle.office_schema.specs.tables.Steps.{Follows, IsIntact};
-ghost use Rattle.office_schema.specs.tables.Tables.{HoldsOfficeIn};
+ghost use Rattle.office_schema.specs.tables.InLayout.{HoldsOfficeIn};
 ghost use Rattle.office_schema.specs.declared.tables.layouts.Layout.{Layout as AnyLayout};
 ghost use Rattle.office_db.specs.loading.Finding.{AreWhole, names_round};
 ghost use Rattle.office_migration.specs.Causes.{AreRowsAsStated, HoldsEarlier, HoldsLayoutVersion, StatesVersion, HoldsEarlierFirst};

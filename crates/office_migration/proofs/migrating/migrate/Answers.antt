@@ -8,7 +8,7 @@ use Rattle.office_schema.specs.tables.Crashes.{LeavesOldOr, WasOpen}
 use Rattle.office_schema.specs.cells.WellFormed.{IsWellFormed}
 use Rattle.office_schema.specs.rows.Tables.{rows_at}
 use Rattle.office_schema.specs.tables.Layouts.{schema_of, version_of}
-use Rattle.office_schema.specs.tables.Tables.{HoldsOfficeIn}
+use Rattle.office_schema.specs.tables.InLayout.{HoldsOfficeIn}
 use Rattle.office_schema.proofs.statements.Crashes.{old_or_weaker}
 use Rattle.office_schema.proofs.statements.Steps.{intact_before}
 use Rattle.office_db.specs.loading.Finding.{AreWhole, HoldsVersion, names_round}

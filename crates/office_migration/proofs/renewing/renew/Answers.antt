@@ -7,7 +7,7 @@ use Rattle.office_schema.specs.declared.tables.layouts.Layout.{Layout}
 use Rattle.office_schema.specs.tables.Crashes.{LeavesOldOr}
 use Rattle.office_schema.specs.tables.Refilling.{Migrates}
 use Rattle.office_schema.specs.tables.Steps.{StaysInside}
-use Rattle.office_schema.specs.tables.Tables.{HasTablesIn}
+use Rattle.office_schema.specs.tables.InLayout.{HasTablesIn}
 use Rattle.office_schema.proofs.statements.Crashes.{committed_once}
 use Rattle.office_migration.specs.Inner.Renewed.{HoldsRecords}
 use Rattle.office_migration.proofs.earlier.Committed.{committed}

@@ -6,7 +6,7 @@ use Rattle.office_schema.specs.declared.tables.layouts.Layout.{Layout}
 use Rattle.office_schema.specs.rows.ReadsOffice.{AreRecordsOf}
 use Rattle.office_schema.specs.rows.Tables.{Tables}
 use Rattle.office_schema.specs.tables.Crashes.{LeavesOldOr, WasOpen}
-use Rattle.office_schema.specs.tables.Tables.{HasTablesIn}
+use Rattle.office_schema.specs.tables.InLayout.{HasTablesIn}
 use Rattle.office_schema.proofs.statements.Steps.{intact_before}
 use Rattle.office_schema.proofs.statements.Crashes.{old_or_weaker}
 use Rattle.office_db.specs.loading.Reading.{OnlyReads}

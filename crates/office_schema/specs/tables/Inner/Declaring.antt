@@ -7,7 +7,8 @@ use Rattle.sqlite.specs.State.{State, HasCleanDisk}
 use Rattle.office_schema.specs.rows.Tables.{Tables}
 use Rattle.office_schema.specs.tables.Layouts.{table_count}
 use Rattle.office_schema.specs.tables.Steps.{IsIntact, RollsBack}
-use Rattle.office_schema.specs.tables.Tables.{HasTables, HasTablesIn}
+use Rattle.office_schema.specs.tables.Tables.{HasTables}
+use Rattle.office_schema.specs.tables.InLayout.{HasTablesIn}
 use Rattle.office_schema.specs.declared.tables.layouts.Layout.{Layout}
 use Rattle.office_schema.specs.tables.Declaring.{LeavesFirst}
 

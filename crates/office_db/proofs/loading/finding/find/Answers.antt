@@ -1,7 +1,7 @@
 use Rattle.std.proofs.Common.{refl, sym, ap, ◌∙◌, subst, true≢false}
 use Rattle.sqlite.specs.Held.{state}
 use Rattle.office_schema.specs.tables.Layouts.{version_of}
-use Rattle.office_schema.specs.tables.Tables.{HoldsOfficeIn}
+use Rattle.office_schema.specs.tables.InLayout.{HoldsOfficeIn}
 use Rattle.office_db.specs.loading.Finding.{names_round}
 use Rattle.office_db.proofs.found_offices.Finding.{laid_allowed, same_layout}
 use Rattle.office_db.proofs.found_offices.LayoutTests.{office_names_round}

@@ -3,7 +3,7 @@ use Rattle.sqlite.specs.Effect.{Database}
 use Rattle.sqlite.specs.Held.{state}
 use Rattle.office_schema.specs.rows.Tables.{own_version}
 use Rattle.office_schema.specs.tables.Layouts.{version_of}
-use Rattle.office_schema.specs.tables.Tables.{HoldsOfficeIn}
+use Rattle.office_schema.specs.tables.InLayout.{HoldsOfficeIn}
 use Rattle.office_schema.proofs.statements.Steps.{intact_before}
 use Rattle.office_db.specs.loading.Finding.{HoldsVersion, HoldsOtherVersion}
 use Rattle.office_db.specs.declared.loading.finding.FindFault.TheVariants.{OtherVersion}
