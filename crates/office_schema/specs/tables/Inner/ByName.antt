@@ -1,0 +1,94 @@
+-- The tables of an office by their names: what is said of one table is said of each.
+use Rattle.std.specs.Prelude.{ℕ, Bool, List}
+use Rattle.sqlite_schema.specs.declared.schema.Table.{Table}
+use Rattle.sqlite_value.specs.Order.{Row}
+use Rattle.room_types.specs.Texts.{Text}
+use Rattle.room_types.specs.declared.moves.Move.{Move}
+use Rattle.office_state.specs.declared.office.Assigned.{Assigned}
+use Rattle.office_state.specs.declared.office.stored_import.StoredImport.{StoredImport}
+use Rattle.office_schema.specs.cells.Columns as columns
+use Rattle.office_schema.specs.rows.Tables.{Tables}
+use Rattle.office_schema.specs.tables.Schema as schema
+use Rattle.office_schema.specs.declared.rows.records.ChoiceRecord.{ChoiceRecord}
+use Rattle.office_schema.specs.declared.rows.records.PersonRecord.{PersonRecord}
+use Rattle.office_schema.specs.declared.rows.records.RoundRecord.{RoundRecord}
+
+pub data Name : Type 0 where
+  Rooms People Rounds Choices Words Results Moves Lists Grades Going : Name
+
+abbrev pub RecordOf : Name → Type 0
+RecordOf Rooms = Text × Bool
+RecordOf People = PersonRecord
+RecordOf Rounds = RoundRecord
+RecordOf Choices = ChoiceRecord
+RecordOf Words = Text × ℕ
+RecordOf Results = Text × Assigned
+RecordOf Moves = Move
+RecordOf Lists = Text × StoredImport
+RecordOf Grades = Text × ℕ
+RecordOf Going = Text
+
+-- the records of a table
+abbrev pub records_of : Tables → (name : Name) → List (RecordOf name)
+records_of tables Rooms = tables.rooms
+records_of tables People = tables.people
+records_of tables Rounds = tables.rounds
+records_of tables Choices = tables.choices
+records_of tables Words = tables.words
+records_of tables Results = tables.results
+records_of tables Moves = tables.moves
+records_of tables Lists = tables.lists
+records_of tables Grades = tables.grades
+records_of tables Going = tables.going
+
+-- the tables with these records in place of those of one table
+abbrev pub with_records : Tables → (name : Name) → List (RecordOf name) → Tables
+with_records tables Rooms xs = record tables { rooms = xs }
+with_records tables People xs = record tables { people = xs }
+with_records tables Rounds xs = record tables { rounds = xs }
+with_records tables Choices xs = record tables { choices = xs }
+with_records tables Words xs = record tables { words = xs }
+with_records tables Results xs = record tables { results = xs }
+with_records tables Moves xs = record tables { moves = xs }
+with_records tables Lists xs = record tables { lists = xs }
+with_records tables Grades xs = record tables { grades = xs }
+with_records tables Going xs = record tables { going = xs }
+
+-- the stored columns of a record
+abbrev pub columns_of : (name : Name) → RecordOf name → Row
+columns_of Rooms = columns.room_columns
+columns_of People = columns.person_columns
+columns_of Rounds = columns.round_columns
+columns_of Choices = columns.choice_columns
+columns_of Words = columns.word_columns
+columns_of Results = columns.result_columns
+columns_of Moves = columns.move_columns
+columns_of Lists = columns.list_columns
+columns_of Grades = columns.grade_columns
+columns_of Going = columns.going_columns
+
+-- the place of a table in the schema that this program creates
+abbrev pub place_of : Name → ℕ
+place_of Rooms = 0
+place_of People = 1
+place_of Rounds = 2
+place_of Moves = 3
+place_of Lists = 4
+place_of Grades = 5
+place_of Words = 6
+place_of Results = 7
+place_of Choices = 8
+place_of Going = 9
+
+-- the table, as this program creates it
+abbrev pub table_named : Name → Table
+table_named Rooms = schema.room 0
+table_named People = schema.person 2
+table_named Rounds = schema.round 6
+table_named Moves = schema.move 7
+table_named Lists = schema.list 9
+table_named Grades = schema.grade 11
+table_named Words = schema.word 13
+table_named Results = schema.result 15
+table_named Choices = schema.choice 18
+table_named Going = schema.going 21
