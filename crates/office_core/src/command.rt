@@ -1,28 +1,11 @@
 //! Commands of the office.
-pub mod add_person;
-pub mod add_room;
-pub mod blank;
-pub mod cancel;
-pub mod close_round;
 pub mod decide;
 pub mod decision;
-pub mod draw;
-pub mod going;
 pub mod import;
-pub mod leave;
-pub mod open_round;
-pub mod publish;
-pub mod remove;
-pub mod reopen;
-pub mod run;
-pub mod set_choices;
-pub mod set_grade;
-pub mod set_home;
-pub mod set_key;
-pub mod set_name;
+pub mod lists;
+pub mod register;
+pub mod round;
 pub mod settle;
-pub mod shut;
-pub mod withdraw;
 
 use room_types::{Choices, Grade, Key, Label, ListKind, Listing, Name, PersonId, RoomCode, Word};
 

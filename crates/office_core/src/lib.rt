@@ -1,6 +1,6 @@
 //! The office of a college's room exchange. `decide` decides a command: it returns a reply and the changes to apply,
-//! or a refusal. `answer` answers a query: it returns a reply or a refusal. A `Handler` answers requests, each of which is a
-//! command or a query.
+//! or a refusal. `answer` answers a query: it returns a reply or a refusal. A `Handler` answers requests, each of which
+//! is a command or a query.
 #![tactic(auto)]
 
 mod command;

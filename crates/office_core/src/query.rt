@@ -1,13 +1,7 @@
 //! Queries of the office.
 pub mod answer;
-pub mod me;
-pub mod moves;
-pub mod order;
-pub mod people;
-pub mod results;
-pub mod rooms;
-pub mod round;
-pub mod what_if;
+pub mod overview;
+pub mod personal;
 
 use room_types::{Choices, Key, PersonId};
 

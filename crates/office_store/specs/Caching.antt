@@ -3,7 +3,7 @@ use Rattle.std.specs.Prelude.{Bool, false, ◌||◌, List, [], ◌∷◌}
 use Rattle.office_state.specs.Change.{applied, change_allocates}
 use Rattle.office_state.specs.declared.change.Change.{Change}
 use Rattle.office_state.specs.declared.office.Office.{Office}
-use Rattle.office_core.specs.Command.{changes_of}
+use Rattle.office_core.specs.Command.Changes.{changes_of}
 use Rattle.office_core.specs.declared.requests.Request.{Request}
 use Rattle.office_core.specs.declared.requests.Request.TheVariants as request
 

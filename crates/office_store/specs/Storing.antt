@@ -3,7 +3,8 @@ use Rattle.std.specs.Prelude.{◌≡◌, Bool, true, false, List, Option, Some, 
 use Rattle.office_state.specs.Empty.{is_empty}
 use Rattle.office_state.specs.declared.change.Change.{Change}
 use Rattle.office_state.specs.declared.office.Office.{Office}
-use Rattle.office_core.specs.Command.{accepts, changes_of}
+use Rattle.office_core.specs.Command.{accepts}
+use Rattle.office_core.specs.Command.Changes.{changes_of}
 use Rattle.office_core.specs.Requests.{IsAccepted}
 use Rattle.office_core.specs.declared.refusal.Refusal.{Refusal}
 use Rattle.office_core.specs.declared.requests.Answer.{Answer}

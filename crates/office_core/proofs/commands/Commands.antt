@@ -4,35 +4,22 @@ use Rattle.std.specs.Prelude.{Result, Ok, Err, IfOk, OnOk}
 use Rattle.office_state.specs.Change.{LeadsTo}
 use Rattle.office_state.specs.Office.Invariants.{IsLawful}
 use Rattle.office_state.specs.declared.office.Office.{Office}
-use Rattle.office_core.specs.Command.Decision.{IsDecided}
-use Rattle.office_core.specs.Command.{checks, accepts, next, reply_to, changes_of}
+use Rattle.office_core.specs.Command.Changes.{changes_of}
+use Rattle.office_core.specs.Command.Decision.{Decides}
+use Rattle.office_core.specs.Command.{accepts, next}
 use Rattle.office_core.specs.Inner.Formed.{IsFormed}
 use Rattle.office_core.specs.declared.command.Command.{Command}
 use Rattle.office_core.specs.declared.command.Command.TheVariants as command
 use Rattle.office_core.specs.declared.command.decision.Decision.{Decision}
 use Rattle.office_core.specs.declared.refusal.Refusal.{Refusal}
-use Rattle.office_core.proofs.commands.AddPerson.{add_person-leads}
-use Rattle.office_core.proofs.commands.AddRoom.{add_room-leads}
-use Rattle.office_core.proofs.commands.Blank.{blank-leads}
-use Rattle.office_core.proofs.commands.Cancel.{cancel-leads}
-use Rattle.office_core.proofs.commands.CloseRound.{close_round-leads}
-use Rattle.office_core.proofs.commands.Draw.{draw-leads}
-use Rattle.office_core.proofs.commands.Going.{going-leads}
 use Rattle.office_core.proofs.imports.Import.{import-leads}
-use Rattle.office_core.proofs.commands.Leave.{leave-leads}
-use Rattle.office_core.proofs.commands.OpenRound.{open_round-leads}
-use Rattle.office_core.proofs.commands.Publish.{publish-leads}
-use Rattle.office_core.proofs.commands.Run.{run-leads}
+use Rattle.office_core.proofs.commands.Register.{add_person-leads, add_room-leads, leave-leads, remove-leads}
+use Rattle.office_core.proofs.commands.Register.{reopen-leads, set_grade-leads, set_home-leads, set_key-leads}
+use Rattle.office_core.proofs.commands.Register.{set_name-leads, shut-leads}
+use Rattle.office_core.proofs.commands.Round.{cancel-leads, close_round-leads, draw-leads, open_round-leads}
+use Rattle.office_core.proofs.commands.Round.{publish-leads, run-leads}
+use Rattle.office_core.proofs.commands.Lists.{blank-leads, going-leads, set_choices-leads, withdraw-leads}
 use Rattle.office_core.proofs.settlements.Settle.{settle-leads}
-use Rattle.office_core.proofs.commands.Remove.{remove-leads}
-use Rattle.office_core.proofs.commands.Reopen.{reopen-leads}
-use Rattle.office_core.proofs.commands.SetChoices.{set_choices-leads}
-use Rattle.office_core.proofs.commands.SetGrade.{set_grade-leads}
-use Rattle.office_core.proofs.commands.SetHome.{set_home-leads}
-use Rattle.office_core.proofs.commands.SetKey.{set_key-leads}
-use Rattle.office_core.proofs.commands.SetName.{set_name-leads}
-use Rattle.office_core.proofs.commands.Shut.{shut-leads}
-use Rattle.office_core.proofs.commands.Withdraw.{withdraw-leads}
 
 pub accepted_command_leads : (office : Office) (given : Command) → IsFormed given → IsLawful office
     → accepts office given ≡ None → LeadsTo office (next office given) (changes_of office given)
@@ -64,7 +51,7 @@ accepted_command_leads office (command.Blank label) f l h = blank-leads office l
 
 pub decision_leads : (office : Office) (given : Command) (result : Result Decision Refusal)
     → IsLawful office → OnOk result (IsFormed given)
-    → IsDecided (checks office given) (reply_to office given) (changes_of office given) result
+    → Decides office given result
     → IfOk result (λ decision. LeadsTo office (next office given) decision.changes.items)
 decision_leads office given (Ok decision) l f d =
     subst (λ changes. LeadsTo office (next office given) changes) (sym d.changed)

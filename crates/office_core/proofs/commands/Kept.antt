@@ -15,7 +15,7 @@ use Rattle.office_state.specs.declared.office.Office.{Office}
 use Rattle.office_state.specs.declared.office.stored_import.StoredImport.{StoredImport}
 use Rattle.office_state.proofs.offices.Details.{renamed_stays}
 use Rattle.office_core.specs.Laws.{ends_round, replaces_details, KeepsResults}
-use Rattle.office_core.specs.Command.Blank.{blanked}
+use Rattle.office_core.specs.Command.Lists.{blanked}
 use Rattle.office_core.specs.Refusal.Checks.{Check, first_refusal}
 use Rattle.office_core.specs.Command.{accepts, checks, next}
 use Rattle.office_core.specs.Command.Import.{checks_where, new_label_checks, may_import, next_where}

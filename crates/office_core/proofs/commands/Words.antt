@@ -18,7 +18,8 @@ use Rattle.office_state.specs.Office.{knows_person}
 use Rattle.office_state.specs.declared.change.Change.{Change}
 use Rattle.office_state.specs.declared.change.Change.TheVariants.{PutWord}
 use Rattle.office_state.specs.declared.office.Office.{Office}
-use Rattle.office_core.specs.Command.Draw.{word_changes, with_words}
+use Rattle.office_core.specs.Command.Changes.{word_changes}
+use Rattle.office_core.specs.Command.Round.{with_words}
 use Rattle.office_core.proofs.imports.Indexed.{some_or}
 
 pub word_changes_more : (people : List Text) (words : List ℕ) (i : ℕ) (d : Text) (e : ℕ)

@@ -24,21 +24,22 @@ use Rattle.office_state.specs.declared.office.stored_import.StoredImport.{Stored
 use Rattle.office_state.proofs.offices.Register.{len-put_within}
 use Rattle.office_state.proofs.round_phases.Untouched.{moves_stay, open_preparing, prepared}
 use Rattle.office_state.proofs.round_phases.Untouched.{results_undrawn, undrawn}
-use Rattle.office_core.specs.Command.Import.{EntryCommand, bad_list, changes_by, changes_of, changes_where}
-use Rattle.office_core.specs.Command.Import.{checks, checks_where, choices_command, entries_in, grade_command}
+use Rattle.office_core.specs.Command.Import.{EntryCommand, bad_list, changes_by, changes_where}
+use Rattle.office_core.specs.Command.Import.{checks_where, choices_command, entries_in, grade_command}
 use Rattle.office_core.specs.Command.Import.{new_label_changes, new_label_checks, first_denied, keeping}
-use Rattle.office_core.specs.Command.Import.{list_refusal, may_import, next, next_where, office_after}
+use Rattle.office_core.specs.Command.Import.{list_refusal, may_import, next_where, office_after}
 use Rattle.office_core.specs.Command.Import.{office_with, person_command, record_count, refusal_of}
 use Rattle.office_core.specs.Command.Import.{room_command}
+use Rattle.office_core.specs.Command.{checks, next}
+use Rattle.office_core.specs.Command.Changes.{changes_of}
+use Rattle.office_core.specs.declared.command.Command.TheVariants as commands
 use Rattle.office_core.specs.Refusal.{number_of}
 use Rattle.office_core.specs.Refusal.Checks.{first_refusal}
 use Rattle.office_core.specs.declared.refusal.Refusal.TheVariants as refused
-use Rattle.office_core.proofs.commands.AddPerson.{add_person-leads}
-use Rattle.office_core.proofs.commands.AddRoom.{add_room-leads}
+use Rattle.office_core.proofs.commands.Lists.{set_choices-leads}
+use Rattle.office_core.proofs.commands.Register.{add_person-leads, add_room-leads, set_grade-leads}
 use Rattle.office_core.proofs.imports.ListChecks.{first_of_list}
 use Rattle.office_core.proofs.imports.Records.{Each, each_recordable, few_records, none_of}
-use Rattle.office_core.proofs.commands.SetChoices.{set_choices-leads}
-use Rattle.office_core.proofs.commands.SetGrade.{set_grade-leads}
 use Rattle.office_core.proofs.refusals.Checks.{none_applies}
 
 -- every room that the first office knows is known
@@ -287,8 +288,8 @@ new-leads office label kind bytes l new h =
         grade_steps (λ e. each_any (entries_in grade_command bytes)) good
 
 pub import-leads : (office : Office) (label : Text) (kind : ListKind) (bytes : List ℕ)
-    → IsLawful office → first_refusal (checks office label kind bytes) ≡ None
-    → LeadsTo office (next office label kind bytes) (changes_of office label kind bytes)
+    → IsLawful office → first_refusal (checks office (commands.Import label kind bytes)) ≡ None
+    → LeadsTo office (next office (commands.Import label kind bytes)) (changes_of office (commands.Import label kind bytes))
 import-leads office label kind bytes l h =
     elim (map.get office.lists label) as
     (λ o. map.get office.lists label ≡ o → first_refusal (checks_where o office kind bytes) ≡ None

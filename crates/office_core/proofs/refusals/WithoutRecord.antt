@@ -6,7 +6,7 @@ use Rattle.room_types.specs.Texts.{Text}
 use Rattle.office_state.specs.declared.office.Office.{Office}
 use Rattle.office_core.specs.Command.Decision.{IsRefusal, refusal_allocates}
 use Rattle.office_core.specs.Query.Answer.{IsAnswered, reply_allocates}
-use Rattle.office_core.specs.Query.WhatIf.{answer_unless}
+use Rattle.office_core.specs.Query.Personal.{answer_unless}
 use Rattle.office_core.specs.Refusal.Checks.{Check, first_refusal, names_room, room_checks}
 use Rattle.office_core.specs.Refusal.Checks.{names_record}
 use Rattle.office_core.specs.declared.refusal.Refusal.{Refusal}

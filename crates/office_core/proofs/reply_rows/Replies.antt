@@ -10,18 +10,18 @@ use Rattle.office_state.specs.Round.{result_by}
 use Rattle.office_state.specs.declared.office.Office.{Office}
 use Rattle.office_state.specs.declared.office.stored_import.StoredImport.{StoredImport}
 use Rattle.office_state.specs.declared.office.person.Person.{Person}
-use Rattle.office_core.specs.Command.{checks, reply_to, changes_of}
-use Rattle.office_core.specs.Command.Decision.{IsDecided}
+use Rattle.office_core.specs.Command.{reply_to}
+use Rattle.office_core.specs.Command.Decision.{Decides}
 use Rattle.office_core.specs.Command.Import.{reply_where}
 use Rattle.office_core.specs.Query.{returned}
 use Rattle.office_core.specs.Query.Answer.{IsAnswered}
-use Rattle.office_core.specs.Query.Me.{owner_answer, person_answer}
-use Rattle.office_core.specs.Query.Moves.{move_rows}
-use Rattle.office_core.specs.Query.Order.{order_rows}
-use Rattle.office_core.specs.Query.People.{person_row}
-use Rattle.office_core.specs.Query.Results.{result_row, result_rows}
-use Rattle.office_core.specs.Query.Rooms.{room_row}
-use Rattle.office_core.specs.Query.WhatIf.{answer_unless, checks as list_checks}
+use Rattle.office_core.specs.Query.Personal.{owner_answer, person_answer}
+use Rattle.office_core.specs.Query.Overview.{move_rows}
+use Rattle.office_core.specs.Query.Overview.{order_rows}
+use Rattle.office_core.specs.Query.Overview.{person_row}
+use Rattle.office_core.specs.Query.Overview.{result_row, result_rows}
+use Rattle.office_core.specs.Query.Overview.{room_row}
+use Rattle.office_core.specs.Query.Personal.{answer_unless, what_if_checks}
 use Rattle.office_core.specs.Refusal.Checks.{first_refusal}
 use Rattle.office_core.specs.Replies.{RowsAscend}
 use Rattle.office_core.specs.declared.command.Command.{Command}
@@ -71,7 +71,7 @@ replies_ascend office (query.Moves number) =
     if_ascends (is_over office number) (reply.Moves (move_rows office number)) NoSuchRound tt
 replies_ascend office (query.Me key) = owner_ascends office (owner office key)
 replies_ascend office (query.WhatIf person choices) =
-    unless_ascends (first_refusal (list_checks office person choices))
+    unless_ascends (first_refusal (what_if_checks office person choices))
     (reply.WouldGet (result_by office person choices)) tt
 
 added_ascends : (kept : Option StoredImport) (bytes : List ℕ)
@@ -112,7 +112,7 @@ answer_ascends office asked (Ok reply) t =
 answer_ascends office asked (Err refusal) t = tt
 
 pub decision_ascends : (office : Office) (given : Command) (result : Result Decision Refusal)
-    → IsDecided (checks office given) (reply_to office given) (changes_of office given) result
+    → Decides office given result
     → IfOk result (λ decision. RowsAscend decision.reply)
 decision_ascends office given (Ok decision) d =
     subst RowsAscend (sym d.replied) (reply_ascends office given)

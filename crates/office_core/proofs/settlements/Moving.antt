@@ -28,7 +28,7 @@ use Rattle.office_lists.proofs.move_days.Leavers.{length-waves_of, has_left, has
 use Rattle.office_lists.proofs.move_days.MoveDayLists.{move_total}
 use Rattle.office_state.specs.Round.Settlement.{moves_with}
 use Rattle.office_state.proofs.moving_people.Relocations.{relocates}
-use Rattle.office_core.specs.Command.Settle.{first_out, departures, swaps}
+use Rattle.office_core.specs.Command.Changes.{first_out, departures, swaps}
 
 -- a move as a relocation, without its round and wave
 abbrev pub relocation_of : Move → Relocation

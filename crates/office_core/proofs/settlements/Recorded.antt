@@ -10,7 +10,7 @@ use Rattle.office_lists.specs.Waves.{Relocation, waves_of}
 use Rattle.office_lists.proofs.move_days.Leavers.{length-waves_of}
 use Rattle.office_state.specs.Round.Settlement.{relocations, moves_with, settled_moves}
 use Rattle.office_state.specs.declared.office.Office.{Office}
-use Rattle.office_core.specs.Command.Settle.{departures, swaps}
+use Rattle.office_core.specs.Command.Changes.{departures, swaps}
 use Rattle.office_core.proofs.settlements.Moving.{length-moves_with}
 
 pub moves_with_more : (round : ℕ) (ms : List Relocation) (waves : List Wave) (i : ℕ) (d : Relocation)

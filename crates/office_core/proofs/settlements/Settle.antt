@@ -37,9 +37,11 @@ use Rattle.office_state.proofs.moving_people.Settled.{KeepsMoves, with_moves-kee
 use Rattle.office_state.proofs.moving_people.Settled.{relocations_lead, relocations_differ, new_rooms_differ, settled_register}
 use Rattle.office_state.proofs.moving_people.Settling.{home_in}
 use Rattle.office_core.specs.Refusal.Checks.{first_refusal}
-use Rattle.office_core.specs.Command.Settle.{checks, next, changes_of, first_out}
+use Rattle.office_core.specs.Command.{checks, next}
+use Rattle.office_core.specs.Command.Changes.{changes_of, first_out}
+use Rattle.office_core.specs.declared.command.Command.TheVariants as command
 use Rattle.office_core.proofs.refusals.Checks.{none_applies}
-use Rattle.office_core.proofs.commands.Ended.{ended-lawful}
+use Rattle.office_core.proofs.commands.Round.{ended-lawful}
 use Rattle.office_core.proofs.settlements.Moving.{relocation_of, relocations_of, all_moves, all_cleared}
 use Rattle.office_core.proofs.settlements.Moving.{relocates-ascending, relocates-first_out, no_swap, FindEmpty, empty_in_order}
 use Rattle.office_core.proofs.settlements.Settling.{left-lead, arrived-lead, moves-lead, left-apart}
@@ -57,7 +59,7 @@ none_yet office l open_round (m ∷ ms) = (
   none_yet office l open_round ms,
 )
 
-module _ (office : Office) (l : IsLawful office) (h : first_refusal (checks office) ≡ None) where
+module _ (office : Office) (l : IsLawful office) (h : first_refusal (checks office command.Settle) ≡ None) where
   abbrev ms : List Relocation
   ms = relocations office
 
@@ -74,7 +76,7 @@ module _ (office : Office) (l : IsLawful office) (h : first_refusal (checks offi
   left = left_people office.people gone
 
   published : is_published office.phase ≡ true
-  published = not-false _ (none_applies (checks office) h).0
+  published = not-false _ (none_applies (checks office command.Settle) h).0
 
   results_are_given : office.results ≡ round_results office
   results_are_given = l.results.given (published_given office.phase published)
@@ -163,11 +165,11 @@ module _ (office : Office) (l : IsLawful office) (h : first_refusal (checks offi
       each_from k within =
           each_relocation office (λ m. m.1 ≡ home_of office m.0) (λ p. refl) k ([], None, None) within
 
-  pub settle-leads : LeadsTo office (next office) (changes_of office)
+  pub settle-leads : LeadsTo office (next office command.Settle) (changes_of office command.Settle)
   settle-leads =
       let busy = published_busy office.phase published in
       let ok = lawful-IsMarket office l in
-      let new : Office = next office in
+      let new : Office = next office command.Settle in
       let there : TextMap Person = arrived_people left (map_list relocation_of order) in
       let rest : List Change = ClearRound ∷ PutRound office.number Idle ∷ [] in
       let differ : Unshared (λ p. p.home) there =

@@ -20,7 +20,7 @@ use Rattle.office_state.proofs.offices.Homes.{moved}
 use Rattle.office_state.proofs.moving_people.Relocations.{rehomed, rehomed_by, at_home, get-rehomed}
 use Rattle.office_state.proofs.moving_people.Relocations.{left_people, arrived_people}
 use Rattle.office_state.proofs.moving_people.Settling.{home_in, AreFresh}
-use Rattle.office_core.specs.Command.Settle.{leaving, arriving}
+use Rattle.office_core.specs.Command.Changes.{leaving, arriving}
 use Rattle.office_core.proofs.settlements.Moving.{relocation_of, CameBefore, FindEmpty}
 
 -- setting a home changes only the people

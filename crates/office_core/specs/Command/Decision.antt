@@ -3,9 +3,13 @@ use Rattle.std.specs.Prelude.{◌≡◌, Bool, true, not, ◌||◌, List, Option
 use Rattle.std.specs.Prelude.{Result}
 use Rattle.office_state.specs.Empty.{is_empty}
 use Rattle.office_state.specs.declared.change.Change.{Change}
+use Rattle.office_core.specs.Command.{checks, reply_to}
+use Rattle.office_core.specs.Command.Changes.{changes_of}
 use Rattle.office_core.specs.Refusal.Checks.{Check, first_refusal, names_room}
 use Rattle.office_core.specs.Refusal.Checks.{names_record}
+use Rattle.office_core.specs.declared.command.Command.{Command}
 use Rattle.office_core.specs.declared.command.decision.Decision.{Decision}
+use Rattle.office_state.specs.declared.office.Office.{Office}
 use Rattle.office_core.specs.declared.refusal.Refusal.{Refusal}
 use Rattle.office_core.specs.declared.refusal.Refusal.TheVariants.{OutOfMemory}
 use Rattle.office_core.specs.declared.reply.Reply.{Reply}
@@ -35,3 +39,8 @@ pub record IsDecision (checks : List Check) (reply : Reply) (changes : List Chan
 abbrev pub IsDecided : List Check → Reply → List Change → Result Decision Refusal → Type 0
 IsDecided checks reply changes result =
     MatchResult result (IsDecision checks reply changes) (IsRefusal changes checks)
+
+-- this is the decision of the office on this command
+abbrev pub Decides : Office → Command → Result Decision Refusal → Type 0
+Decides office command result =
+    IsDecided (checks office command) (reply_to office command) (changes_of office command) result

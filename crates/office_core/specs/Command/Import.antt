@@ -24,10 +24,9 @@ use Rattle.office_state.specs.declared.change.Change.TheVariants.{KeepList, PutR
 use Rattle.office_state.specs.declared.change.Change.TheVariants.{PutChoices, PutGrade}
 use Rattle.office_state.specs.declared.office.Office.{Office}
 use Rattle.office_state.specs.declared.office.stored_import.StoredImport.{StoredImport}
-use Rattle.office_core.specs.Command.AddPerson as add_person
-use Rattle.office_core.specs.Command.AddRoom as add_room
-use Rattle.office_core.specs.Command.SetChoices as set_choices
-use Rattle.office_core.specs.Command.SetGrade as set_grade
+use Rattle.office_core.specs.Command.Lists.{set_choices}
+use Rattle.office_core.specs.Command.Register.{add_person, add_room, set_grade}
+use Rattle.office_core.specs.Command.Rule.{CommandRule}
 use Rattle.office_core.specs.Refusal.{number_of}
 use Rattle.office_core.specs.Refusal.Checks.{Check, first_refusal}
 use Rattle.office_core.specs.declared.refusal.Refusal.{Refusal}
@@ -49,8 +48,8 @@ abbrev pub room_command : EntryCommand
 room_command = record {
   Entry = Text;
   form = room_list;
-  checks = add_room.checks;
-  next = add_room.next;
+  checks = λ office room. (add_room room).checks office;
+  next = λ office room. (add_room room).next office;
   change = λ room. PutRoom room false;
 }
 
@@ -59,8 +58,8 @@ abbrev pub person_command : EntryCommand
 person_command = record {
   Entry = PersonEntry;
   form = people_list;
-  checks = λ office e. add_person.checks office e.person e.name e.key e.home;
-  next = λ office e. add_person.next office e.person e.name e.key e.home;
+  checks = λ office e. (add_person e.person e.name e.key e.home).checks office;
+  next = λ office e. (add_person e.person e.name e.key e.home).next office;
   change = λ e. PutPerson e.person e.name e.key e.home;
 }
 
@@ -69,8 +68,8 @@ abbrev pub choices_command : EntryCommand
 choices_command = record {
   Entry = ChoicesEntry;
   form = choices_list;
-  checks = λ office e. set_choices.checks office e.person e.choices;
-  next = λ office e. set_choices.next office e.person e.choices;
+  checks = λ office e. (set_choices e.person e.choices).checks office;
+  next = λ office e. (set_choices e.person e.choices).next office;
   change = λ e. PutChoices e.person e.choices;
 }
 
@@ -79,8 +78,8 @@ abbrev pub grade_command : EntryCommand
 grade_command = record {
   Entry = GradeRow;
   form = grades_list;
-  checks = λ office e. set_grade.checks office e.person;
-  next = λ office e. set_grade.next office e.person e.grade;
+  checks = λ office e. (set_grade e.person e.grade).checks office;
+  next = λ office e. (set_grade e.person e.grade).next office;
   change = λ e. PutGrade e.person e.grade;
 }
 
@@ -210,14 +209,10 @@ abbrev pub changes_where : Option StoredImport → Text → ListKind → List �
 changes_where (Some kept) label kind bytes = []
 changes_where None label kind bytes = new_label_changes label kind bytes
 
-abbrev pub checks : Office → Text → ListKind → List ℕ → List Check
-checks office label kind bytes = checks_where (map.get office.lists label) office kind bytes
-
-abbrev pub next : Office → Text → ListKind → List ℕ → Office
-next office label kind bytes = next_where (map.get office.lists label) office label kind bytes
-
-abbrev pub reply_to : Office → Text → ListKind → List ℕ → Reply
-reply_to office label kind bytes = reply_where (map.get office.lists label) bytes
-
-abbrev pub changes_of : Office → Text → ListKind → List ℕ → List Change
-changes_of office label kind bytes = changes_where (map.get office.lists label) label kind bytes
+-- imports a list under a label
+abbrev pub import_list : Text → ListKind → List ℕ → CommandRule
+import_list label kind bytes = record {
+  checks = λ office. checks_where (map.get office.lists label) office kind bytes;
+  next = λ office. next_where (map.get office.lists label) office label kind bytes;
+  reply = λ office. reply_where (map.get office.lists label) bytes;
+}

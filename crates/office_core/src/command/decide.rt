@@ -2,35 +2,21 @@
 ghost use Rattle.std.specs.Prelude.{IfOk, OnOk};
 ghost use Rattle.office_state.specs.Change.{LeadsTo};
 ghost use Rattle.office_state.specs.Office.Invariants.{IsLawful};
-ghost use Rattle.office_core.specs.Command.Decision.{IsDecided};
-ghost use Rattle.office_core.specs.Command.{checks, next, reply_to, changes_of};
+ghost use Rattle.office_core.specs.Command.Changes.{changes_of};
+ghost use Rattle.office_core.specs.Command.Decision.{Decides, IsDecided};
+ghost use Rattle.office_core.specs.Command.{checks, next, reply_to};
 ghost use Rattle.office_core.specs.Inner.Formed.{IsFormed};
 ghost use Rattle.office_core.specs.Replies.{RowsAscend};
 
 use crate::command::Command;
-use crate::command::add_person::add_person;
-use crate::command::add_room::add_room;
-use crate::command::blank::blank;
-use crate::command::cancel::cancel;
-use crate::command::close_round::close_round;
 use crate::command::decision::Decision;
-use crate::command::draw::draw;
-use crate::command::going::going;
 use crate::command::import::import;
-use crate::command::leave::leave;
-use crate::command::open_round::open_round;
-use crate::command::publish::publish;
-use crate::command::remove::remove;
-use crate::command::reopen::reopen;
-use crate::command::run::run;
-use crate::command::set_choices::set_choices;
-use crate::command::set_grade::set_grade;
-use crate::command::set_home::set_home;
-use crate::command::set_key::set_key;
-use crate::command::set_name::set_name;
+use crate::command::lists::{blank, going, set_choices, withdraw};
+use crate::command::register::{
+    add_person, add_room, leave, remove, reopen, set_grade, set_home, set_key, set_name, shut,
+};
+use crate::command::round::{cancel, close_round, draw, open_round, publish, run};
 use crate::command::settle::settle;
-use crate::command::shut::shut;
-use crate::command::withdraw::withdraw;
 use crate::refusal::Refusal;
 use office_state::Office;
 use std::alloc::Global;
@@ -67,8 +53,7 @@ pub fn decide(alloc: Global, office: &Office, command: &Command) -> Result<Decis
 fn dispatch(alloc: Global, office: &Office, command: &Command) -> Result<Decision, Refusal>
     requires { IsLawful office.now }
     ensures formed { OnOk result (IsFormed command.now) }
-    ensures decides { IsDecided (checks office.now command.now) (reply_to office.now command.now)
-        (changes_of office.now command.now) result }
+    ensures decides { Decides office.now command.now result }
 {
     match command {
         Command::AddRoom { room } => add_room(alloc, office, room),

@@ -1,8 +1,7 @@
 //! Imports a list under a label. Importing the list again that is stored under the label has no effect.
 ghost use Rattle.std.specs.Prelude.{◌≡◌, ◌≤◌, IfOk, IfErr, None, length, []};
 ghost use Rattle.office_lists.specs.Records.{record_limit};
-ghost use Rattle.office_core.specs.Command.Decision.{IsDecided};
-ghost use Rattle.office_core.specs.Command.Import.{checks, reply_to, changes_of};
+ghost use Rattle.office_core.specs.Command.Decision.{Decides, IsDecided};
 ghost use Rattle.office_core.specs.Command.Import.{known_label_checks, new_label_checks, new_label_changes};
 ghost use Rattle.office_core.specs.Command.Import.{may_import, is_same_import, record_changes};
 ghost use Rattle.office_core.specs.Command.Import.{record_count, refusal_of};
@@ -15,6 +14,7 @@ pub mod people;
 pub mod register;
 pub mod rooms;
 
+use crate::command::Command;
 use crate::command::decision::Decision;
 use crate::command::import::choices::choices_added;
 use crate::command::import::grades::grades_added;
@@ -50,9 +50,7 @@ pub fn import(
     kind: ListKind,
     bytes: &Listing<u8>,
 ) -> Result<Decision, Refusal>
-    ensures { IsDecided (checks office.now label.now kind bytes.now)
-        (reply_to office.now label.now kind bytes.now)
-        (changes_of office.now label.now kind bytes.now) result }
+    ensures { Decides office.now (Command.Import label.now kind bytes.now) result }
 {
     match office.lists.get(label) {
         Some(kept) => import_known(alloc, kept, kind, bytes),

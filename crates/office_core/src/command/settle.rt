@@ -4,9 +4,10 @@ ghost use Rattle.room_types.specs.declared.moves.Move.{Move};
 ghost use Rattle.office_state.specs.Office.Invariants.{IsLawful};
 ghost use Rattle.office_state.specs.Office.Phases.{is_published};
 ghost use Rattle.office_state.specs.Round.Settlement.{moves_with, settled_moves};
-ghost use Rattle.office_core.specs.Command.Decision.{IsDecided};
-ghost use Rattle.office_core.specs.Command.Settle.{checks, reply_to, changes_of, leaving, first_out, departures, swaps, arriving};
+ghost use Rattle.office_core.specs.Command.Changes.{arriving, departures, first_out, leaving, swaps};
+ghost use Rattle.office_core.specs.Command.Decision.{Decides};
 
+use crate::command::Command;
 use crate::command::decision::Decision;
 use crate::refusal::Refusal;
 use crate::reply::Reply;
@@ -35,7 +36,7 @@ use std::alloc::Global;
 #[tactic(auto, using(crate::proofs::commands::Changes::has_last))]
 pub fn settle(alloc: Global, office: &Office) -> Result<Decision, Refusal>
     requires { IsLawful office.now }
-    ensures { IsDecided (checks office.now) (reply_to office.now) (changes_of office.now) result }
+    ensures { Decides office.now Command.Settle result }
 {
     if !is_published(office.phase) {
         return Err(Refusal::BadPhase(office.phase));

@@ -6,14 +6,8 @@ ghost use Rattle.office_core.specs.Query.{returned, GainsNothing};
 ghost use Rattle.office_core.specs.Replies.{RowsAscend};
 
 use crate::query::Query;
-use crate::query::me::me;
-use crate::query::moves::moves;
-use crate::query::order::order;
-use crate::query::people::people;
-use crate::query::results::results;
-use crate::query::rooms::rooms;
-use crate::query::round::round;
-use crate::query::what_if::what_if;
+use crate::query::overview::{moves, order, people, results, rooms, round};
+use crate::query::personal::{me, what_if};
 use crate::refusal::Refusal;
 use crate::reply::Reply;
 use office_state::Office;

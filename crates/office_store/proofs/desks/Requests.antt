@@ -9,7 +9,8 @@ use Rattle.office_state.specs.Empty.{is_empty}
 use Rattle.office_state.specs.Office.Invariants.{IsLawful}
 use Rattle.office_state.specs.declared.change.Change.{Change}
 use Rattle.office_state.specs.declared.office.Office.{Office}
-use Rattle.office_core.specs.Command.{accepts, next, reply_to, changes_of, checks}
+use Rattle.office_core.specs.Command.{accepts, checks, next, reply_to}
+use Rattle.office_core.specs.Command.Changes.{changes_of}
 use Rattle.office_core.specs.Command.Decision.{IsDecision}
 use Rattle.office_core.specs.declared.command.Command.{Command}
 use Rattle.office_core.specs.declared.command.decision.Decision.{Decision}

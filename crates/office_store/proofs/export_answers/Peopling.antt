@@ -12,7 +12,7 @@ use Rattle.room_types.specs.Texts.{Text as Bytes, TextMap, text_cmp}
 use Rattle.office_state.specs.Office.Invariants.{IsLawful}
 use Rattle.office_state.specs.declared.office.Office.{Office}
 use Rattle.office_state.specs.declared.office.person.Person.{Person}
-use Rattle.office_core.specs.Query.People as people
+use Rattle.office_core.specs.Query.Overview as people
 use Rattle.office_lists.specs.Exports.{header_of, person_fields}
 use Rattle.office_lists.specs.declared.exports.ExportKind.TheVariants.{People}
 use Rattle.office_schema.specs.rows.Rows.{row_of_person, rows_of_people}

@@ -12,7 +12,7 @@ use Rattle.room_types.specs.Texts.{Text as Bytes, text_cmp}
 use Rattle.office_state.specs.Office.{is_text, tenant}
 use Rattle.office_state.specs.Office.Invariants.{IsLawful}
 use Rattle.office_state.specs.declared.office.Office.{Office}
-use Rattle.office_core.specs.Query.Rooms.{room_row, state_of}
+use Rattle.office_core.specs.Query.Overview.{room_row, state_of}
 use Rattle.office_lists.specs.Exports.{header_of, room_fields}
 use Rattle.office_lists.specs.declared.exports.ExportKind.TheVariants.{Rooms}
 use Rattle.office_schema.specs.rows.Tables.{rows_at}

@@ -6,8 +6,8 @@ use Rattle.room_types.specs.declared.rows.GradeRow.{GradeRow}
 use Rattle.office_state.specs.Office.{grade_of}
 use Rattle.office_state.specs.declared.office.Office.{Office}
 use Rattle.office_state.specs.declared.office.person.Person.{Person}
-use Rattle.office_core.specs.Query.People.{person_rows}
-use Rattle.office_core.specs.Query.Rooms.{room_rows}
+use Rattle.office_core.specs.Query.Overview.{person_rows}
+use Rattle.office_core.specs.Query.Overview.{room_rows}
 use Rattle.office_lists.specs.Exports.{grades_export, moves_export, people_export, rooms_export}
 use Rattle.office_lists.specs.Records.{Record}
 use Rattle.office_lists.specs.declared.exports.ExportKind.{ExportKind}

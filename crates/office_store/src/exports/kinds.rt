@@ -1,7 +1,7 @@
 //! The queries for rooms, people, moves and grades.
 ghost use Rattle.std.specs.Prelude.{◌≡◌, IfSome};
 ghost use Rattle.sqlite_value.specs.Order.{column};
-ghost use Rattle.office_core.specs.Query.Rooms.{state_of};
+ghost use Rattle.office_core.specs.Query.Overview.{state_of};
 ghost use Rattle.office_store.specs.exports.Shown.{u64_in};
 
 use crate::exports::exported::Exported;

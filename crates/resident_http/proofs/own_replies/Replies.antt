@@ -19,8 +19,8 @@ use Rattle.office_state.specs.Office.Phases.{is_open, is_published}
 use Rattle.office_state.specs.declared.office.Office.{Office}
 use Rattle.office_state.specs.declared.office.person.Person.{Person}
 use Rattle.office_core.specs.Command.{accepts, next, reply_to}
-use Rattle.office_core.specs.Query.Me as me
-use Rattle.office_core.specs.Query.Rooms as rooms
+use Rattle.office_core.specs.Query.Personal as me
+use Rattle.office_core.specs.Query.Overview as rooms
 use Rattle.office_core.specs.Refusal.Checks.{first_refusal, room_checks}
 use Rattle.office_core.specs.declared.command.Command.{Command}
 use Rattle.office_core.specs.declared.command.Command.TheVariants.{SetChoices, Withdraw}
@@ -89,7 +89,7 @@ owner_answer_same a b (Some person) number phase agree =
     let own = agree person refl in
     person_answer_same a b person (maps.get a.people person) number phase own ∙ ap (me.person_answer b person) own.record_of
 
-answer_same : (a b : Office) (key : Text) → a.number ≡ b.number → a.phase ≡ b.phase → AgreeOnKey a b key → me.returned a key ≡ me.returned b key
+answer_same : (a b : Office) (key : Text) → a.number ≡ b.number → a.phase ≡ b.phase → AgreeOnKey a b key → me.owner_answer a (owner a key) ≡ me.owner_answer b (owner b key)
 answer_same a b key number phase agree =
     owner_answer_same a b (owner a key) number phase agree.person ∙ ap (me.owner_answer b) agree.whose
 
@@ -214,10 +214,10 @@ module _ (a b : Office) (same : a.rooms ≡ b.rooms) (occupied : (room : Text) �
   Dispatches-same route.Choices standing body answer next agree h = records_same a b next standing.person (choices_of_body body) answer same phase agree h
 
   -- after the desk's answer to whose the key is
-  Authorizes-same : (route : Route) (key : Text) (body : List ℕ) (who : DeskAnswer) (answer : Answer) (next : Office) → AgreeOnKey a b key → who ≡ answer_from (me.returned a key)
+  Authorizes-same : (route : Route) (key : Text) (body : List ℕ) (who : DeskAnswer) (answer : Answer) (next : Office) → AgreeOnKey a b key → who ≡ answer_from (me.owner_answer a (owner a key))
       → Authorizes Handles route body who a answer next → Also (λ other. Authorizes Handles route body who b answer other)
   Authorizes-same route key body who answer next agree returned (inl h) =
-      let owner_is = standing_of_owner a (owner a key) h.0 (reply_returned (me.returned a key) (reply.Me h.0) (sym returned ∙ h.1)) in
+      let owner_is = standing_of_owner a (owner a key) h.0 (reply_returned (me.owner_answer a (owner a key)) (reply.Me h.0) (sym returned ∙ h.1)) in
       let other = Dispatches-same route h.0 body answer next (agree.person h.0.person owner_is) h.2 in
       (other.0, inl (h.0, h.1, other.1))
     where

@@ -5,7 +5,7 @@ ghost use Rattle.office_core.specs.Command.Import.{choices_command, first_denied
 ghost use Rattle.office_core.specs.Inner.Tries.{AreAdded, AreAllowed, IsOrOutOfMemory};
 
 use crate::command::import::denial::denial_of;
-use crate::command::set_choices::may_choose;
+use crate::command::lists::may_choose;
 use crate::refusal::Refusal;
 use office_lists::{ChoicesEntry, read_choices};
 use office_state::{Change, Office};

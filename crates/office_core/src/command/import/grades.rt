@@ -5,7 +5,7 @@ ghost use Rattle.office_core.specs.Command.Import.{grade_command, first_denied, 
 ghost use Rattle.office_core.specs.Inner.Tries.{AreAdded, AreAllowed, IsOrOutOfMemory};
 
 use crate::command::import::denial::denial_of;
-use crate::command::set_grade::may_grade;
+use crate::command::register::may_grade;
 use crate::refusal::Refusal;
 use office_lists::read_grades;
 use office_state::{Change, Office};

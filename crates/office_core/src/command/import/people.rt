@@ -6,9 +6,9 @@ ghost use Rattle.office_core.specs.Inner.Passes.{Passes};
 ghost use Rattle.office_core.specs.Inner.Tries.{AreAdded, AreAllowed, IsIndexed, IsOrOutOfMemory};
 ghost use Rattle.office_core.specs.Refusal.Checks.{home_checks_if_any};
 
-use crate::command::add_person::person_change;
 use crate::command::import::denial::denial_of;
 use crate::command::import::register::Register;
+use crate::command::register::person_change;
 use crate::refusal::Refusal;
 use crate::refusal::rooms::may_list;
 use office_lists::{PersonEntry, read_people};

@@ -4,8 +4,8 @@ ghost use Rattle.office_lists.specs.Records.{record_limit};
 ghost use Rattle.office_core.specs.Command.Import.{first_denied, list_refusal, room_command};
 ghost use Rattle.office_core.specs.Inner.Tries.{AreAdded, AreAllowed, IsOrOutOfMemory};
 
-use crate::command::add_room::may_add_room;
 use crate::command::import::denial::denial_of;
+use crate::command::register::may_add_room;
 use crate::refusal::Refusal;
 use office_lists::read_rooms;
 use office_state::{Change, Office};

@@ -1,5 +1,5 @@
 use Rattle.std.proofs.Common.{◌≡◌, ◌++◌, take, map}
-use Rattle.office_core.specs.Command.Settle.{arriving}
+use Rattle.office_core.specs.Command.Changes.{arriving}
 use Rattle.office_core.proofs.command.settle.push_arrivals.Given as goal
 
 -- the changes before the call, followed by those of the people who have arrived so far

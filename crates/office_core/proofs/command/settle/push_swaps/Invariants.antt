@@ -1,5 +1,5 @@
 use Rattle.std.proofs.Common.{◌≡◌, ◌++◌, take, map}
-use Rattle.office_core.specs.Command.Settle.{leaving, swaps}
+use Rattle.office_core.specs.Command.Changes.{leaving, swaps}
 use Rattle.office_core.proofs.command.settle.push_swaps.Given as goal
 
 -- the changes before the call, followed by those of the people who have left so far

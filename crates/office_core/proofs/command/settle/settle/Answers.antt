@@ -4,7 +4,7 @@ use Rattle.room_types.specs.Ascending.{ascending}
 use Rattle.office_lists.specs.MoveDay.{move_cmp}
 use Rattle.office_state.specs.declared.change.Change.{Change}
 use Rattle.office_state.specs.declared.change.Change.TheVariants.{AddMove}
-use Rattle.office_core.specs.Command.Settle.{leaving, arriving, first_out}
+use Rattle.office_core.specs.Command.Changes.{leaving, arriving, first_out}
 use Rattle.office_core.specs.declared.reply.Reply.TheVariants.{Settled}
 use Rattle.office_core.proofs.settlements.Recorded.{as_many_settled}
 use Rattle.office_core.proofs.command.settle.settle.Goals as goal

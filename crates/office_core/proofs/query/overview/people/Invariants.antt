@@ -1,0 +1,11 @@
+use Rattle.std.proofs.Common.{◌≡◌, ◌++◌, map}
+use Rattle.office_core.specs.Query.Overview.{person_row, person_rows}
+use Rattle.office_core.proofs.query.overview.people.Given as goal
+
+-- the rows so far, followed by those of the remaining people, are all rows
+abbrev pub invariant-loop-id : goal.invariant-loop-id
+invariant-loop-id l = record {
+  can : (goal.iterator-loop-id).can_next l.id-iterator;
+  ends : (goal.iterator-loop-id).is_finite l.id-iterator;
+  rows : l.rows.items ++ map person_row l.id-iterator ≡ person_rows l.office;
+}
