@@ -1,5 +1,5 @@
 -- Laws of the tables by their names.
-use Rattle.std.proofs.Common.{◌≢◌, List}
+use Rattle.std.proofs.Common.{◌≡◌, ◌≢◌, List, refl}
 use Rattle.office_schema.specs.rows.Tables.{Tables}
 use Rattle.office_schema.specs.tables.Inner.ByName.{Name, RecordOf, records_of, with_records}
 use Rattle.office_schema.specs.tables.Inner.ByName.Name.{Rooms, People, Rounds, Choices, Words}
@@ -56,3 +56,25 @@ pub at_name : (Fact : (n : Name) → List (RecordOf n) → List (RecordOf n) →
     (xs ys : List (RecordOf name)) → Fact name xs ys → ((n : Name) → Fact n (records_of t n) (records_of t n))
     → (n : Name) → Fact n (records_of (with_records t name xs) n) (records_of (with_records t name ys) n)
 at_name Fact t name xs ys here others = each_pair Fact t t name xs ys here (λ n _. others n)
+
+-- ---- the records of one table
+
+pub records_put : (name : Name) (t : Tables) (xs : List (RecordOf name)) → records_of (with_records t name xs) name ≡ xs
+records_put =
+    each_name (λ n. (t : Tables) (xs : List (RecordOf n)) → records_of (with_records t n xs) n ≡ xs)
+    (λ t xs. refl) (λ t xs. refl) (λ t xs. refl) (λ t xs. refl) (λ t xs. refl)
+    (λ t xs. refl) (λ t xs. refl) (λ t xs. refl) (λ t xs. refl) (λ t xs. refl)
+
+pub records_kept : (name : Name) (t : Tables) → with_records t name (records_of t name) ≡ t
+records_kept =
+    each_name (λ n. (t : Tables) → with_records t n (records_of t n) ≡ t)
+    (λ t. refl) (λ t. refl) (λ t. refl) (λ t. refl) (λ t. refl)
+    (λ t. refl) (λ t. refl) (λ t. refl) (λ t. refl) (λ t. refl)
+
+pub records_replaced : (name : Name) (t : Tables) (xs ys : List (RecordOf name))
+    → with_records (with_records t name xs) name ys ≡ with_records t name ys
+records_replaced =
+    each_name
+    (λ n. (t : Tables) (xs ys : List (RecordOf n)) → with_records (with_records t n xs) n ys ≡ with_records t n ys)
+    (λ t xs ys. refl) (λ t xs ys. refl) (λ t xs ys. refl) (λ t xs ys. refl) (λ t xs ys. refl)
+    (λ t xs ys. refl) (λ t xs ys. refl) (λ t xs ys. refl) (λ t xs ys. refl) (λ t xs ys. refl)

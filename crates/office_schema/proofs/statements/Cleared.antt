@@ -7,7 +7,9 @@ use Rattle.sqlite_trees.specs.Tree.{Trees}
 use Rattle.sqlite_catalog.specs.Change.{next_tree, KeepsRows}
 use Rattle.sqlite.specs.Effect.{Database}
 use Rattle.sqlite.specs.State.{State, HasCleanDisk}
-use Rattle.office_schema.specs.cells.Columns as columns
+use Rattle.office_schema.specs.tables.Inner.ByName.{Name, RecordOf, HoldsRecords, columns_of, place_of, table_named}
+use Rattle.office_schema.specs.tables.Inner.ByName.Name.{Rooms, People, Rounds, Choices, Words}
+use Rattle.office_schema.specs.tables.Inner.ByName.Name.{Results, Moves, Lists, Grades, Going}
 use Rattle.office_schema.specs.tables.Inner.Declaring.{DropsTooFew, Rebuilds}
 use Rattle.office_schema.specs.tables.Declaring.{DeclaresFirst, LeavesFirst, CreatesTooFew, MayLackTables, ChangesSchema}
 use Rattle.office_schema.specs.tables.Inner.Texts.{drop_text}
@@ -270,8 +272,22 @@ module _ (old mid new : State) (early : HasCleanDisk new → HasCleanDisk mid) (
 
 -- ---- all tables together
 
-empty_is : (trees : Trees) {X : Type 0} (columns : X → Row) (tree : ℕ) → trees tree ≡ [] → Holds columns (trees tree) []
-empty_is trees columns tree none = subst (λ l. Holds columns l []) (sym none) (none_held columns)
+-- The first tables keep their rows, and the others have none.
+module _ (first : ℕ) (old new : Trees) (same : KeepsRows (take first office_schema.tables) old new)
+    (none : IsEmptyIn new (drop first office_schema.tables)) where
+  kept : (name : Name) → slice_get (take first office_schema.tables) (place_of name) ≡ Some (table_named name)
+      → (xs : List (RecordOf name)) → HoldsRecords old name xs → HoldsRecords new name xs
+  kept name here xs =
+      stays (columns_of name) xs _ _
+      (all-slice_get (λ (t : Table). new t.tree ≡ old t.tree) (take first office_schema.tables) (place_of name)
+      (table_named name) here same)
+
+  emptied : (name : Name) (place : ℕ) → slice_get (drop first office_schema.tables) place ≡ Some (table_named name)
+      → HoldsRecords new name []
+  emptied name place here =
+      stays (columns_of name) [] [] _
+      (all-slice_get (λ (t : Table). new t.tree ≡ []) (drop first office_schema.tables) place (table_named name) here none)
+      (none_held (columns_of name))
 
 -- The tables of a round are there, without rows.
 pub clears : (old new : State) → DeclaresFirst 10 10 6 old new → Makes old new edit.without_round_tables
@@ -279,23 +295,21 @@ unfolding edit.without_round_tables
 clears old new change = record {
   shown = λ tables clean was.
       let all = change.shown clean was.schema in
-      let kept : (i : ℕ) (it : Table) → slice_get (take 6 office_schema.tables) i ≡ Some it → new.now.trees it.tree ≡ old.now.trees it.tree =
-      λ i it is. all-slice_get (λ (x : Table). new.now.trees x.tree ≡ old.now.trees x.tree) (take 6 office_schema.tables) i it is all.1 in
-      let none : (i : ℕ) (it : Table) → slice_get (drop 6 (take 10 office_schema.tables)) i ≡ Some it → new.now.trees it.tree ≡ [] =
-      λ i it is. all-slice_get (λ (x : Table). new.now.trees x.tree ≡ []) (drop 6 (take 10 office_schema.tables)) i it is all.2 in
+      let still = kept 6 old.now.trees new.now.trees all.1 all.2 in
+      let none = emptied 6 old.now.trees new.now.trees all.1 all.2 in
       record {
         schema = all.0;
         rows = record {
-          rooms = stays columns.room_columns tables.rooms (old.now.trees 0) (new.now.trees 0) (kept 0 (schema.room 0) refl) was.rows.rooms;
-          people = stays columns.person_columns tables.people (old.now.trees 2) (new.now.trees 2) (kept 1 (schema.person 2) refl) was.rows.people;
-          rounds = stays columns.round_columns tables.rounds (old.now.trees 6) (new.now.trees 6) (kept 2 (schema.round 6) refl) was.rows.rounds;
-          moves = stays columns.move_columns tables.moves (old.now.trees 7) (new.now.trees 7) (kept 3 (schema.move 7) refl) was.rows.moves;
-          lists = stays columns.list_columns tables.lists (old.now.trees 9) (new.now.trees 9) (kept 4 (schema.list 9) refl) was.rows.lists;
-          grades = stays columns.grade_columns tables.grades (old.now.trees 11) (new.now.trees 11) (kept 5 (schema.grade 11) refl) was.rows.grades;
-          words = empty_is new.now.trees columns.word_columns 13 (none 0 (schema.word 13) refl);
-          results = empty_is new.now.trees columns.result_columns 15 (none 1 (schema.result 15) refl);
-          choices = empty_is new.now.trees columns.choice_columns 18 (none 2 (schema.choice 18) refl);
-          going = empty_is new.now.trees columns.going_columns 21 (none 3 (schema.going 21) refl);
+          rooms = still Rooms refl tables.rooms was.rows.rooms;
+          people = still People refl tables.people was.rows.people;
+          rounds = still Rounds refl tables.rounds was.rows.rounds;
+          moves = still Moves refl tables.moves was.rows.moves;
+          lists = still Lists refl tables.lists was.rows.lists;
+          grades = still Grades refl tables.grades was.rows.grades;
+          words = none Words 0 refl;
+          results = none Results 1 refl;
+          choices = none Choices 2 refl;
+          going = none Going 3 refl;
         };
       };
   mode = change.mode;
@@ -314,23 +328,21 @@ pub rebuilds : (layout : Layout) (old new : State) → ChangesSchema (schema_of 
 rebuilds layout old new change = record {
   shown = λ tables clean was.
       let all = change.shown clean was.schema in
-      let kept : (i : ℕ) (it : Table) → slice_get (take 3 office_schema.tables) i ≡ Some it → new.now.trees it.tree ≡ old.now.trees it.tree =
-      λ i it is. all-slice_get (λ (x : Table). new.now.trees x.tree ≡ old.now.trees x.tree) (take 3 office_schema.tables) i it is all.1 in
-      let none : (i : ℕ) (it : Table) → slice_get (drop 3 office_schema.tables) i ≡ Some it → new.now.trees it.tree ≡ [] =
-      λ i it is. all-slice_get (λ (x : Table). new.now.trees x.tree ≡ []) (drop 3 office_schema.tables) i it is all.2 in
+      let still = kept 3 old.now.trees new.now.trees all.1 all.2 in
+      let none = emptied 3 old.now.trees new.now.trees all.1 all.2 in
       record {
         schema = all.0;
         rows = record {
-          rooms = stays columns.room_columns tables.rooms (old.now.trees 0) (new.now.trees 0) (kept 0 (schema.room 0) refl) was.rows.rooms;
-          people = stays columns.person_columns tables.people (old.now.trees 2) (new.now.trees 2) (kept 1 (schema.person 2) refl) was.rows.people;
-          rounds = stays columns.round_columns tables.rounds (old.now.trees 6) (new.now.trees 6) (kept 2 (schema.round 6) refl) was.rows.rounds;
-          moves = empty_is new.now.trees columns.move_columns 7 (none 0 (schema.move 7) refl);
-          lists = empty_is new.now.trees columns.list_columns 9 (none 1 (schema.list 9) refl);
-          grades = empty_is new.now.trees columns.grade_columns 11 (none 2 (schema.grade 11) refl);
-          words = empty_is new.now.trees columns.word_columns 13 (none 3 (schema.word 13) refl);
-          results = empty_is new.now.trees columns.result_columns 15 (none 4 (schema.result 15) refl);
-          choices = empty_is new.now.trees columns.choice_columns 18 (none 5 (schema.choice 18) refl);
-          going = empty_is new.now.trees columns.going_columns 21 (none 6 (schema.going 21) refl);
+          rooms = still Rooms refl tables.rooms was.rows.rooms;
+          people = still People refl tables.people was.rows.people;
+          rounds = still Rounds refl tables.rounds was.rows.rounds;
+          moves = none Moves 0 refl;
+          lists = none Lists 1 refl;
+          grades = none Grades 2 refl;
+          words = none Words 3 refl;
+          results = none Results 4 refl;
+          choices = none Choices 5 refl;
+          going = none Going 6 refl;
         };
       };
   mode = change.mode;

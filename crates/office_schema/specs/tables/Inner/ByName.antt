@@ -1,6 +1,7 @@
--- The tables of an office by their names: what is said of one table is said of each.
+-- The tables of an office by their names, so that one definition or lemma holds for each of them.
 use Rattle.std.specs.Prelude.{ℕ, Bool, List}
 use Rattle.sqlite_schema.specs.declared.schema.Table.{Table}
+use Rattle.sqlite_trees.specs.Tree.{Trees}
 use Rattle.sqlite_value.specs.Order.{Row}
 use Rattle.room_types.specs.Texts.{Text}
 use Rattle.room_types.specs.declared.moves.Move.{Move}
@@ -8,6 +9,7 @@ use Rattle.office_state.specs.declared.office.Assigned.{Assigned}
 use Rattle.office_state.specs.declared.office.stored_import.StoredImport.{StoredImport}
 use Rattle.office_schema.specs.cells.Columns as columns
 use Rattle.office_schema.specs.rows.Tables.{Tables}
+use Rattle.office_schema.specs.tables.Holds.{Holds}
 use Rattle.office_schema.specs.tables.Schema as schema
 use Rattle.office_schema.specs.declared.rows.records.ChoiceRecord.{ChoiceRecord}
 use Rattle.office_schema.specs.declared.rows.records.PersonRecord.{PersonRecord}
@@ -92,3 +94,7 @@ table_named Words = schema.word 13
 table_named Results = schema.result 15
 table_named Choices = schema.choice 18
 table_named Going = schema.going 21
+
+-- The table's tree holds these records.
+abbrev pub HoldsRecords : Trees → (name : Name) → List (RecordOf name) → Type 0
+HoldsRecords trees name = Holds (columns_of name) (trees (table_named name).tree)
