@@ -7,7 +7,6 @@ use Rattle.std.proofs.lemmas.List.Sorted.{IsPermutation-sym}
 use Rattle.std.proofs.lemmas.Map.Views.{All-map-IsPermutation}
 use Rattle.sqlite_keyed.specs.Lists.{update_where, delete_where}
 use Rattle.sqlite_keyed.proofs.ListLemmas.{all-filter, all_map, all_unmap}
-use Rattle.sqlite_value.specs.Order.{Row}
 use Rattle.sqlite_value.specs.declared.value.Value.TheVariants as value
 use Rattle.room_types.specs.Grammars.{is_person_id, is_room_code, is_key, is_name, is_label}
 use Rattle.room_types.specs.Texts.{Text, text_eq}
@@ -16,15 +15,13 @@ use Rattle.room_types.specs.declared.phase.Phase.{Phase}
 use Rattle.office_state.specs.declared.office.stored_import.StoredImport.{StoredImport}
 use Rattle.office_state.specs.declared.office.person.Person.{Person}
 use Rattle.office_schema.specs.cells.Cells.{IsTextOf, IsOptionalTextOf, text_or_null}
-use Rattle.office_schema.specs.cells.Columns.{room_columns, person_columns, round_shown, choice_columns, word_columns}
-use Rattle.office_schema.specs.cells.Columns.{result_columns, move_columns, list_columns, grade_columns, going_columns}
-use Rattle.office_schema.specs.cells.Forms.{IsRoomRow, IsPersonRow, IsRoundRow, IsChoiceRow}
-use Rattle.office_schema.specs.cells.Forms.{IsWordRow, IsResultRow, IsMoveRow}
-use Rattle.office_schema.specs.cells.Forms.{IsListRow, IsGradeRow, IsGoingRow}
+use Rattle.office_schema.specs.cells.Columns.{move_columns}
+use Rattle.office_schema.specs.cells.Forms.{IsChoiceRow, IsWordRow, IsResultRow, IsMoveRow, IsGoingRow}
 use Rattle.office_schema.specs.cells.WellFormed.{IsWellFormed}
 use Rattle.office_schema.specs.rows.Tables.{Tables}
 use Rattle.office_schema.specs.declared.rows.records.ChoiceRecord.{ChoiceRecord}
 use Rattle.office_schema.specs.declared.rows.records.PersonRecord.{PersonRecord}
+use Rattle.office_schema.specs.declared.rows.records.RoundRecord.{RoundRecord}
 use Rattle.office_schema.specs.tables.Edits.{with_room, with_shut, with_person, without_person}
 use Rattle.office_schema.specs.tables.Edits.{with_home, with_name_and_key, with_withdrawn}
 use Rattle.office_schema.specs.tables.Edits.{without_withdrawn, with_round, with_choice}
@@ -33,322 +30,207 @@ use Rattle.office_schema.specs.tables.Edits.{with_word, with_result}
 use Rattle.office_schema.specs.tables.Edits.{with_move, with_import, with_body}
 use Rattle.office_schema.specs.tables.Edits.{with_grade, without_grade_of, with_going}
 use Rattle.office_schema.specs.rows.SameRows.{AreSameRows}
+use Rattle.office_db.proofs.alike_tables.Alike.{alike_at}
+use Rattle.office_db.specs.declared.loading.declared.OfficeTable.{OfficeTable}
+use Rattle.office_db.specs.declared.loading.declared.OfficeTable.TheVariants.{Rooms, People, Rounds, Choices, Words}
+use Rattle.office_db.specs.declared.loading.declared.OfficeTable.TheVariants.{Results, Moves, Lists, Grades, Leavers}
+use Rattle.office_db.proofs.alike_tables.ByName.{RecordOf, columns_of, form_of, records_of, with_records, at_name}
 
-module _ {X : Type 0} (columns : X → Row) (IsRow : Row → Type 0) where
-  abbrev Formed : List X → Type 0
-  Formed xs = All IsRow (map columns xs)
+module _ (name : OfficeTable) where
+  abbrev Formed : List (RecordOf name) → Type 0
+  Formed xs = All (form_of name) (map (columns_of name) xs)
 
-  each : (xs : List X) → Formed xs → AllByRecursion (λ x. IsRow (columns x)) xs
-  each xs h = all_unmap IsRow columns xs (recursion_from_All IsRow (map columns xs) h)
+  abbrev HasForm : RecordOf name → Type 0
+  HasForm x = form_of name (columns_of name x)
 
-  every : (xs : List X) → AllByRecursion (λ x. IsRow (columns x)) xs → Formed xs
-  every xs h = All-from_recursion IsRow (map columns xs) (all_map IsRow columns xs h)
+  each : (xs : List (RecordOf name)) → Formed xs → AllByRecursion HasForm xs
+  each xs h =
+      all_unmap (form_of name) (columns_of name) xs (recursion_from_All (form_of name) (map (columns_of name) xs) h)
 
-  formed_left : (q : X → Bool) (xs : List X) → Formed xs → Formed (delete_where q xs)
-  formed_left q xs h =
-      every (delete_where q xs) (all-filter (λ x. IsRow (columns x)) (λ x. not (q x)) xs (each xs h))
+  every : (xs : List (RecordOf name)) → AllByRecursion HasForm xs → Formed xs
+  every xs h =
+      All-from_recursion (form_of name) (map (columns_of name) xs) (all_map (form_of name) (columns_of name) xs h)
 
-  module _ (q : X → Bool) (f : X → X) (keeps : (x : X) → IsRow (columns x) → IsRow (columns (f x))) where
-    one_changed : (b : Bool) (x : X) → IsRow (columns x) → IsRow (columns (cond b (f x) x))
+  formed_left : (q : RecordOf name → Bool) (xs : List (RecordOf name)) → Formed xs → Formed (delete_where q xs)
+  formed_left q xs h = every (delete_where q xs) (all-filter HasForm (λ x. not (q x)) xs (each xs h))
+
+  module _ (q : RecordOf name → Bool) (f : RecordOf name → RecordOf name)
+      (keeps : (x : RecordOf name) → HasForm x → HasForm (f x)) where
+    one_changed : (b : Bool) (x : RecordOf name) → HasForm x → HasForm (cond b (f x) x)
     one_changed true x h = keeps x h
     one_changed false x h = h
 
-    all_changed : (xs : List X) → AllByRecursion (λ x. IsRow (columns x)) xs
-        → AllByRecursion (λ x. IsRow (columns x)) (update_where q f xs)
+    all_changed : (xs : List (RecordOf name)) → AllByRecursion HasForm xs → AllByRecursion HasForm (update_where q f xs)
     all_changed [] h = tt
     all_changed (x ∷ xs) h = (one_changed (q x) x h.0, all_changed xs h.1)
 
-    formed_changed : (xs : List X) → Formed xs → Formed (update_where q f xs)
-    formed_changed xs h =
-        every (update_where q f xs) (all_changed xs (each xs h))
+    formed_changed : (xs : List (RecordOf name)) → Formed xs → Formed (update_where q f xs)
+    formed_changed xs h = every (update_where q f xs) (all_changed xs (each xs h))
+
+-- What `IsWellFormed` says, by name.
+from_names : (t : Tables) → ((n : OfficeTable) → Formed n (records_of t n)) → IsWellFormed t
+from_names t formed = record {
+  rooms = formed Rooms;
+  people = formed People;
+  rounds = formed Rounds;
+  choices = formed Choices;
+  words = formed Words;
+  results = formed Results;
+  moves = formed Moves;
+  lists = formed Lists;
+  grades = formed Grades;
+  going = formed Leavers;
+}
+
+formed_at : (t : Tables) → IsWellFormed t → (n : OfficeTable) → Formed n (records_of t n)
+formed_at t h Rooms = h.rooms
+formed_at t h People = h.people
+formed_at t h Rounds = h.rounds
+formed_at t h Choices = h.choices
+formed_at t h Words = h.words
+formed_at t h Results = h.results
+formed_at t h Moves = h.moves
+formed_at t h Lists = h.lists
+formed_at t h Grades = h.grades
+formed_at t h Leavers = h.going
 
 -- The order of rows does not matter.
 pub well_formed_alike : (these those : Tables) → AreSameRows these those → IsWellFormed those → IsWellFormed these
-well_formed_alike these those same h = record {
-  rooms = All-map-IsPermutation room_columns IsRoomRow _ _ (IsPermutation-sym _ _ same.rooms) h.rooms;
-  people = All-map-IsPermutation person_columns IsPersonRow _ _ (IsPermutation-sym _ _ same.people) h.people;
-  rounds = All-map-IsPermutation round_shown IsRoundRow _ _ (IsPermutation-sym _ _ same.rounds) h.rounds;
-  choices = All-map-IsPermutation choice_columns IsChoiceRow _ _ (IsPermutation-sym _ _ same.choices) h.choices;
-  words = All-map-IsPermutation word_columns IsWordRow _ _ (IsPermutation-sym _ _ same.words) h.words;
-  results = All-map-IsPermutation result_columns IsResultRow _ _ (IsPermutation-sym _ _ same.results) h.results;
-  moves = All-map-IsPermutation move_columns IsMoveRow _ _ (IsPermutation-sym _ _ same.moves) h.moves;
-  lists = All-map-IsPermutation list_columns IsListRow _ _ (IsPermutation-sym _ _ same.lists) h.lists;
-  grades = All-map-IsPermutation grade_columns IsGradeRow _ _ (IsPermutation-sym _ _ same.grades) h.grades;
-  going = All-map-IsPermutation going_columns IsGoingRow _ _ (IsPermutation-sym _ _ same.going) h.going;
-}
+well_formed_alike these those same h = from_names these (λ n.
+    All-map-IsPermutation (columns_of n) (form_of n) _ _ (IsPermutation-sym _ _ (alike_at these those same n))
+    (formed_at those h n))
 
 module _ (t : Tables) (h : IsWellFormed t) where
-  rooms_well_formed : (xs : List (Text × Bool)) → All IsRoomRow (map room_columns xs)
-      → IsWellFormed (record t { rooms = xs })
-  rooms_well_formed xs k = record {
-    rooms = k;
-    people = h.people;
-    rounds = h.rounds;
-    choices = h.choices;
-    words = h.words;
-    results = h.results;
-    moves = h.moves;
-    lists = h.lists;
-    grades = h.grades;
-    going = h.going;
-  }
+  -- The records of one table are replaced.
+  one_well_formed : (name : OfficeTable) (xs : List (RecordOf name)) → Formed name xs
+      → IsWellFormed (with_records t name xs)
+  one_well_formed name xs formed = from_names (with_records t name xs)
+      (at_name (λ n ys _. Formed n ys) t name xs xs formed (formed_at t h))
 
-  people_well_formed : (xs : List PersonRecord) → All IsPersonRow (map person_columns xs)
-      → IsWellFormed (record t { people = xs })
-  people_well_formed xs k = record {
-    rooms = h.rooms;
-    people = k;
-    rounds = h.rounds;
-    choices = h.choices;
-    words = h.words;
-    results = h.results;
-    moves = h.moves;
-    lists = h.lists;
-    grades = h.grades;
-    going = h.going;
-  }
+  one_added : (name : OfficeTable) (x : RecordOf name) → HasForm name x
+      → IsWellFormed (with_records t name (x ∷ records_of t name))
+  one_added name x form =
+      one_well_formed name (x ∷ records_of t name) (All-cons (form_of name) _ _ form (formed_at t h name))
+
+  some_left : (name : OfficeTable) (q : RecordOf name → Bool)
+      → IsWellFormed (with_records t name (delete_where q (records_of t name)))
+  some_left name q = one_well_formed name _ (formed_left name q (records_of t name) (formed_at t h name))
+
+  some_changed : (name : OfficeTable) (q : RecordOf name → Bool) (f : RecordOf name → RecordOf name)
+      → ((x : RecordOf name) → HasForm name x → HasForm name (f x))
+      → IsWellFormed (with_records t name (update_where q f (records_of t name)))
+  some_changed name q f keeps =
+      one_well_formed name _ (formed_changed name q f keeps (records_of t name) (formed_at t h name))
 
   pub room_well_formed : (room : Text) (shut : Bool) → IsTextOf is_room_code (value.Text room)
       → IsWellFormed (with_room room shut t)
   unfolding with_room
-  room_well_formed room shut code =
-      rooms_well_formed ((room, shut) ∷ t.rooms) (All-cons IsRoomRow _ _ (code, (shut, refl)) h.rooms)
+  room_well_formed room shut code = one_added Rooms (room, shut) (code, (shut, refl))
 
   pub shut_well_formed : (room : Text) (shut : Bool) → IsWellFormed (with_shut room shut t)
   unfolding with_shut
   shut_well_formed room shut =
-      rooms_well_formed _
-      (formed_changed room_columns IsRoomRow (λ r. text_eq r.0 room) (λ r. (r.0, shut))
-      (λ r was. (was.0, (shut, refl))) t.rooms h.rooms)
+      some_changed Rooms (λ r. text_eq r.0 room) (λ r. (r.0, shut)) (λ r was. (was.0, (shut, refl)))
 
   pub person_well_formed : (id : Text) (person : Person) → IsTextOf is_person_id (value.Text id)
       → IsTextOf is_name (value.Text person.name) → IsTextOf is_key (value.Text person.key)
       → IsOptionalTextOf is_room_code (text_or_null person.home) → IsWellFormed (with_person id person t)
   unfolding with_person
   person_well_formed id person is_id name key home =
-      people_well_formed _ (All-cons IsPersonRow _ _ (is_id, name, key, home, (false, refl)) h.people)
+      one_added People (record { id = id; person = person; withdrawn = false }) (is_id, name, key, home, (false, refl))
 
   pub without_person_well_formed : (id : Text) → IsWellFormed (without_person id t)
   unfolding without_person
-  without_person_well_formed id =
-      people_well_formed _ (formed_left person_columns IsPersonRow
-      (λ (r : PersonRecord). text_eq r.id id) t.people h.people)
+  without_person_well_formed id = some_left People (λ (r : PersonRecord). text_eq r.id id)
 
   pub home_well_formed : (id : Text) (home : Option Text) → IsOptionalTextOf is_room_code (text_or_null home)
       → IsWellFormed (with_home id home t)
   unfolding with_home
   home_well_formed id home lives =
-      people_well_formed _
-      (formed_changed person_columns IsPersonRow (λ (r : PersonRecord). text_eq r.id id)
-      (λ r. record r { person = record r.person { home = home } })
-      (λ r was. (was.0, was.1, was.2, lives, was.4)) t.people h.people)
+      some_changed People (λ (r : PersonRecord). text_eq r.id id)
+      (λ (r : PersonRecord). record r { person = record r.person { home = home } })
+      (λ r (is_id, name, key, _, withdrawn). (is_id, name, key, lives, withdrawn))
 
   pub name_and_key_well_formed : (id name key : Text) → IsTextOf is_name (value.Text name)
       → IsTextOf is_key (value.Text key) → IsWellFormed (with_name_and_key id name key t)
   unfolding with_name_and_key
   name_and_key_well_formed id name key is_its_name is_its_key =
-      people_well_formed _
-      (formed_changed person_columns IsPersonRow (λ (r : PersonRecord). text_eq r.id id)
-      (λ r. record r { person = record r.person { name = name; key = key } })
-      (λ r was. (was.0, is_its_name, is_its_key, was.3, was.4)) t.people h.people)
+      some_changed People (λ (r : PersonRecord). text_eq r.id id)
+      (λ (r : PersonRecord). record r { person = record r.person { name = name; key = key } })
+      (λ r (is_id, _, _, home, withdrawn). (is_id, is_its_name, is_its_key, home, withdrawn))
 
   pub withdrawn_well_formed : (id : Text) → IsWellFormed (with_withdrawn id t)
   unfolding with_withdrawn
   withdrawn_well_formed id =
-      people_well_formed _
-      (formed_changed person_columns IsPersonRow (λ (r : PersonRecord). text_eq r.id id)
-      (λ r. record r { withdrawn = true }) (λ r was. (was.0, was.1, was.2, was.3, (true, refl))) t.people h.people)
+      some_changed People (λ (r : PersonRecord). text_eq r.id id) (λ (r : PersonRecord). record r { withdrawn = true })
+      (λ r (is_id, name, key, home, _). (is_id, name, key, home, (true, refl)))
 
   pub without_withdrawn_well_formed : IsWellFormed (without_withdrawn t)
   unfolding without_withdrawn
   without_withdrawn_well_formed =
-      people_well_formed _
-      (formed_changed person_columns IsPersonRow (λ r. true) (λ r. record r { withdrawn = false })
-      (λ r was. (was.0, was.1, was.2, was.3, (false, refl))) t.people h.people)
-
-  choices_well_formed : (xs : List ChoiceRecord) → All IsChoiceRow (map choice_columns xs)
-      → IsWellFormed (record t { choices = xs })
-  choices_well_formed xs k = record {
-    rooms = h.rooms;
-    people = h.people;
-    rounds = h.rounds;
-    choices = k;
-    words = h.words;
-    results = h.results;
-    moves = h.moves;
-    lists = h.lists;
-    grades = h.grades;
-    going = h.going;
-  }
+      some_changed People (λ r. true) (λ (r : PersonRecord). record r { withdrawn = false })
+      (λ r (is_id, name, key, home, _). (is_id, name, key, home, (false, refl)))
 
   pub choice_well_formed : (person : Text) (place : ℕ) (room : Text) → IsTextOf is_person_id (value.Text person)
       → IsTextOf is_room_code (value.Text room) → IsWellFormed (with_choice person place room t)
   unfolding with_choice
   choice_well_formed person place room id code =
-      choices_well_formed _ (All-cons IsChoiceRow _ _ (id, (place, refl), code) h.choices)
+      one_added Choices (record { person = person; place = place; room = room }) (id, (place, refl), code)
 
   pub without_choices_of_well_formed : (person : Text) → IsWellFormed (without_choices_of person t)
   unfolding without_choices_of
-  without_choices_of_well_formed person =
-      choices_well_formed _ (formed_left choice_columns IsChoiceRow
-      (λ (r : ChoiceRecord). text_eq r.person person) t.choices h.choices)
-
-  words_well_formed : (xs : List (Text × ℕ)) → All IsWordRow (map word_columns xs)
-      → IsWellFormed (record t { words = xs })
-  words_well_formed xs k = record {
-    rooms = h.rooms;
-    people = h.people;
-    rounds = h.rounds;
-    choices = h.choices;
-    words = k;
-    results = h.results;
-    moves = h.moves;
-    lists = h.lists;
-    grades = h.grades;
-    going = h.going;
-  }
+  without_choices_of_well_formed person = some_left Choices (λ (r : ChoiceRecord). text_eq r.person person)
 
   pub word_well_formed : (person : Text) (word : ℕ) → IsTextOf is_person_id (value.Text person) → word < 2 ^ 64
       → IsWellFormed (with_word person word t)
   unfolding with_word
-  word_well_formed person word id low =
-      words_well_formed _ (All-cons IsWordRow _ _ (id, (word, refl, low)) h.words)
+  word_well_formed person word id low = one_added Words (person, word) (id, (word, refl, low))
 
   pub result_well_formed : (person : Text) (room : Option Text) → IsTextOf is_person_id (value.Text person)
       → IsOptionalTextOf is_room_code (text_or_null room) → IsWellFormed (with_result person room t)
   unfolding with_result
-  result_well_formed person room id code = record {
-    rooms = h.rooms;
-    people = h.people;
-    rounds = h.rounds;
-    choices = h.choices;
-    words = h.words;
-    results = All-cons IsResultRow _ _ (id, code) h.results;
-    moves = h.moves;
-    lists = h.lists;
-    grades = h.grades;
-    going = h.going;
-  }
-
-  pub without_round_tables_well_formed : IsWellFormed (without_round_tables t)
-  unfolding without_round_tables
-  without_round_tables_well_formed = record {
-    rooms = h.rooms;
-    people = h.people;
-    rounds = h.rounds;
-    choices = All-nil IsChoiceRow;
-    words = All-nil IsWordRow;
-    results = All-nil IsResultRow;
-    moves = h.moves;
-    lists = h.lists;
-    grades = h.grades;
-    going = All-nil IsGoingRow;
-  }
+  result_well_formed person room id code = one_added Results (person, record { room = room }) (id, code)
 
   pub move_well_formed : (move : Move) → IsMoveRow (move_columns move) → IsWellFormed (with_move move t)
   unfolding with_move
-  move_well_formed move form = record {
-    rooms = h.rooms;
-    people = h.people;
-    rounds = h.rounds;
-    choices = h.choices;
-    words = h.words;
-    results = h.results;
-    moves = All-cons IsMoveRow _ _ form h.moves;
-    lists = h.lists;
-    grades = h.grades;
-    going = h.going;
-  }
+  move_well_formed move form = one_added Moves move form
 
-  pub kept_well_formed : (label : Text) (kept : StoredImport) → IsTextOf is_label (value.Text label) → kept.count < 2 ^ 16
-      → IsWellFormed (with_import label kept t)
+  pub kept_well_formed : (label : Text) (kept : StoredImport) → IsTextOf is_label (value.Text label)
+      → kept.count < 2 ^ 16 → IsWellFormed (with_import label kept t)
   unfolding with_import
-  kept_well_formed label kept is_its_label low = record {
-    rooms = h.rooms;
-    people = h.people;
-    rounds = h.rounds;
-    choices = h.choices;
-    words = h.words;
-    results = h.results;
-    moves = h.moves;
-    lists = All-cons IsListRow _ _
-        (is_its_label, (kept.kind, refl), (kept.bytes, refl), (kept.count, refl, low)) h.lists;
-    grades = h.grades;
-    going = h.going;
-  }
+  kept_well_formed label kept is_its_label low =
+      one_added Lists (label, kept) (is_its_label, (kept.kind, refl), (kept.bytes, refl), (kept.count, refl, low))
 
   pub body_well_formed : (label : Text) (bytes : List ℕ) → IsWellFormed (with_body label bytes t)
   unfolding with_body
-  body_well_formed label bytes = record {
-    rooms = h.rooms;
-    people = h.people;
-    rounds = h.rounds;
-    choices = h.choices;
-    words = h.words;
-    results = h.results;
-    moves = h.moves;
-    lists = formed_changed list_columns IsListRow (λ r. text_eq r.0 label)
-        (λ r. (r.0, record r.1 { bytes = bytes }))
-        (λ r was. (was.0, was.1, (bytes, refl), was.3)) t.lists h.lists;
-    grades = h.grades;
-    going = h.going;
-  }
+  body_well_formed label bytes =
+      some_changed Lists (λ r. text_eq r.0 label) (λ r. (r.0, record r.1 { bytes = bytes }))
+      (λ r (is_its_label, kind, _, count). (is_its_label, kind, (bytes, refl), count))
 
   pub round_well_formed : (number : ℕ) (phase : Phase) → number < 2 ^ 16 → IsWellFormed (with_round number phase t)
   unfolding with_round
-  round_well_formed number phase low = record {
-    rooms = h.rooms;
-    people = h.people;
-    rounds = formed_changed round_shown IsRoundRow (λ r. true) (λ r. record r { number = number; phase = phase })
-        (λ r was. (was.0, (number, refl, low), (phase, refl))) t.rounds h.rounds;
-    choices = h.choices;
-    words = h.words;
-    results = h.results;
-    moves = h.moves;
-    lists = h.lists;
-    grades = h.grades;
-    going = h.going;
-  }
-
-  grades_well_formed : (xs : List (Text × ℕ)) → All IsGradeRow (map grade_columns xs)
-      → IsWellFormed (record t { grades = xs })
-  grades_well_formed xs k = record {
-    rooms = h.rooms;
-    people = h.people;
-    rounds = h.rounds;
-    choices = h.choices;
-    words = h.words;
-    results = h.results;
-    moves = h.moves;
-    lists = h.lists;
-    grades = k;
-    going = h.going;
-  }
+  round_well_formed number phase low =
+      some_changed Rounds (λ r. true) (λ (r : RoundRecord). record r { number = number; phase = phase })
+      (λ r (version, _, _). (version, (number, refl, low), (phase, refl)))
 
   pub grade_well_formed : (person : Text) (grade : ℕ) → IsTextOf is_person_id (value.Text person) → 1 ≤ grade
-      → grade ≤ 9
-      → IsWellFormed (with_grade person grade t)
+      → grade ≤ 9 → IsWellFormed (with_grade person grade t)
   unfolding with_grade
-  grade_well_formed person grade id some low =
-      grades_well_formed _ (All-cons IsGradeRow _ _ (id, (grade, refl, some, low)) h.grades)
+  grade_well_formed person grade id some low = one_added Grades (person, grade) (id, (grade, refl, some, low))
 
   pub without_grade_of_well_formed : (person : Text) → IsWellFormed (without_grade_of person t)
   unfolding without_grade_of
-  without_grade_of_well_formed person =
-      grades_well_formed _
-      (formed_left grade_columns IsGradeRow (λ r. text_eq r.0 person) t.grades h.grades)
+  without_grade_of_well_formed person = some_left Grades (λ r. text_eq r.0 person)
 
-  pub going_well_formed : (person : Text) → IsTextOf is_person_id (value.Text person) → IsWellFormed (with_going person t)
+  pub going_well_formed : (person : Text) → IsTextOf is_person_id (value.Text person)
+      → IsWellFormed (with_going person t)
   unfolding with_going
-  going_well_formed person id = record {
-    rooms = h.rooms;
-    people = h.people;
-    rounds = h.rounds;
-    choices = h.choices;
-    words = h.words;
-    results = h.results;
-    moves = h.moves;
-    lists = h.lists;
-    grades = h.grades;
-    going = All-cons IsGoingRow _ _ id h.going;
-  }
+  going_well_formed person id = one_added Leavers person id
+
+pub without_round_tables_well_formed : (t : Tables) → IsWellFormed t → IsWellFormed (without_round_tables t)
+unfolding without_round_tables
+without_round_tables_well_formed t h =
+    let choices = one_well_formed t h Choices [] (All-nil IsChoiceRow) in
+    let words = one_well_formed _ choices Words [] (All-nil IsWordRow) in
+    let results = one_well_formed _ words Results [] (All-nil IsResultRow) in
+    one_well_formed _ results Leavers [] (All-nil IsGoingRow)

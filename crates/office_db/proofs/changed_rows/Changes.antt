@@ -10,6 +10,7 @@ use Rattle.std.specs.FinMap as maps
 use Rattle.std.specs.FinMap.{get-insert, get-empty}
 use Rattle.std.proofs.lemmas.List.Sorted.{IsPermutation-sym, IsPermutation-middle}
 use Rattle.std.proofs.lemmas.Map.Text.{is_eq-slice_cmp}
+use Rattle.sqlite_keyed.specs.Lists.{update_where}
 use Rattle.sqlite_keyed.proofs.ListLemmas.{map-map, map_same, IsPermutation-same}
 use Rattle.room_types.specs.Texts.{Text, TextMap, text_cmp, text_eq}
 use Rattle.room_types.specs.declared.kinds.ListKind.{ListKind}
@@ -45,12 +46,9 @@ use Rattle.office_schema.specs.tables.Edits.{without_choices_of, without_round_t
 use Rattle.office_schema.specs.tables.Edits.{with_word, with_result, with_move, with_import}
 use Rattle.office_schema.specs.tables.Edits.{with_body, with_grade, without_grade_of}
 use Rattle.office_schema.specs.tables.Edits.{with_going, taking_part}
-use Rattle.office_db.proofs.alike_tables.Alike.{alike-refl, rooms_alike}
-use Rattle.office_db.proofs.alike_tables.Alike.{people_alike, choices_alike}
-use Rattle.office_db.proofs.alike_tables.Alike.{words_alike}
-use Rattle.office_db.proofs.alike_tables.Alike.{results_alike, moves_alike}
-use Rattle.office_db.proofs.alike_tables.Alike.{lists_alike, grades_alike}
-use Rattle.office_db.proofs.alike_tables.Alike.{going_alike, alike-trans}
+use Rattle.office_db.proofs.alike_tables.Alike.{alike-refl, alike-trans, one_alike}
+use Rattle.office_db.specs.declared.loading.declared.OfficeTable.TheVariants.{Rooms, People, Choices, Words}
+use Rattle.office_db.specs.declared.loading.declared.OfficeTable.TheVariants.{Results, Moves, Lists, Grades, Leavers}
 use Rattle.office_db.proofs.changed_rows.Entries.{rows_put, rows_gone, row_gone}
 use Rattle.office_db.proofs.changed_rows.Entries.{row_added}
 use Rattle.office_db.proofs.changed_rows.Entries.{row_unknown, row_changed}
@@ -65,14 +63,14 @@ module _ (office : Office) (room : Text) (shut : Bool) where
       → AreSameRows (rows_of (applied office (PutRoom room shut))) (with_room room shut (rows_of office))
   unfolding rows_at with_room
   room_added new =
-      rooms_alike (rows_of office) _ _ (entry_added office.rooms room shut new)
+      one_alike (rows_of office) Rooms _ _ (entry_added office.rooms room shut new)
 
   -- a room that is known
   pub room_shut : knows_room office room ≡ true
       → AreSameRows (rows_of (applied office (PutRoom room shut))) (with_shut room shut (rows_of office))
   unfolding rows_at with_shut
   room_shut known =
-      rooms_alike (rows_of office) _ _
+      one_alike (rows_of office) Rooms _ _
       (IsPermutation-same _ _ (entry_changed office.rooms room shut known))
 
 -- ---- people
@@ -94,7 +92,7 @@ module _ (office : Office) (person : Text) where
       let v : Person = record { name = name; key = key; home = home } in
       let head : shown (person, v) ≡ record { id = person; person = v; withdrawn = false } =
       ap (λ b. record { id = person; person = v; withdrawn = b }) here in
-      people_alike (rows_of office) _ _
+      one_alike (rows_of office) People _ _
       (subst (λ r. IsPermutation (rows_of_people (maps.insert office.people person v) office.withdrawn)
       (r ∷ rows_of_people office.people office.withdrawn)) head
       (row_added shown (λ (r : PersonRecord). r.id) (λ e. refl) person is_that
@@ -107,10 +105,10 @@ module _ (office : Office) (person : Text) where
   unfolding rows_at without_person without_grade_of
   person_out =
       alike-trans _ _ _
-      (people_alike (rows_of (changes.without_person office person)) _ _ (IsPermutation-same _ _
+      (one_alike (rows_of (changes.without_person office person)) People _ _ (IsPermutation-same _ _
       (row_gone shown (λ (r : PersonRecord). r.id) (λ e. refl) person is_that
       (λ r. tells r.id person) office.people)))
-      (grades_alike (without_person person (rows_of office)) _ _
+      (one_alike (without_person person (rows_of office)) Grades _ _
       (IsPermutation-same _ _ (entry_gone office.grades person)))
 
   -- If only known people have a grade, nobody else loses one.
@@ -121,51 +119,46 @@ module _ (office : Office) (person : Text) where
       subst (λ new. AreSameRows (rows_of new) (without_person person (without_grade_of person (rows_of office))))
       (sym (person_dropped office person graded)) person_out
 
+  -- The entry of the person is changed, if there is one.
+  abbrev with_entry : (Person → Person) → Option Person → Office
+  with_entry f entry = elim entry as (λ _. Office) [
+    | None ↦ office
+    | Some kept ↦ record office { people = maps.insert office.people person (f kept) }
+  ]
+
+  person_changed : (f : Person → Person) (g : PersonRecord → PersonRecord)
+      → ((kept : Person) → g (shown (person, kept)) ≡ shown (person, f kept))
+      → AreSameRows (rows_of (with_entry f (maps.get office.people person)))
+      (record (rows_of office) { people = update_where is_that g (rows_of_people office.people office.withdrawn) })
+  unfolding rows_at
+  person_changed f g is_its =
+      elim (maps.get office.people person) as (λ o. maps.get office.people person ≡ o
+      → AreSameRows (rows_of (with_entry f o))
+      (record (rows_of office) { people = update_where is_that g (rows_of_people office.people office.withdrawn) })) [
+        | None ↦ λ unknown.
+            one_alike (rows_of office) People _ _ (IsPermutation-same _ _
+            (row_unknown shown (λ (r : PersonRecord). r.id) (λ e. refl) person is_that
+            (λ r. tells r.id person) g office.people unknown))
+        | Some kept ↦ λ known.
+            one_alike (rows_of office) People _ _ (IsPermutation-same _ _
+            (row_changed shown (λ (r : PersonRecord). r.id) (λ e. refl) person is_that
+            (λ r. tells r.id person) g office.people (f kept) kept known (is_its kept)))
+      ] refl
+
   pub home_put : (home : Option Text)
       → AreSameRows (rows_of (applied office (PutHome person home))) (with_home person home (rows_of office))
   unfolding rows_at with_home
   home_put home =
-      let f : PersonRecord → PersonRecord = λ r. record r { person = record r.person { home = home } } in
-      elim (maps.get office.people person) as (λ o. maps.get office.people person ≡ o
-      → AreSameRows (rows_of (elim o as (λ _. Office) [
-        | None ↦ office
-        | Some kept ↦ record office { people = maps.insert office.people person (record kept { home = home }) }
-      ])) (with_home person home (rows_of office))) [
-        | None ↦ λ unknown.
-            people_alike (rows_of office) _ _ (IsPermutation-same _ _
-            (row_unknown shown (λ (r : PersonRecord). r.id) (λ e. refl) person is_that
-            (λ r. tells r.id person) f office.people unknown))
-        | Some kept ↦ λ known.
-            people_alike (rows_of office) _ _ (IsPermutation-same _ _
-            (row_changed shown (λ (r : PersonRecord). r.id) (λ e. refl) person is_that
-            (λ r. tells r.id person) f office.people
-            (record kept { home = home }) kept known refl))
-      ] refl
+      person_changed (λ kept. record kept { home = home })
+      (λ r. record r { person = record r.person { home = home } }) (λ kept. refl)
 
   pub name_and_key_put : (name key : Text)
       → AreSameRows (rows_of (applied office (PutNameAndKey person name key)))
       (with_name_and_key person name key (rows_of office))
   unfolding rows_at with_name_and_key
   name_and_key_put name key =
-      let f : PersonRecord → PersonRecord =
-      λ r. record r { person = record r.person { name = name; key = key } } in
-      elim (maps.get office.people person) as (λ o. maps.get office.people person ≡ o
-      → AreSameRows (rows_of (elim o as (λ _. Office) [
-        | None ↦ office
-        | Some kept ↦ record office {
-          people = maps.insert office.people person (record kept { name = name; key = key });
-        }
-      ])) (with_name_and_key person name key (rows_of office))) [
-        | None ↦ λ unknown.
-            people_alike (rows_of office) _ _ (IsPermutation-same _ _
-            (row_unknown shown (λ (r : PersonRecord). r.id) (λ e. refl) person is_that
-            (λ r. tells r.id person) f office.people unknown))
-        | Some kept ↦ λ known.
-            people_alike (rows_of office) _ _ (IsPermutation-same _ _
-            (row_changed shown (λ (r : PersonRecord). r.id) (λ e. refl) person is_that
-            (λ r. tells r.id person) f office.people
-            (record kept { name = name; key = key }) kept known refl))
-      ] refl
+      person_changed (λ kept. record kept { name = name; key = key })
+      (λ r. record r { person = record r.person { name = name; key = key } }) (λ kept. refl)
 
   -- the row of a person, once somebody has withdrawn
   marked : (e : Text × Person)
@@ -187,7 +180,7 @@ module _ (office : Office) (person : Text) where
       (with_withdrawn person (rows_of office))
   unfolding rows_at with_withdrawn
   withdrawn_put =
-      people_alike (rows_of office) _ _ (IsPermutation-same _ _
+      one_alike (rows_of office) People _ _ (IsPermutation-same _ _
       (map_same _ _ marked (maps.entries office.people)
       ∙ sym (map-map (λ (r : PersonRecord). cond (is_that r) (record r { withdrawn = true }) r) shown
       (maps.entries office.people))))
@@ -200,14 +193,15 @@ choices_keyed person place [] = tt
 choices_keyed person place (room ∷ rooms) = (refl, choices_keyed person (place + 1) rooms)
 
 choices_added : (person : Text) (place : ℕ) (rooms : List Text) (t : Tables)
-    → AreSameRows (record t { choices = choices_from person place rooms ++ t.choices }) (with_choices person place rooms t)
+    → AreSameRows (record t { choices = choices_from person place rooms ++ t.choices })
+    (with_choices person place rooms t)
 unfolding with_choice
 choices_added person place [] t = alike-refl t
 choices_added person place (room ∷ rooms) t =
     let c : ChoiceRecord = record { person = person; place = place; room = room } in
     let rest : List ChoiceRecord = choices_from person (place + 1) rooms in
     alike-trans _ _ _
-    (choices_alike t (c ∷ (rest ++ t.choices)) (rest ++ c ∷ t.choices)
+    (one_alike t Choices (c ∷ (rest ++ t.choices)) (rest ++ c ∷ t.choices)
     (IsPermutation-sym _ _ (IsPermutation-middle rest c t.choices)))
     (choices_added person (place + 1) rooms (with_choice person place room t))
 
@@ -221,13 +215,13 @@ module _ (office : Office) (person : Text) where
       (with_choices person 0 rooms (without_choices_of person (rows_of office)))
   unfolding rows_at without_choices_of
   choices_put [] =
-      choices_alike (rows_of office) _ _ (IsPermutation-same _ _
+      one_alike (rows_of office) Choices _ _ (IsPermutation-same _ _
       (rows_gone list_rows (λ (r : ChoiceRecord). r.person)
       (λ e. choices_keyed e.0 0 e.1) person is_choice
       (λ r. tells r.person person) office.choices))
   choices_put (room ∷ rooms) =
       alike-trans _ _ _
-      (choices_alike (rows_of office) _ _
+      (one_alike (rows_of office) Choices _ _
       (rows_put list_rows (λ (r : ChoiceRecord). r.person)
       (λ e. choices_keyed e.0 0 e.1) person is_choice
       (λ r. tells r.person person)
@@ -242,14 +236,14 @@ module _ (office : Office) (person : Text) where
       → AreSameRows (rows_of (applied office (PutWord person word))) (with_word person word (rows_of office))
   unfolding rows_at with_word
   word_added word new =
-      words_alike (rows_of office) _ _ (entry_added office.words person word new)
+      one_alike (rows_of office) Words _ _ (entry_added office.words person word new)
 
   -- A person without a result gets one.
   pub result_added : (room : Option Text) → maps.contains_key office.results person ≡ false
       → AreSameRows (rows_of (applied office (PutResult person room))) (with_result person room (rows_of office))
   unfolding rows_at with_result
   result_added room new =
-      results_alike (rows_of office) _ _
+      one_alike (rows_of office) Results _ _
       (entry_added office.results person (record { room = room }) new)
 
 -- A person moves who has not moved in the round.
@@ -258,7 +252,7 @@ pub move_added : (office : Office) (move : Move)
     → AreSameRows (rows_of (applied office (AddMove move))) (with_move move (rows_of office))
 unfolding rows_at with_move
 move_added office move new =
-    moves_alike (rows_of office) _ _ (IsPermutation-sym _ _ (rows_more office.moves move new))
+    one_alike (rows_of office) Moves _ _ (IsPermutation-sym _ _ (rows_more office.moves move new))
 
 -- An imported list is stored under a new label.
 pub list_kept : (office : Office) (label : Text) (kind : ListKind) (bytes : List ℕ) (count : ℕ)
@@ -267,7 +261,7 @@ pub list_kept : (office : Office) (label : Text) (kind : ListKind) (bytes : List
     (with_import label (record { kind = kind; bytes = bytes; count = count }) (rows_of office))
 unfolding rows_at with_import
 list_kept office label kind bytes count new =
-    lists_alike (rows_of office) _ _
+    one_alike (rows_of office) Lists _ _
     (entry_added office.lists label (record { kind = kind; bytes = bytes; count = count }) new)
 
 -- The bytes of an imported list are replaced.
@@ -285,10 +279,10 @@ bytes_put office label bytes =
       }
     ])) (with_body label bytes (rows_of office))) [
       | None ↦ λ unknown.
-          lists_alike (rows_of office) _ _
+          one_alike (rows_of office) Lists _ _
           (IsPermutation-same _ _ (entry_unknown office.lists label f unknown))
       | Some kept ↦ λ known.
-          lists_alike (rows_of office) _ _ (IsPermutation-same _ _
+          one_alike (rows_of office) Lists _ _ (IsPermutation-same _ _
           (entry_changed_by office.lists label f (record kept { bytes = bytes }) kept known refl))
     ] refl
 
@@ -301,16 +295,16 @@ module _ (office : Office) (person : Text) where
       (with_grade_recorded person grade (without_grade_of person (rows_of office)))
   unfolding rows_at with_grade without_grade_of
   grade_put zero =
-      grades_alike (rows_of office) _ _ (IsPermutation-same _ _ (entry_gone office.grades person))
+      one_alike (rows_of office) Grades _ _ (IsPermutation-same _ _ (entry_gone office.grades person))
   grade_put (suc grade) =
-      grades_alike (rows_of office) _ _ (entry_put office.grades person (suc grade))
+      one_alike (rows_of office) Grades _ _ (entry_put office.grades person (suc grade))
 
   -- A person leaves who did not before.
   pub going_put : is_going office person ≡ false
       → AreSameRows (rows_of (applied office (PutGoing person))) (with_going person (rows_of office))
   unfolding rows_at with_going
   going_put new =
-      going_alike (rows_of office) _ _
+      one_alike (rows_of office) Leavers _ _
       (row_added (λ (e : Text × Unit {0}). e.0) (λ k. k) (λ e. refl) person (λ k. text_eq k person)
       (λ k. tells k person) office.going tt
       (none_if_not_some (maps.get office.going person) new))
