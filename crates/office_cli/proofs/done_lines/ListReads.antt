@@ -5,8 +5,10 @@ use Rattle.office_cli.specs.ListReads.{Reads, ReadsOnce}
 
 module _ {R : Type 0} (reads : R → List ℕ → List ℕ → Result ℕ Error → R → Type 0) where
   -- one more read returned at least one byte
-  pub one_more_read : (before buffer_before buffer : List ℕ) (count : ℕ) (old between new : R) → Reads reads before old between
-      → reads between buffer_before buffer (Ok count) new → 0 < count → count ≤ length buffer → Reads reads (before ++ take count buffer) old new
+  pub one_more_read : (before buffer_before buffer : List ℕ) (count : ℕ) (old between new : R)
+      → Reads reads before old between
+      → reads between buffer_before buffer (Ok count) new → 0 < count → count ≤ length buffer
+      → Reads reads (before ++ take count buffer) old new
   one_more_read before buffer_before buffer count old between new earlier called some within =
       let read : ReadsOnce reads before (before ++ take count buffer) between new = record {
         buffer_before = buffer_before;

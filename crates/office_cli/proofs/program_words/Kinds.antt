@@ -32,7 +32,8 @@ unnamed name other =
     ) refl
 
 -- `ListKind::named` returns the kind that `list_kind_named` defines
-pub kind_is : (name : Text) (read : Option ListKind) → MatchOption read ((kind : ListKind) → name ≡ kind_text kind → ⊥) (λ kind. name ≡ kind_text kind)
+pub kind_is : (name : Text) (read : Option ListKind) → MatchOption read ((kind : ListKind) → name ≡ kind_text kind → ⊥)
+    (λ kind. name ≡ kind_text kind)
     → read ≡ list_kind_named name
 kind_is name (Some kind) is = sym (ap list_kind_named is ∙ named kind)
 kind_is name None other = sym (unnamed name other)

@@ -1,5 +1,6 @@
 -- The number of an argument, as `get_one` reads it.
-use Rattle.std.proofs.Common.{◌≡◌, ◌∙◌, ◌<◌, ◌≤◌, ◌^◌, ◌-◌, ◌&&◌, ℕ, Bool, true, false, cond, Option, Some, None, Result, Ok, Err, nat_le, nat_lt, le-leb, refl, sym, ap, arith}
+use Rattle.std.proofs.Common.{◌≡◌, ◌∙◌, ◌<◌, ◌≤◌, ◌^◌, ◌-◌, ◌&&◌, ℕ, Bool, true, false, cond, Option, Some, None}
+use Rattle.std.proofs.Common.{Result, Ok, Err, nat_le, nat_lt, le-leb, refl, sym, ap, arith}
 use Rattle.std.proofs.lemmas.Bool.Decides.{nat_tests}
 use Rattle.clap.specs.declared.parser.matches.Found.{Found}
 use Rattle.std.specs.Option.{option_and_then}
@@ -30,11 +31,18 @@ value_in t = digits_value 10 (without_leading_plus t)
 pub numeral_between : (low high : ℕ) (t : Text) → IsNumeral 10 (without_leading_plus t) → value_in t < 2 ^ 32
     → number_between low high t ≡ kept low high (value_in t)
 numeral_between low high t num small =
-    let all : is_unsigned_in 0 (2 ^ 64 - 1) t ≡ true = Accepts-accepts false (parser.Unsigned 0 (2 ^ 64 - 1)) t (num, omega arith, omega arith, omega arith) in
-    let parts = both (is_numeral (without_leading_plus t)) (nat_lt (value_in t) (2 ^ 64) && (nat_le 0 (value_in t) && nat_le (value_in t) (2 ^ 64 - 1))) all in
-    let fits = both (nat_lt (value_in t) (2 ^ 64)) (nat_le 0 (value_in t) && nat_le (value_in t) (2 ^ 64 - 1)) parts.1 in
-    ap (λ (b : Bool). cond (b && (nat_lt (value_in t) (2 ^ 64) && (nat_le low (value_in t) && nat_le (value_in t) high))) (Some (value_in t)) None) parts.0
-    ∙ ap (λ (b : Bool). cond (b && (nat_le low (value_in t) && nat_le (value_in t) high)) (Some (value_in t)) None) fits.0
+    let all : is_unsigned_in 0 (2 ^ 64 - 1) t ≡ true =
+    Accepts-accepts false (parser.Unsigned 0 (2 ^ 64 - 1)) t (num, omega arith, omega arith, omega arith) in
+    let parts =
+    both (is_numeral (without_leading_plus t))
+    (nat_lt (value_in t) (2 ^ 64) && (nat_le 0 (value_in t) && nat_le (value_in t) (2 ^ 64 - 1))) all in
+    let fits =
+    both (nat_lt (value_in t) (2 ^ 64)) (nat_le 0 (value_in t) && nat_le (value_in t) (2 ^ 64 - 1)) parts.1 in
+    ap (λ (b : Bool). cond
+    (b && (nat_lt (value_in t) (2 ^ 64) && (nat_le low (value_in t) && nat_le (value_in t) high)))
+    (Some (value_in t)) None) parts.0
+    ∙ ap (λ (b : Bool). cond (b && (nat_le low (value_in t) && nat_le (value_in t) high)) (Some (value_in t)) None)
+    fits.0
 
 -- any other text gives no number
 pub none_between : (low high : ℕ) (t : Text) → high < 2 ^ 32
@@ -48,8 +56,10 @@ none_between low high t bound refuted = go (is_unsigned_in low high t) refl
     go false e = ap (λ (b : Bool). cond b (Some (value_in t)) None) e
 
 -- what `get_one` reads, if it is within the bounds, is the number within them
-pub number_read : {E : Type 0} (G : Text → Result ℕ E → Type 0) → ((u : Text) (x : Result ℕ E) → G u x → ParsesUnsigned 32 10 u x)
-    → (low high : ℕ) → high < 2 ^ 32 → (o : Option Text) (r : Option ℕ) → (o ≡ None → r ≡ None) → ((t : Text) → o ≡ Some t → ReadsOne G t r)
+pub number_read : {E : Type 0} (G : Text → Result ℕ E → Type 0)
+    → ((u : Text) (x : Result ℕ E) → G u x → ParsesUnsigned 32 10 u x)
+    → (low high : ℕ) → high < 2 ^ 32 → (o : Option Text) (r : Option ℕ) → (o ≡ None → r ≡ None)
+    → ((t : Text) → o ≡ Some t → ReadsOne G t r)
     → option_and_then (kept low high) r ≡ option_and_then (number_between low high) o
 number_read G only low high bound None r none value = ap (option_and_then (kept low high)) (none refl)
 number_read {E} G only low high bound (Some t) r none value = go r (value t refl)
@@ -61,9 +71,11 @@ number_read {E} G only low high bound (Some t) r none value = go r (value t refl
     go None h = sym (none_between low high t bound (only t (Err h.0) h.1))
 
 -- the same for the argument with an id
-pub number_given : {E : Type 0} (G : Text → Result ℕ E → Type 0) → ((u : Text) (x : Result ℕ E) → G u x → ParsesUnsigned 32 10 u x)
+pub number_given : {E : Type 0} (G : Text → Result ℕ E → Type 0)
+    → ((u : Text) (x : Result ℕ E) → G u x → ParsesUnsigned 32 10 u x)
     → (low high : ℕ) → high < 2 ^ 32 → (f : Found) (id : Text) (r : Option ℕ) → (one_text f id ≡ None → r ≡ None)
     → ((t : Text) → one_text f id ≡ Some t → ReadsOne G t r)
     → option_and_then (kept low high) r ≡ number_of low high id (rows_of f)
 number_given G only low high bound f id r none value =
-    number_read G only low high bound (one_text f id) r none value ∙ ap (option_and_then (number_between low high)) (one_text-rows f id)
+    number_read G only low high bound (one_text f id) r none value ∙ ap (option_and_then (number_between low high))
+    (one_text-rows f id)

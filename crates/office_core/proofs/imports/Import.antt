@@ -289,7 +289,8 @@ new-leads office label kind bytes l new h =
 
 pub import-leads : (office : Office) (label : Text) (kind : ListKind) (bytes : List ℕ)
     → IsLawful office → first_refusal (checks office (commands.Import label kind bytes)) ≡ None
-    → LeadsTo office (next office (commands.Import label kind bytes)) (changes_of office (commands.Import label kind bytes))
+    → LeadsTo office (next office (commands.Import label kind bytes))
+    (changes_of office (commands.Import label kind bytes))
 import-leads office label kind bytes l h =
     elim (map.get office.lists label) as
     (λ o. map.get office.lists label ≡ o → first_refusal (checks_where o office kind bytes) ≡ None

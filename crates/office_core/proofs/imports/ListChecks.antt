@@ -156,7 +156,8 @@ refusal_of-names_record People = list_refusal-names_record person_command
 refusal_of-names_record Choices = list_refusal-names_record choices_command
 refusal_of-names_record Grades = list_refusal-names_record grade_command
 
--- if the first refusal is the wanted one, which names a record or is `OutOfMemory`, then it or `OutOfMemory` is a refusal by
+-- if the first refusal is the wanted one, which names a record or is `OutOfMemory`, then it or `OutOfMemory` is a
+-- refusal by
 -- these checks
 list_refused : (changes : List Change) (checks : List Check) (wanted : Option Refusal)
     (refusal : Refusal) → is_empty changes ≡ false → first_refusal checks ≡ wanted

@@ -52,7 +52,9 @@ goods : (cause : Record → Option Cause) (at : ℕ) (rows : List Record)
 unfolding first_bad
 goods cause at [] low h = (tt, omega (arith, low))
 goods cause at (fields ∷ rest) low h =
-    let here = unless (nat_lt record_limit at) (list.Bad at TooMany) (option_map_or (λ why. Some (list.Bad at why)) (cause fields)
+    let here =
+    unless (nat_lt record_limit at) (list.Bad at TooMany)
+    (option_map_or (λ why. Some (list.Bad at why)) (cause fields)
     (first_bad cause (at + 1) rest)) h in
     let good = none_of (λ why. Some (list.Bad at why)) (cause fields)
     (first_bad cause (at + 1) rest) (λ x e. cc) here.1 in

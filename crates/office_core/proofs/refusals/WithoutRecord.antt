@@ -37,7 +37,8 @@ one_of : (a b : Bool) → b ≡ false → (a || b) ≡ true → a ≡ true
 one_of true b n h = refl
 one_of false b n h = cc
 
--- if such checks refuse a query, its answer is the first refusal that applies, or `OutOfMemory` for the room that it names
+-- if such checks refuse a query, its answer is the first refusal that applies, or `OutOfMemory` for the room that it
+-- names
 pub IsAnswered-refused : (list : List Check) (given : Reply) (refusal : Refusal) → NameNoRecord list
     → IsRefusal [] list refusal → IsAnswered (answer_unless (first_refusal list) given) (Err refusal)
 IsAnswered-refused list given refusal all (inl is) = inl (ap (λ o. answer_unless o given) is)
@@ -48,5 +49,9 @@ IsAnswered-refused list given refusal all (inr memory) =
     ⊎ ((refusal ≡ OutOfMemory) × (reply_allocates (answer_unless o given) ≡ true))) [
       | None ↦ λ e. λ t. cc
       | Some first ↦ λ e. λ t.
-          inr (memory.0, one_of (names_room first) (names_record first) (first_refusal-names_no_record list first all e) t)
+          inr (
+            memory.0,
+            one_of (names_room first) (names_record first)
+                (first_refusal-names_no_record list first all e) t,
+          )
     ] refl memory.1

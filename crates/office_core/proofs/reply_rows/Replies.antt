@@ -1,7 +1,8 @@
 -- The rows of every reply ascend.
 use Rattle.std.proofs.Common.{sym, subst}
 use Rattle.std.specs.FinMap as maps
-use Rattle.std.specs.Prelude.{ℕ, List, Result, Ok, Err, IfOk, Bool, true, false, Option, None, Some, if◌then◌else◌, refl}
+use Rattle.std.specs.Prelude.{ℕ, List, Result, Ok, Err, IfOk, Bool, true, false, Option, None, Some, if◌then◌else◌}
+use Rattle.std.specs.Prelude.{refl}
 use Rattle.room_types.proofs.maps.TextMaps.{rows_ascend}
 use Rattle.room_types.specs.Texts.{Text}
 use Rattle.office_state.specs.Office.{is_over, owner}

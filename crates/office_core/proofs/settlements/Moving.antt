@@ -1,7 +1,9 @@
--- The moves in the order of the day. They move the same people, and each person finds the new room empty, once those who swap
+-- The moves in the order of the day. They move the same people, and each person finds the new room empty, once those
+-- who swap
 -- have left.
 use Rattle.std.proofs.Common.{◌≡◌, ℕ, zero, suc, ◌<◌, true, false, Bool, not, ◌||◌, ◌++◌, List, [], ◌∷◌, length, get_or}
-use Rattle.std.proofs.Common.{map as map_list, Option, Some, None, cond, refl, ap, ◌∙◌, sym, subst, inl, inr, ◌⊎◌, arith}
+use Rattle.std.proofs.Common.{map as map_list, Option, Some, None, cond, refl, ap, ◌∙◌, sym, subst, inl, inr, ◌⊎◌}
+use Rattle.std.proofs.Common.{arith}
 use Rattle.std.specs.Option.{is_some, option_and_then}
 use Rattle.std.specs.List.{All, Contains, filter, list_any, position_or_len}
 use Rattle.std.specs.Ordering.{eq_by_cmp, is_eq, is_lt, ordering_then}
@@ -12,7 +14,8 @@ use Rattle.std.proofs.lemmas.Bool.{false≢true, cases_lt, or_parts, or_right}
 use Rattle.std.proofs.lemmas.List.{get_or_default, get_or-map, length-map}
 use Rattle.std.proofs.lemmas.List.Folds.{Any-from_list_any}
 use Rattle.std.proofs.lemmas.List.FromFn.{get_or-map-range_with_len}
-use Rattle.std.proofs.lemmas.List.Sorted.{All-permutation, Contains-permutation, list_any-IsPermutation, ranks_by, sorted_far}
+use Rattle.std.proofs.lemmas.List.Sorted.{All-permutation, Contains-permutation, list_any-IsPermutation, ranks_by}
+use Rattle.std.proofs.lemmas.List.Sorted.{sorted_far}
 use Rattle.std.proofs.lemmas.List.Sums.{passes_at_first}
 use Rattle.room_types.specs.Ascending.{ascending}
 use Rattle.room_types.proofs.maps.TextMaps.{tied_text}
@@ -22,9 +25,11 @@ use Rattle.room_types.specs.declared.moves.Wave.{Wave}
 use Rattle.room_types.specs.declared.moves.Wave.TheVariants.{Swap, Nth}
 use Rattle.room_types.proofs.arranged.Arrangements.{arrangements_agree}
 use Rattle.office_lists.specs.MoveDay.{is_swap, move_cmp, wave_cmp}
-use Rattle.office_lists.specs.Waves.{Relocation, NewRoomsDiffer, leaver, leavers, end_numbers, next, wave_of, waves_of, IsWave}
+use Rattle.office_lists.specs.Waves.{Relocation, NewRoomsDiffer, leaver, leavers, end_numbers, next, wave_of, waves_of}
+use Rattle.office_lists.specs.Waves.{IsWave}
 use Rattle.office_lists.proofs.move_days.Following.{number-later}
-use Rattle.office_lists.proofs.move_days.Leavers.{length-waves_of, has_left, has_left_room, left_room, waves_agree, position_found}
+use Rattle.office_lists.proofs.move_days.Leavers.{length-waves_of, has_left, has_left_room, left_room, waves_agree}
+use Rattle.office_lists.proofs.move_days.Leavers.{position_found}
 use Rattle.office_lists.proofs.move_days.MoveDayLists.{move_total}
 use Rattle.office_state.specs.Round.Settlement.{moves_with}
 use Rattle.office_state.proofs.moving_people.Relocations.{relocates}
@@ -95,7 +100,8 @@ relocates-first_out ms q h =
 
 -- a person who does not leave before anybody arrives does not swap
 pub no_swap : (ms : List Move) (q : Text)
-    → relocates (map_list relocation_of (first_out ms)) q ≡ false → relocates (map_list relocation_of (swaps ms)) q ≡ false
+    → relocates (map_list relocation_of (first_out ms)) q ≡ false
+    → relocates (map_list relocation_of (swaps ms)) q ≡ false
 no_swap ms q h =
     (or_parts (relocates (map_list relocation_of (departures ms)) q) (relocates (map_list relocation_of (swaps ms)) q)
     (sym (relocates-append (departures ms) (swaps ms) q) ∙ h)).1
@@ -212,7 +218,8 @@ next_wave n a b p q =
     ∙ ap (λ c. is_lt (ordering_then c (text_cmp a.person b.person)))
     (sym (nat_cmp_is n (suc n) Less (omega arith)))
 
--- `before` gives the homes before the day, no two in one room, and `now` the homes once those who swap have left. The old room of
+-- `before` gives the homes before the day, no two in one room, and `now` the homes once those who swap have left. The
+-- old room of
 -- a relocation is the person's home, and anyone who lived in its new room is its person, or relocates too.
 module _ (n : ℕ) (ms : List Relocation) (differ : NewRoomsDiffer ms) (before now : Text → Option Text)
     (apart : (p q room : Text) → before p ≡ Some room → before q ≡ Some room → p ≡ q)
@@ -264,7 +271,8 @@ module _ (n : ℕ) (ms : List Relocation) (differ : NewRoomsDiffer ms) (before n
             let h = holder i q room within goes lived.0 relocation in
             let b : Move = move_at n ms (waves_of ms) h.0 in
             let is : get_or moves h.0 b ≡ b = moves_with-at n ms (waves_of ms) h.0 b (length-waves_of ms) h.1 in
-            let in' : h.0 < length moves = omega (arith, h.1, length-moves_with n ms (waves_of ms) (length-waves_of ms)) in
+            let in' : h.0 < length moves =
+            omega (arith, h.1, length-moves_with n ms (waves_of ms) (length-waves_of ms)) in
             inr (
               b,
               (h.0, in', is),
@@ -275,7 +283,8 @@ module _ (n : ℕ) (ms : List Relocation) (differ : NewRoomsDiffer ms) (before n
                         let gone = swap_at moves h.0 b in'
                         (ap (λ (m : Move). is_swap m.wave) is ∙ ap is_swap (wave_is h.0 h.1 ∙ swap)) in
                         absurd (false≢true (sym lived.1
-                        ∙ ap (relocates (map_list relocation_of (swaps moves))) (sym (ap (λ (m : Move). m.person) is ∙ h.2))
+                        ∙ ap (relocates (map_list relocation_of (swaps moves)))
+                        (sym (ap (λ (m : Move). m.person) is ∙ h.2))
                         ∙ gone))
                     | Nth number ↦ λ numbered.
                         let later : IsWave (end_numbers ms) (leavers ms) i (Nth (suc number)) =

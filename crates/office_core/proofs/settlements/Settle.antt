@@ -30,11 +30,14 @@ use Rattle.office_state.specs.declared.office.person.Person.{Person}
 use Rattle.office_state.proofs.offices.Moves.{no_moves_known}
 use Rattle.office_state.proofs.round_phases.Over.{over-idle, under_way-not_over}
 use Rattle.office_state.proofs.round_phases.Untouched.{published_busy, published_given}
-use Rattle.office_state.proofs.moving_people.Relocations.{relocates, relocation_to, settled, get-settled, relocation_to-by, each_relocation}
-use Rattle.office_state.proofs.moving_people.Relocations.{left_people, arrived_people, people_settled, left_home, stays_settled}
+use Rattle.office_state.proofs.moving_people.Relocations.{relocates, relocation_to, settled, get-settled}
+use Rattle.office_state.proofs.moving_people.Relocations.{relocation_to-by, each_relocation}
+use Rattle.office_state.proofs.moving_people.Relocations.{left_people, arrived_people, people_settled, left_home}
+use Rattle.office_state.proofs.moving_people.Relocations.{stays_settled}
 use Rattle.office_state.proofs.round_problems.Problem.{lawful-IsMarket}
 use Rattle.office_state.proofs.moving_people.Settled.{KeepsMoves, with_moves-keeps, fresh, leave_first}
-use Rattle.office_state.proofs.moving_people.Settled.{relocations_lead, relocations_differ, new_rooms_differ, settled_register}
+use Rattle.office_state.proofs.moving_people.Settled.{relocations_lead, relocations_differ, new_rooms_differ}
+use Rattle.office_state.proofs.moving_people.Settled.{settled_register}
 use Rattle.office_state.proofs.moving_people.Settling.{home_in}
 use Rattle.office_core.specs.Refusal.Checks.{first_refusal}
 use Rattle.office_core.specs.Command.{checks, next}
@@ -43,7 +46,8 @@ use Rattle.office_core.specs.declared.command.Command.TheVariants as command
 use Rattle.office_core.proofs.refusals.Checks.{none_applies}
 use Rattle.office_core.proofs.commands.Round.{ended-lawful}
 use Rattle.office_core.proofs.settlements.Moving.{relocation_of, relocations_of, all_moves, all_cleared}
-use Rattle.office_core.proofs.settlements.Moving.{relocates-ascending, relocates-first_out, no_swap, FindEmpty, empty_in_order}
+use Rattle.office_core.proofs.settlements.Moving.{relocates-ascending, relocates-first_out, no_swap, FindEmpty}
+use Rattle.office_core.proofs.settlements.Moving.{empty_in_order}
 use Rattle.office_core.proofs.settlements.Settling.{left-lead, arrived-lead, moves-lead, left-apart}
 use Rattle.office_core.proofs.settlements.Settling.{arrived-apart, moves-apart, left-fit, Leads}
 use Rattle.office_core.proofs.settlements.Settling.{arrived-fit, moves-fit}
@@ -137,7 +141,8 @@ module _ (office : Office) (l : IsLawful office) (h : first_refusal (checks offi
       relocations_lead office l.register (lawful-IsMarket office l) results_are_given k ([], None, None) within
 
   moves_lead : All (Leads (settled_people office)) moves
-  moves_lead = all_moves (Leads (settled_people office)) office.number ms (waves_of ms) (length-waves_of ms) relocation_leads
+  moves_lead =
+      all_moves (Leads (settled_people office)) office.number ms (waves_of ms) (length-waves_of ms) relocation_leads
 
   -- anyone who lives in the new room of a relocation is its person, or relocates too
   known : (k : ℕ) (q room : Text) → k < length ms → (get_or ms k ([], None, None)).2 ≡ Some room

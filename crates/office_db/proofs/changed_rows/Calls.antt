@@ -153,7 +153,8 @@ module _ (old new : State) where
 
   -- If the grade is 0, nothing is done.
   pub turns_none : (person : Text) (grade : ℕ) → grade ≡ 0 → Turns old old (with_grade_recorded person grade)
-  turns_none person zero none = record { shown = λ tables clean well_formed was. (was, well_formed); mode = λ clean. refl }
+  turns_none person zero none =
+      record { shown = λ tables clean well_formed was. (was, well_formed); mode = λ clean. refl }
   turns_none person (suc grade) none = absurd (omega (arith, none))
 
   -- If the grade is not 0, its row is added.

@@ -6,7 +6,8 @@ use Rattle.office_state.specs.Change.{applied, Fits}
 use Rattle.office_state.specs.declared.change.Change.{Change}
 use Rattle.office_state.specs.declared.office.Office.{Office}
 use Rattle.office_schema.specs.cells.Columns.{room_columns, person_columns, round_columns, choice_columns}
-use Rattle.office_schema.specs.cells.Columns.{word_columns, result_columns, move_columns, list_columns, grade_columns, going_columns}
+use Rattle.office_schema.specs.cells.Columns.{word_columns, result_columns, move_columns, list_columns, grade_columns}
+use Rattle.office_schema.specs.cells.Columns.{going_columns}
 use Rattle.office_schema.specs.cells.WellFormed.{IsWellFormed}
 use Rattle.office_schema.specs.rows.Tables.{Tables, rows_of}
 use Rattle.office_schema.specs.tables.Makes.{Makes}
@@ -36,7 +37,8 @@ has_alike db these those same h = record {
 }
 
 -- a statement that keeps the form of rows
-pub turns : (old new : State) (f : Tables → Tables) → ((tables : Tables) → IsWellFormed tables → IsWellFormed (f tables))
+pub turns : (old new : State) (f : Tables → Tables)
+    → ((tables : Tables) → IsWellFormed tables → IsWellFormed (f tables))
     → Makes old new f → Turns old new f
 turns old new f keeps m = record {
   shown = λ tables clean well_formed was. (m.shown tables clean was, keeps tables well_formed);
@@ -55,7 +57,8 @@ turns_then old mid new f g early m n = record {
 
 -- the calls of a change
 pub stores : (first : Office) (old new : State) (change : Change) (f : Tables → Tables)
-    → ((office : Office) → Fits first office change → AreSameRows (rows_of (applied office change)) (f (rows_of office)))
+    → ((office : Office) → Fits first office change → AreSameRows (rows_of (applied office change))
+    (f (rows_of office)))
     → Turns old new f → StoresChange first old new change
 stores first old new change f same m = record {
   shown = λ office clean fits well_formed was.

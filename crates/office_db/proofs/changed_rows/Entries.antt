@@ -209,7 +209,8 @@ module _ {X Row : Type 0} (row : Text × X → Row) (key : Row → Text) (keyed 
       subst (λ l. IsPermutation (map row (maps.entries (maps.insert m k v))) (row (k, v) ∷ l)) kept (row_put m v)
 
   module _ (f : Row → Row) where
-    other_key_unchanged : (e : Text × X) → eq_by_cmp text_cmp e.0 k ≡ false → cond (mine (row e)) (f (row e)) (row e) ≡ row e
+    other_key_unchanged : (e : Text × X) → eq_by_cmp text_cmp e.0 k ≡ false → cond (mine (row e)) (f (row e))
+        (row e) ≡ row e
     other_key_unchanged e differs =
         ap (λ b. cond b (f (row e)) (row e)) (tells (row e) ∙ ap (λ q. eq_by_cmp text_cmp q k) (keyed e) ∙ differs)
 

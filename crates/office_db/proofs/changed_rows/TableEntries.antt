@@ -58,7 +58,8 @@ module _ {X : Type 0} (m : TextMap X) (k : Text) where
   pub entry_put : (v : X)
       → IsPermutation (maps.entries (maps.insert m k v)) ((k, v) ∷ delete_where is_its (maps.entries m))
   entry_put v =
-      subst (λ l. IsPermutation l ((k, v) ∷ delete_where is_its (maps.entries m))) (map-id (maps.entries (maps.insert m k v)))
+      subst (λ l. IsPermutation l ((k, v) ∷ delete_where is_its (maps.entries m)))
+      (map-id (maps.entries (maps.insert m k v)))
       (subst (λ l. IsPermutation (map (λ e. e) (maps.entries (maps.insert m k v))) ((k, v) ∷ delete_where is_its l))
       (map-id (maps.entries m))
       (row_put (λ e. e) (λ r. r.0) (λ e. refl) k is_its (λ r. tells r.0 k) m v))

@@ -30,14 +30,28 @@ use Rattle.sqlite_trees.proofs.ListLemmas.{all-slice_get}
 use Rattle.office_schema.proofs.statements.Held.{none_held}
 
 abbrev pub no_rows : Tables
-no_rows = record { rooms = []; people = []; rounds = []; choices = []; words = []; results = []; moves = []; lists = []; grades = []; going = [] }
+no_rows =
+    record {
+      rooms = [];
+      people = [];
+      rounds = [];
+      choices = [];
+      words = [];
+      results = [];
+      moves = [];
+      lists = [];
+      grades = [];
+      going = [];
+    }
 
 no_rows_held : {X : Type 0} (columns : X → Row) (rows : List Row) → rows ≡ [] → Holds columns rows []
 no_rows_held columns rows none = subst (λ l. Holds columns l []) (sym none) (none_held columns)
 
-all_empty : (db : Database) → db.schema ≡ office_schema → AllByRecursion (λ t. db.trees t.tree ≡ []) office_schema.tables → HasTables db no_rows
+all_empty : (db : Database) → db.schema ≡ office_schema
+    → AllByRecursion (λ t. db.trees t.tree ≡ []) office_schema.tables → HasTables db no_rows
 all_empty db has none =
-    let empty : (i : ℕ) (it : Table) → slice_get office_schema.tables i ≡ Some it → db.trees it.tree ≡ [] = λ i it is. all-slice_get (λ (x : Table). db.trees x.tree ≡ []) office_schema.tables i it is none in
+    let empty : (i : ℕ) (it : Table) → slice_get office_schema.tables i ≡ Some it → db.trees it.tree ≡ [] =
+    λ i it is. all-slice_get (λ (x : Table). db.trees x.tree ≡ []) office_schema.tables i it is none in
     record {
       schema = has;
       rows = record {
@@ -55,13 +69,16 @@ all_empty db has none =
     }
 
 -- If nothing was declared, the tables are there now, without rows.
-pub made_empty : (old new : State) → DeclaresFirst 0 10 0 old new → HasCleanDisk new → old.now.schema ≡ no_schema → HasTables new.now no_rows
+pub made_empty : (old new : State) → DeclaresFirst 0 10 0 old new → HasCleanDisk new → old.now.schema ≡ no_schema
+    → HasTables new.now no_rows
 made_empty old new made clean none =
     let all = made.shown clean none in
     all_empty new.now all.0 all.2
 
 -- the rows of these entries, before the first round
-abbrev rows_from : List (Text × Bool) → List (Text × Person) → List (Text × List Text) → List (Text × ℕ) → List (Text × Assigned) → List (ℕ × RoundMoves) → List (Text × StoredImport) → List (Text × ℕ) → List (Text × Unit {0}) → Tables
+abbrev rows_from : List (Text × Bool) → List (Text × Person) → List (Text × List Text) → List (Text × ℕ)
+    → List (Text × Assigned) → List (ℕ × RoundMoves) → List (Text × StoredImport) → List (Text × ℕ)
+    → List (Text × Unit {0}) → Tables
 rows_from rooms people choices words results moves lists grades going = record {
   rooms = rooms;
   people = list_map (row_of_person map.empty) people;
@@ -75,10 +92,13 @@ rows_from rooms people choices words results moves lists grades going = record {
   going = list_map (λ e. e.0) going;
 }
 
-none_of : (rooms : List (Text × Bool)) (people : List (Text × Person)) (choices : List (Text × List Text)) (words : List (Text × ℕ)) (results : List (Text × Assigned)) (moves : List (ℕ × RoundMoves))
-    (lists : List (Text × StoredImport)) (grades : List (Text × ℕ)) (going : List (Text × Unit {0})) → rooms ≡ [] → people ≡ [] → choices ≡ [] → words ≡ [] → results ≡ [] → moves ≡ [] → lists ≡ [] → grades ≡ [] → going ≡ []
+none_of : (rooms : List (Text × Bool)) (people : List (Text × Person)) (choices : List (Text × List Text))
+    (words : List (Text × ℕ)) (results : List (Text × Assigned)) (moves : List (ℕ × RoundMoves))
+    (lists : List (Text × StoredImport)) (grades : List (Text × ℕ)) (going : List (Text × Unit {0})) → rooms ≡ []
+    → people ≡ [] → choices ≡ [] → words ≡ [] → results ≡ [] → moves ≡ [] → lists ≡ [] → grades ≡ [] → going ≡ []
     → rows_from [] [] [] [] [] [] [] [] [] ≡ rows_from rooms people choices words results moves lists grades going
-none_of rooms people choices words results moves lists grades going a b c d e f g h i = rw (a, b, c, d, e, f, g, h, i) refl
+none_of rooms people choices words results moves lists grades going a b c d e f g h i =
+    rw (a, b, c, d, e, f, g, h, i) refl
 
 no_entries : {X : Type 0} → map.entries (map.empty {X = X} {R = text_cmp}) ≡ []
 no_entries = entries-empty nat_list_cmp_total
@@ -86,5 +106,9 @@ no_entries = entries-empty nat_list_cmp_total
 -- The empty office has no row but that of the round.
 pub first_rows : with_first_round 0 Idle no_rows ≡ rows_of empty_office
 unfolding with_first_round rows_at
-first_rows = none_of (map.entries empty_office.rooms) (map.entries empty_office.people) (map.entries empty_office.choices) (map.entries empty_office.words) (map.entries empty_office.results)
-    (map.entries empty_office.moves) (map.entries empty_office.lists) (map.entries empty_office.grades) (map.entries empty_office.going) no_entries no_entries no_entries no_entries no_entries (entries-empty nat_cmp_total) no_entries no_entries no_entries
+first_rows =
+    none_of (map.entries empty_office.rooms) (map.entries empty_office.people) (map.entries empty_office.choices)
+    (map.entries empty_office.words) (map.entries empty_office.results)
+    (map.entries empty_office.moves) (map.entries empty_office.lists) (map.entries empty_office.grades)
+    (map.entries empty_office.going) no_entries no_entries no_entries no_entries no_entries
+    (entries-empty nat_cmp_total) no_entries no_entries no_entries

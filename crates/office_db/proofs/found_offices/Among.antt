@@ -1,14 +1,17 @@
 -- Tables of an office among others.
-use Rattle.std.proofs.Common.{◌≡◌, ◌≢◌, ◌⊎◌, ◌<◌, ◌≤◌, ◌+◌, ℕ, Bool, List, [], ◌∷◌, get_or, length, take, Decides, refl, sym, ap, ◌∙◌, subst, inl, inr, arith}
+use Rattle.std.proofs.Common.{◌≡◌, ◌≢◌, ◌⊎◌, ◌<◌, ◌≤◌, ◌+◌, ℕ, Bool, List, [], ◌∷◌, get_or, length, take, Decides, refl}
+use Rattle.std.proofs.Common.{sym, ap, ◌∙◌, subst, inl, inr, arith}
 use Rattle.std.specs.List.{AllByRecursion}
 use Rattle.std.proofs.lemmas.Bool.Decides.{eqb_tells}
 use Rattle.sqlite_schema.specs.declared.schema.Table.{Table}
 use Rattle.sqlite_schema.specs.declared.schema.Schema.{Schema}
 use Rattle.office_schema.specs.tables.Layouts.{table_count}
 use Rattle.office_schema.specs.declared.tables.layouts.Layout.{Layout}
-use Rattle.office_schema.specs.declared.tables.layouts.Layout.TheVariants.{Own, Documented, DocumentedSecond, DocumentedFirst, EarlierFirst}
+use Rattle.office_schema.specs.declared.tables.layouts.Layout.TheVariants.{Own, Documented, DocumentedSecond}
+use Rattle.office_schema.specs.declared.tables.layouts.Layout.TheVariants.{DocumentedFirst, EarlierFirst}
 use Rattle.office_db.specs.declared.loading.declared.OfficeTable.{OfficeTable}
-use Rattle.office_db.specs.declared.loading.declared.OfficeTable.TheVariants.{Rooms, People, Rounds, Choices, Words, Results, Moves, Lists, Grades, Leavers}
+use Rattle.office_db.specs.declared.loading.declared.OfficeTable.TheVariants.{Rooms, People, Rounds, Choices, Words}
+use Rattle.office_db.specs.declared.loading.declared.OfficeTable.TheVariants.{Results, Moves, Lists, Grades, Leavers}
 use Rattle.office_db.specs.loading.Finding.{DeclaresTables}
 use Rattle.office_db.specs.loading.Inner.Declared.{IsAmong, office_table}
 use Rattle.office_db.proofs.found_offices.Deciding.{same_default}
@@ -46,9 +49,11 @@ apart_or_equal a b = elim (eqb_tells a b) [
 
 -- None of the tables before this place is this table of an office.
 abbrev pub IsNotBefore : List Table → OfficeTable → ℕ → Type 0
-IsNotBefore tables own place = (k tree : ℕ) → k < place → get_or tables k (office_table own tree) ≡ office_table own tree → ⊥
+IsNotBefore tables own place =
+    (k tree : ℕ) → k < place → get_or tables k (office_table own tree) ≡ office_table own tree → ⊥
 
-module _ (tables : List Table) (own : OfficeTable) (k : ℕ) (table : Table) (low : k < length tables) (here : table ≡ get_or tables k table) where
+module _ (tables : List Table) (own : OfficeTable) (k : ℕ) (table : Table) (low : k < length tables)
+    (here : table ≡ get_or tables k table) where
   -- The table at this place is.
   pub among_here : table ≡ office_table own table.tree → IsAmong tables own
   among_here is = (table.tree, (k, low, ap (get_or tables k) (sym is) ∙ sym here ∙ is))
@@ -58,12 +63,15 @@ module _ (tables : List Table) (own : OfficeTable) (k : ℕ) (table : Table) (lo
   not_here differs before j tree less is =
       elim (apart_or_equal j k) [
         | inl e ↦
-            let there : get_or tables k (office_table own tree) ≡ office_table own tree = subst (λ n. get_or tables n (office_table own tree) ≡ office_table own tree) e is in
-            differs (in_own_tree own table tree (here ∙ same_default tables k table (office_table own tree) low ∙ there))
+            let there : get_or tables k (office_table own tree) ≡ office_table own tree =
+            subst (λ n. get_or tables n (office_table own tree) ≡ office_table own tree) e is in
+            differs (in_own_tree own table tree
+            (here ∙ same_default tables k table (office_table own tree) low ∙ there))
         | inr apart ↦ before j tree (omega (arith, less, apart)) is
       ]
 
-pub not_among : (tables : List Table) (own : OfficeTable) (k : ℕ) → length tables ≤ k → IsNotBefore tables own k → IsAmong tables own → ⊥
+pub not_among : (tables : List Table) (own : OfficeTable) (k : ℕ) → length tables ≤ k → IsNotBefore tables own k
+    → IsAmong tables own → ⊥
 not_among tables own k past before h = let below = h.1.1 in before h.1.0 h.0 (omega (arith, past, below)) h.1.2
 
 -- ---- the tables of a layout
@@ -71,7 +79,8 @@ not_among tables own k past before h = let below = h.1.1 in before h.1.0 h.0 (om
 abbrev pub all_ten : List OfficeTable
 all_ten = Rooms ∷ People ∷ Rounds ∷ Choices ∷ Words ∷ Results ∷ Moves ∷ Lists ∷ Grades ∷ Leavers ∷ []
 
-pub declares-Decides : (layout : Layout) (schema : Schema) (r : Bool) → Decides r (AllByRecursion (IsAmong schema.tables) (take (table_count layout) all_ten))
+pub declares-Decides : (layout : Layout) (schema : Schema) (r : Bool)
+    → Decides r (AllByRecursion (IsAmong schema.tables) (take (table_count layout) all_ten))
     → Decides r (DeclaresTables layout schema)
 declares-Decides Own schema r d = d
 declares-Decides Documented schema r d = d

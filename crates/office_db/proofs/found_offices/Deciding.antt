@@ -1,5 +1,6 @@
 -- Tests that decide a fact, one after another and along two lists.
-use Rattle.std.proofs.Common.{◌≡◌, ◌≢◌, ◌<◌, ℕ, zero, suc, Bool, true, false, not, ◌&&◌, ◌==◌, List, [], ◌∷◌, drop, get_or, length, map, Decides, refl, sym, ap, ap₂, inl, inr, true≢false, arith}
+use Rattle.std.proofs.Common.{◌≡◌, ◌≢◌, ◌<◌, ℕ, zero, suc, Bool, true, false, not, ◌&&◌, ◌==◌, List, [], ◌∷◌, drop}
+use Rattle.std.proofs.Common.{get_or, length, map, Decides, refl, sym, ap, ap₂, inl, inr, true≢false, arith}
 use Rattle.std.proofs.lemmas.Bool.Decides.{Decides-and, Decides-eqb, Decides-like, eqb_tells}
 use Rattle.office_db.specs.loading.Inner.Lists.{pass_all}
 
@@ -22,7 +23,8 @@ no_items (x ∷ xs) e = absurd (omega (arith, e))
 pub empty-Decides : {A : Type 0} (xs : List A) → Decides (length xs == 0) (xs ≡ [])
 empty-Decides xs = Decides-like (length xs == 0) (no_items xs) (λ p. ap length p) (Decides-eqb (length xs) 0)
 
-module _ {X Y : Type 0} (test : Y → X → Bool) (f : Y → X) (each : (own : Y) (x : X) → Decides (test own x) (x ≡ f own)) where
+module _ {X Y : Type 0} (test : Y → X → Bool) (f : Y → X)
+    (each : (own : Y) (x : X) → Decides (test own x) (x ≡ f own)) where
   pub pass_all-Decides : (owns : List Y) (xs : List X) → Decides (pass_all test owns xs) (xs ≡ map f owns)
   pass_all-Decides [] [] = (λ _. refl, λ _. refl)
   pass_all-Decides [] (x ∷ xs) = never (λ p. omega (arith, ap length p))

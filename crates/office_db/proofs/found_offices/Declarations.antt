@@ -1,5 +1,6 @@
 -- The tests of a declaration decide whether a table is declared as an office's.
-use Rattle.std.proofs.Common.{◌≡◌, ℕ, zero, suc, Bool, true, false, ◌&&◌, ◌==◌, List, [], ◌∷◌, length, map, Option, Some, None, Decides, refl, sym, ap, ◌∙◌, arith}
+use Rattle.std.proofs.Common.{◌≡◌, ℕ, zero, suc, Bool, true, false, ◌&&◌, ◌==◌, List, [], ◌∷◌, length, map, Option}
+use Rattle.std.proofs.Common.{Some, None, Decides, refl, sym, ap, ◌∙◌, arith}
 use Rattle.std.proofs.lemmas.Bool.Decides.{Decides-and, Decides-eqb, Decides-like, not_from_Decides}
 use Rattle.std.proofs.lemmas.Slice.Eq.{bytes_eq-Decides}
 use Rattle.sqlite_value.specs.Keys.{plain}
@@ -17,9 +18,13 @@ use Rattle.sqlite_schema.specs.declared.schema.Reference.{Reference}
 use Rattle.sqlite_schema.specs.declared.schema.Stamps.{Stamps}
 use Rattle.sqlite_schema.specs.declared.schema.Table.{Table}
 use Rattle.office_db.specs.declared.loading.declared.forms.Form.{Form}
-use Rattle.office_db.specs.loading.Inner.Declared.{are_places, checks_of, column_of, has_columns, has_rules, is_binary, is_column, is_null, is_only_name, is_only_place, is_plain, is_reference, is_unstamped, kind_code, reference_of, same_bool, same_key, table_in, takes_no_action}
+use Rattle.office_db.specs.loading.Inner.Declared.{are_places, checks_of, column_of, has_columns, has_rules, is_binary}
+use Rattle.office_db.specs.loading.Inner.Declared.{is_column, is_null, is_only_name, is_only_place, is_plain}
+use Rattle.office_db.specs.loading.Inner.Declared.{is_reference, is_unstamped, kind_code, reference_of, same_bool}
+use Rattle.office_db.specs.loading.Inner.Declared.{same_key, table_in, takes_no_action}
 use Rattle.office_db.specs.loading.Inner.Lists.{pass_all}
-use Rattle.office_db.proofs.found_offices.Deciding.{bool-Decides, empty-Decides, heads, never, not-Decides, pass_all-Decides, same_map}
+use Rattle.office_db.proofs.found_offices.Deciding.{bool-Decides, empty-Decides, heads, never, not-Decides}
+use Rattle.office_db.proofs.found_offices.Deciding.{pass_all-Decides, same_map}
 
 -- ---- values of few kinds
 
@@ -75,7 +80,8 @@ key-Decides (Some own) (Some at) = Decides-like (at == own) (λ e. ap Some e) (�
 
 -- ---- the parts of a declaration
 
-column-Decides : (own : List ℕ × Kind × Bool) (column : Column) → Decides (is_column own column) (column ≡ column_of own)
+column-Decides : (own : List ℕ × Kind × Bool) (column : Column) → Decides (is_column own column)
+    (column ≡ column_of own)
 column-Decides own column =
     Decides-like (is_column own column)
     (λ h i. record {
@@ -97,7 +103,8 @@ column-Decides own column =
       ap (λ (c : Column). c.collation) p,
     ))
     (Decides-and _ _ (Decides-and _ _ (Decides-and _ _ (Decides-and _ _
-    (Decides-and _ _ (bytes_eq-Decides column.name own.0) (kind-Decides column.kind own.1)) (bool-Decides column.is_strict))
+    (Decides-and _ _ (bytes_eq-Decides column.name own.0) (kind-Decides column.kind own.1))
+    (bool-Decides column.is_strict))
     (same_bool-Decides own.2 column.not_null)) (null-Decides column.default)) (binary-Decides column.collation))
 
 places-Decides : (own places : List ℕ) → Decides (are_places own places) (places ≡ own)
@@ -120,7 +127,8 @@ only_name-Decides own (name ∷ []) =
     Decides-like _ (λ e. ap (λ n. n ∷ []) e) (λ p. heads name own [] [] p) (bytes_eq-Decides name own)
 only_name-Decides own (name ∷ more ∷ names) = never (λ p. omega (arith, ap length p))
 
-reference-Decides : (own : List ℕ × List ℕ × ℕ) (reference : Reference) → Decides (is_reference own reference) (reference ≡ reference_of own)
+reference-Decides : (own : List ℕ × List ℕ × ℕ) (reference : Reference) → Decides (is_reference own reference)
+    (reference ≡ reference_of own)
 reference-Decides own reference =
     Decides-like (is_reference own reference)
     (λ h i. record {
@@ -146,7 +154,8 @@ reference-Decides own reference =
     ))
     (Decides-and _ _ (Decides-and _ _ (Decides-and _ _ (Decides-and _ _
     (Decides-and _ _ (bytes_eq-Decides reference.parent own.0) (only_name-Decides own.1 reference.parent_columns))
-    (only_place-Decides own.2 reference.columns)) (action-Decides reference.on_delete)) (action-Decides reference.on_update))
+    (only_place-Decides own.2 reference.columns)) (action-Decides reference.on_delete))
+    (action-Decides reference.on_update))
     (not-Decides reference.is_deferred))
 
 abbrev no_stamps : Stamps
@@ -156,7 +165,8 @@ unstamped-Decides : (stamps : Stamps) → Decides (is_unstamped stamps) (stamps 
 unstamped-Decides stamps =
     Decides-like (is_unstamped stamps) (λ h i. record { places = h.0.0 i; terms = h.0.1 i; formats = h.1 i })
     (λ p. ((ap (λ (s : Stamps). s.places) p, ap (λ (s : Stamps). s.terms) p), ap (λ (s : Stamps). s.formats) p))
-    (Decides-and _ _ (Decides-and _ _ (empty-Decides stamps.places) (empty-Decides stamps.terms)) (empty-Decides stamps.formats))
+    (Decides-and _ _ (Decides-and _ _ (empty-Decides stamps.places) (empty-Decides stamps.terms))
+    (empty-Decides stamps.formats))
 
 -- ---- a table and a form
 

@@ -16,7 +16,8 @@ use Rattle.office_schema.specs.declared.tables.layouts.Layout.{Layout}
 use Rattle.office_schema.specs.declared.tables.layouts.Layout.TheVariants.{Own}
 
 -- The layout that is found is that of the office in the tables.
-pub same_layout : (layout found : Layout) (schema : Schema) → schema ≡ schema_of layout → schema ≡ schema_of found → found ≡ layout
+pub same_layout : (layout found : Layout) (schema : Schema) → schema ≡ schema_of layout → schema ≡ schema_of found
+    → found ≡ layout
 same_layout layout found schema has laid = one_layout found layout (ap (λ (s : Schema). s.tables) (sym laid ∙ has))
 
 -- the fault where the tables are in no known layout, but the first three are those of an office
@@ -37,12 +38,14 @@ pub layout_fault_allowed : (schema : Schema) (all_there : Bool) (found : Option 
     → (DeclaresTables Own schema → all_there ≡ true) → IfSome found (λ version. version ≢ pos own_version)
     → IsAllowed schema (layout_fault all_there found)
 layout_fault_allowed schema true None front there other = tt
-layout_fault_allowed schema false None front there other = inr (inr (front, λ declares. let e = there declares in absurd (cc)))
+layout_fault_allowed schema false None front there other =
+    inr (inr (front, λ declares. let e = there declares in absurd (cc)))
 layout_fault_allowed schema true (Some version) front there other = (front, other)
 layout_fault_allowed schema false (Some version) front there other = (front, other)
 
 -- the fault where the tables are in a known layout
-pub laid_allowed : (schema : Schema) (layout : Layout) (fault : FindFault) → schema ≡ schema_of layout → IsNotOwn fault → IsAllowed schema fault
+pub laid_allowed : (schema : Schema) (layout : Layout) (fault : FindFault) → schema ≡ schema_of layout → IsNotOwn fault
+    → IsAllowed schema fault
 laid_allowed schema layout Unavailable laid number = tt
 laid_allowed schema layout NotAnOffice laid number = inr (inl (layout, laid))
 laid_allowed schema layout (OtherVersion version) laid number = (same_begins_office layout schema laid, number)

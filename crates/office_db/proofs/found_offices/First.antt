@@ -11,7 +11,8 @@ use Rattle.office_schema.specs.tables.Layouts.{schema_of}
 use Rattle.office_schema.specs.tables.Steps.{IsIntact}
 use Rattle.office_schema.specs.tables.InLayout.{HasTablesIn}
 use Rattle.office_schema.specs.declared.tables.layouts.Layout.{Layout}
-use Rattle.office_schema.specs.declared.tables.layouts.Layout.TheVariants.{Own, Documented, DocumentedSecond, DocumentedFirst, EarlierFirst}
+use Rattle.office_schema.specs.declared.tables.layouts.Layout.TheVariants.{Own, Documented, DocumentedSecond}
+use Rattle.office_schema.specs.declared.tables.layouts.Layout.TheVariants.{DocumentedFirst, EarlierFirst}
 
 nothing_follows : (layout : Layout) → schema_of layout ≡ followed_by layout [] []
 nothing_follows Own = refl
@@ -24,12 +25,15 @@ nothing_follows EarlierFirst = refl
 pub begins_if_laid : (layout : Layout) (schema : Schema) → schema ≡ schema_of layout → Begins layout schema
 begins_if_laid layout schema has = record { tables = []; indexes = []; is = has ∙ nothing_follows layout }
 
-pub first_if_has : (layout : Layout) (db : Database) (tables : Tables) → HasTablesIn layout db tables → HasTablesFirst layout db tables
+pub first_if_has : (layout : Layout) (db : Database) (tables : Tables) → HasTablesIn layout db tables
+    → HasTablesFirst layout db tables
 first_if_has layout db tables has = record { schema = begins_if_laid layout db.schema has.schema; rows = has.rows }
 
 -- The first tables are unchanged.
-pub still_first : (layout : Layout) (a b : State) (tables : Tables) → OnlyReads a b → IsIntact b → HasTablesFirst layout a.now tables → HasTablesFirst layout b.now tables
-still_first layout a b tables p intact has = subst (λ (d : Database). HasTablesFirst layout d tables) (sym (p.keeps.same intact)) has
+pub still_first : (layout : Layout) (a b : State) (tables : Tables) → OnlyReads a b → IsIntact b
+    → HasTablesFirst layout a.now tables → HasTablesFirst layout b.now tables
+still_first layout a b tables p intact has =
+    subst (λ (d : Database). HasTablesFirst layout d tables) (sym (p.keeps.same intact)) has
 
 pub laid_first : (layout : Layout) (db : Database) → IsLaidOut layout db → IsLaidFirst layout db
 laid_first layout db laid = record { schema = begins_if_laid layout db.schema laid.schema; rows = laid.rows }

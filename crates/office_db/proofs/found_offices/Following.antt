@@ -25,14 +25,18 @@ reads_then a b c p q = record {
 
 -- If nothing is done, the tables are only read.
 pub reads-refl : (a : State) → OnlyReads a a
-reads-refl a = record { keeps = record { follows = follows-refl a; same = λ intact. refl }; crash = λ clean db may. may }
+reads-refl a =
+    record { keeps = record { follows = follows-refl a; same = λ intact. refl }; crash = λ clean db may. may }
 
 -- The tables are unchanged.
-pub still_has : (layout : Layout) (a b : State) (tables : Tables) → OnlyReads a b → IsIntact b → HasTablesIn layout a.now tables → HasTablesIn layout b.now tables
-still_has layout a b tables p intact has = subst (λ (d : Database). HasTablesIn layout d tables) (sym (p.keeps.same intact)) has
+pub still_has : (layout : Layout) (a b : State) (tables : Tables) → OnlyReads a b → IsIntact b
+    → HasTablesIn layout a.now tables → HasTablesIn layout b.now tables
+still_has layout a b tables p intact has =
+    subst (λ (d : Database). HasTablesIn layout d tables) (sym (p.keeps.same intact)) has
 
 -- What a call commits after tables were only read, if the connection is open between.
-pub committed_after_reading : (P : Database → Database → Type 0) (a b c : State) → OnlyReads a b → WasOpen b b → (HasCleanDisk c → HasCleanDisk b)
+pub committed_after_reading : (P : Database → Database → Type 0) (a b c : State) → OnlyReads a b → WasOpen b b
+    → (HasCleanDisk c → HasCleanDisk b)
     → LeavesOldOr (P b.now) b c → LeavesOldOr (P a.now) a c
 committed_after_reading P a b c reads is_open early p =
     old_or_then (P a.now) a b c early reads.crash

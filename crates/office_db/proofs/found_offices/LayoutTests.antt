@@ -1,5 +1,6 @@
 -- A schema that passes the tests of a layout is that of the layout.
-use Rattle.std.proofs.Common.{◌≡◌, ℕ, Bool, true, ◌&&◌, ◌==◌, List, [], ◌∷◌, ◌++◌, drop, get_or, length, map, take, ◌+◌, ◌*◌, if◌then◌else◌, refl, sym, ap, ap₂, ◌∙◌, subst, true≢false, arith}
+use Rattle.std.proofs.Common.{◌≡◌, ℕ, Bool, true, ◌&&◌, ◌==◌, List, [], ◌∷◌, ◌++◌, drop, get_or, length, map, take, ◌+◌}
+use Rattle.std.proofs.Common.{◌*◌, if◌then◌else◌, refl, sym, ap, ap₂, ◌∙◌, subst, true≢false, arith}
 use Rattle.std.specs.Prelude.{bytes_eq, nat_le}
 use Rattle.std.proofs.lemmas.List.{length-append, take-append-drop}
 use Rattle.std.proofs.lemmas.Bool.{and_from, and_parts, eqb-true, le-leb}
@@ -16,7 +17,8 @@ use Rattle.office_db.specs.loading.Inner.Lists.{pass_all}
 use Rattle.office_schema.specs.tables.Layouts.{schema_of, table_count}
 use Rattle.office_schema.specs.tables.Schema.{room, person, round}
 use Rattle.office_schema.specs.declared.tables.layouts.Layout.{Layout}
-use Rattle.office_schema.specs.declared.tables.layouts.Layout.TheVariants.{Own, Documented, DocumentedSecond, DocumentedFirst, EarlierFirst}
+use Rattle.office_schema.specs.declared.tables.layouts.Layout.TheVariants.{Own, Documented, DocumentedSecond}
+use Rattle.office_schema.specs.declared.tables.layouts.Layout.TheVariants.{DocumentedFirst, EarlierFirst}
 
 -- ---- indexes
 
@@ -34,7 +36,8 @@ index_is own index same =
     ap (λ (n : List ℕ). record index { name = n }) (text_is _ _ one.0)
     ∙ ap (λ (n : ℕ). record index { name = own.name; tree = n }) (eqb-true _ _ one.1)
     ∙ ap (λ (n : ℕ). record index { name = own.name; tree = own.tree; table = n }) (eqb-true _ _ two.1)
-    ∙ ap (λ (l : List ℕ). record own { columns = l; order = index.order; is_unique = index.is_unique }) (text_is _ _ three.1)
+    ∙ ap (λ (l : List ℕ). record own { columns = l; order = index.order; is_unique = index.is_unique })
+    (text_is _ _ three.1)
     ∙ ap (λ (n : ℕ). record own { order = record { digits = n }; is_unique = index.is_unique }) (eqb-true _ _ four.1)
     ∙ ap (λ (b : Bool). record own { is_unique = b }) (six.1 ∙ sym five.1)
 
@@ -74,12 +77,14 @@ module _ (layout : Layout) (schema : Schema) where
   schema_is views tables indexes =
       let own = schema_of layout in
       ap (λ (ts : List Table). record schema { tables = ts }) tables
-      ∙ ap (λ (is : List Index). record schema { tables = own.tables; indexes = is }) (indexes_are own.indexes schema.indexes indexes)
+      ∙ ap (λ (is : List Index). record schema { tables = own.tables; indexes = is })
+      (indexes_are own.indexes schema.indexes indexes)
       ∙ ap (λ (vs : List View). record own { views = vs }) (none_if schema.views views ∙ sym (no_views layout))
 
   module _ (has : schema ≡ schema_of layout) where
     pub has_no_views : (length schema.views == 0) ≡ true
-    has_no_views = ap (λ (s : Schema). length s.views == 0) has ∙ ap (λ (vs : List View). length vs == 0) (no_views layout)
+    has_no_views = ap (λ (s : Schema). length s.views == 0) has ∙ ap (λ (vs : List View). length vs == 0)
+        (no_views layout)
 
     pub has_own_indexes : has_indexes layout schema.indexes ≡ true
     has_own_indexes = ap (λ (s : Schema). has_indexes layout s.indexes) has ∙ own_indexes layout
@@ -110,7 +115,8 @@ one_layout a b e = sym (layout_back a) ∙ ap (λ ts. layout_at (mark ts)) e ∙
 
 -- ---- the first three tables
 
-pub begins_if : (schema : Schema) → (length schema.views == 0) ≡ true → take 3 schema.tables ≡ room 0 ∷ person 2 ∷ round 6 ∷ []
+pub begins_if : (schema : Schema) → (length schema.views == 0) ≡ true
+    → take 3 schema.tables ≡ room 0 ∷ person 2 ∷ round 6 ∷ []
     → BeginsOffice schema
 begins_if schema views tables = record { tables = tables; views = none_if schema.views views }
 
@@ -118,7 +124,8 @@ begins_if schema views tables = record { tables = tables; views = none_if schema
 pub office_names_round : (schema : Schema) → BeginsOffice schema → names_round schema ≡ true
 unfolding same_name
 office_names_round schema front =
-    let tables : room 0 ∷ person 2 ∷ round 6 ∷ drop 3 schema.tables ≡ schema.tables = ap (λ (ts : List Table). ts ++ drop 3 schema.tables) (sym front.tables) ∙ take-append-drop 3 schema.tables in
+    let tables : room 0 ∷ person 2 ∷ round 6 ∷ drop 3 schema.tables ≡ schema.tables =
+    ap (λ (ts : List Table). ts ++ drop 3 schema.tables) (sym front.tables) ∙ take-append-drop 3 schema.tables in
     subst (λ (ts : List Table). names_round (record schema { tables = ts }) ≡ true) tables refl
 
 -- ---- the first tables of a layout
@@ -131,7 +138,8 @@ module _ (layout : Layout) (schema : Schema) where
   own_first = has_indexes layout (take (index_count layout) schema.indexes)
 
   -- A schema that passes the tests begins with the layout.
-  pub begins_with_layout : (length schema.views == 0) ≡ true → take (table_count layout) schema.tables ≡ (schema_of layout).tables
+  pub begins_with_layout : (length schema.views == 0) ≡ true
+      → take (table_count layout) schema.tables ≡ (schema_of layout).tables
       → (enough && own_first) ≡ true → Begins layout schema
   begins_with_layout views tables indexes =
       let own = schema_of layout in
@@ -141,10 +149,16 @@ module _ (layout : Layout) (schema : Schema) where
       record {
         tables = drop count schema.tables;
         indexes = drop many schema.indexes;
-        is = ap (λ (ts : List Table). record schema { tables = ts }) (sym (take-append-drop count schema.tables) ∙ ap (λ (ts : List Table). ts ++ drop count schema.tables) tables)
+        is = ap (λ (ts : List Table). record schema { tables = ts })
+            (sym (take-append-drop count schema.tables)
+            ∙ ap (λ (ts : List Table). ts ++ drop count schema.tables) tables)
             ∙ ap (λ (is : List Index). record schema { tables = own.tables ++ drop count schema.tables; indexes = is })
             (sym (take-append-drop many schema.indexes) ∙ ap (λ (is : List Index). is ++ drop many schema.indexes) same)
-            ∙ ap (λ (vs : List View). record { tables = own.tables ++ drop count schema.tables; indexes = own.indexes ++ drop many schema.indexes; views = vs })
+            ∙ ap (λ (vs : List View). record {
+              tables = own.tables ++ drop count schema.tables;
+              indexes = own.indexes ++ drop many schema.indexes;
+              views = vs;
+            })
             (none_if schema.views views);
       }
 
@@ -177,7 +191,11 @@ module _ (layout : Layout) (schema : Schema) (begins : Begins layout schema) whe
       subst (λ (s : Schema). take (table_count layout) s.tables ≡ (schema_of layout).tables) (sym begins.is)
       (tables_followed layout begins.tables begins.indexes)
 
-  pub begins_indexes : (nat_le (index_count layout) (length schema.indexes) && has_indexes layout (take (index_count layout) schema.indexes)) ≡ true
+  pub begins_indexes : (nat_le (index_count layout) (length schema.indexes) && has_indexes layout
+      (take (index_count layout) schema.indexes)) ≡ true
   begins_indexes =
-      subst (λ (s : Schema). (nat_le (index_count layout) (length s.indexes) && has_indexes layout (take (index_count layout) s.indexes)) ≡ true)
-      (sym begins.is) (and_from _ _ (enough_followed (schema_of layout).indexes begins.indexes) (indexes_followed layout begins.indexes))
+      subst (λ (s : Schema).
+      (nat_le (index_count layout) (length s.indexes) && has_indexes layout
+      (take (index_count layout) s.indexes)) ≡ true)
+      (sym begins.is) (and_from _ _ (enough_followed (schema_of layout).indexes begins.indexes)
+      (indexes_followed layout begins.indexes))

@@ -27,8 +27,10 @@ module _ (of : BinaryOp) (t a b x y : Term) (is : t ≡ op2 of a b) where
 
 -- A term with another operator.
 pub other_operator : (ops : List Op) (depth at : ℕ) (found of : BinaryOp) (x y : ℕ) (op : Op) → depth ≢ 0
-    → get_or ops at (Literal Null) ≡ op → op ≡ Binary found x y → found ≢ of → (a b : Term) → term_to ops depth at ≡ op2 of a b → ⊥
+    → get_or ops at (Literal Null) ≡ op → op ≡ Binary found x y → found ≢ of → (a b : Term)
+    → term_to ops depth at ≡ op2 of a b → ⊥
 other_operator ops zero at found of x y op deep here is differs a b e = absurd (deep refl)
 other_operator ops (suc depth) at found of x y op deep here is differs a b e =
-    let same : op2 found (term_to ops depth x) (term_to ops depth y) ≡ op2 of a b = ap (op_term (term_to ops depth)) (sym (here ∙ is)) ∙ e in
+    let same : op2 found (term_to ops depth x) (term_to ops depth y) ≡ op2 of a b =
+    ap (op_term (term_to ops depth)) (sym (here ∙ is)) ∙ e in
     differs (operator_of found of _ _ a b same)

@@ -1,5 +1,6 @@
 -- Lists that are tested element by element.
-use Rattle.std.proofs.Common.{◌≡◌, ◌≢◌, ◌<◌, ◌≤◌, ◌+◌, ℕ, suc, Bool, true, false, ◌&&◌, List, [], ◌∷◌, length, drop, map, get_or, refl, sym, ap, ap₂, ◌∙◌, subst, arith}
+use Rattle.std.proofs.Common.{◌≡◌, ◌≢◌, ◌<◌, ◌≤◌, ◌+◌, ℕ, suc, Bool, true, false, ◌&&◌, List, [], ◌∷◌, length, drop}
+use Rattle.std.proofs.Common.{map, get_or, refl, sym, ap, ap₂, ◌∙◌, subst, arith}
 use Rattle.std.specs.List.{AllByRecursion}
 use Rattle.std.proofs.lemmas.List.{drop_all, drop_more, get_or-map, length-map}
 use Rattle.office_db.specs.loading.Inner.Lists.{pass_all}
@@ -32,7 +33,8 @@ module _ {X Y O : Type 0} (f : O → Y) (test : Y → X → Bool) (owns : List O
   pub too_few : length xs ≢ length owns → pass_all test (map f owns) xs ≡ false
   too_few uneven = uneven_fail test (map f owns) xs (λ e. uneven (e ∙ length-map owns f))
 
-  module _ (i : ℕ) (d : O) (x : X) (even : length xs ≡ length owns) (low : i < length owns) (here : x ≡ get_or xs i x) where
+  module _ (i : ℕ) (d : O) (x : X) (even : length xs ≡ length owns) (low : i < length owns)
+      (here : x ≡ get_or xs i x) where
     from_place : pass_all test (drop i (map f owns)) (drop i xs)
         ≡ (test (f (get_or owns i d)) x && pass_all test (drop (i + 1) (map f owns)) (drop (i + 1) xs))
     from_place =
@@ -42,7 +44,8 @@ module _ {X Y O : Type 0} (f : O → Y) (test : Y → X → Bool) (owns : List O
 
     -- This element does not pass.
     pub fails_at : test (f (get_or owns i d)) x ≡ false
-        → pass_all test (drop i (map f owns)) (drop i xs) ≡ pass_all test (map f owns) xs → pass_all test (map f owns) xs ≡ false
+        → pass_all test (drop i (map f owns)) (drop i xs) ≡ pass_all test (map f owns) xs
+        → pass_all test (map f owns) xs ≡ false
     fails_at fails left =
         sym left ∙ from_place
         ∙ ap (λ b. b && pass_all test (drop (i + 1) (map f owns)) (drop (i + 1) xs)) fails
@@ -61,7 +64,8 @@ module _ {X O : Type 0} (f : O → X) (owns : List O) (xs : List X) where
   pub uneven_differ : length xs ≢ length owns → xs ≡ map f owns → ⊥
   uneven_differ uneven p = uneven (ap length p ∙ length-map owns f)
 
-  module _ (i : ℕ) (d : O) (x : X) (even : length xs ≡ length owns) (low : i < length owns) (here : x ≡ get_or xs i x) where
+  module _ (i : ℕ) (d : O) (x : X) (even : length xs ≡ length owns) (low : i < length owns)
+      (here : x ≡ get_or xs i x) where
     -- This element differs.
     pub differ_at : (x ≡ f (get_or owns i d) → ⊥) → xs ≡ map f owns → ⊥
     differ_at differs p = differs (here ∙ ap (λ l. get_or l i x) p ∙ get_or-map f owns i d x low)
@@ -76,7 +80,8 @@ module _ {X O : Type 0} (f : O → X) (owns : List O) (xs : List X) where
         ∙ ap (λ y. y ∷ drop (i + 1) (map f owns)) (get_or-map f owns i d (f (get_or owns i d)) low)))
 
   -- All elements were compared.
-  pub agree_all : (i : ℕ) → length xs ≡ length owns → length owns ≤ i → (drop i xs ≡ drop i (map f owns) → xs ≡ map f owns)
+  pub agree_all : (i : ℕ) → length xs ≡ length owns → length owns ≤ i
+      → (drop i xs ≡ drop i (map f owns) → xs ≡ map f owns)
       → xs ≡ map f owns
   agree_all i even past left =
       left (drop_all i xs (omega (arith, even, past))
@@ -85,7 +90,8 @@ module _ {X O : Type 0} (f : O → X) (owns : List O) (xs : List X) where
 -- Each element is tested.
 module _ {X : Type 0} (P : X → Type 0) (xs : List X) (i : ℕ) (d : X) (low : i < length xs) where
   -- P holds of this element.
-  pub all_more : P (get_or xs i d) → (AllByRecursion P (drop i xs) → AllByRecursion P xs) → AllByRecursion P (drop (i + 1) xs)
+  pub all_more : P (get_or xs i d) → (AllByRecursion P (drop i xs) → AllByRecursion P xs)
+      → AllByRecursion P (drop (i + 1) xs)
       → AllByRecursion P xs
   all_more here left rest = left (subst (AllByRecursion P) (sym (drop_more xs i d low)) (here, rest))
 
@@ -94,6 +100,7 @@ module _ {X : Type 0} (P : X → Type 0) (xs : List X) (i : ℕ) (d : X) (low : 
       → P (get_or xs i d) × AllByRecursion P (drop (i + 1) xs)
   all_here whole h = subst (AllByRecursion P) (drop_more xs i d low) (whole h)
 
-pub all_tested : {X : Type 0} (P : X → Type 0) (xs : List X) (i : ℕ) → length xs ≤ i → (AllByRecursion P (drop i xs) → AllByRecursion P xs)
+pub all_tested : {X : Type 0} (P : X → Type 0) (xs : List X) (i : ℕ) → length xs ≤ i
+    → (AllByRecursion P (drop i xs) → AllByRecursion P xs)
     → AllByRecursion P xs
 all_tested P xs i past left = left (subst (AllByRecursion P) (sym (drop_all i xs past)) tt)

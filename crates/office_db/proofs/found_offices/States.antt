@@ -1,5 +1,6 @@
 -- What a query does to a connection that is outside a transaction.
-use Rattle.std.proofs.Common.{◌≡◌, ℕ, List, Option, Some, None, IsSome, IsTrue, true≢false, sym, ◌∙◌, subst, inl, inr, arith}
+use Rattle.std.proofs.Common.{◌≡◌, ℕ, List, Option, Some, None, IsSome, IsTrue, true≢false, sym, ◌∙◌, subst, inl, inr}
+use Rattle.std.proofs.Common.{arith}
 use Rattle.sqlite_trees.specs.Tree.{Trees}
 use Rattle.sqlite_value.specs.Order.{Row}
 use Rattle.sqlite_resolve.specs.declared.compiled.Compiled.{Compiled}
@@ -7,7 +8,8 @@ use Rattle.sqlite_schema.specs.declared.command.Returning.{Returning}
 use Rattle.sqlite.specs.Clock.{timed}
 use Rattle.sqlite.specs.Listing.{understood}
 use Rattle.sqlite.specs.declared.error.Error.{Error}
-use Rattle.sqlite.specs.State.{State, HasCleanDisk, CommitsShowing, Survives, Shown, ShowsRows, IsUnchanged, FailsToQuery, FailsToShow, IsNotRun, IsRolledBack}
+use Rattle.sqlite.specs.State.{State, HasCleanDisk, CommitsShowing, Survives, Shown, ShowsRows, IsUnchanged}
+use Rattle.sqlite.specs.State.{FailsToQuery, FailsToShow, IsNotRun, IsRolledBack}
 use Rattle.office_schema.specs.tables.Crashes.{LeavesNothingNew, ShowsCommitted}
 use Rattle.office_schema.specs.tables.Steps.{Follows}
 use Rattle.office_db.specs.loading.Asking.{NeverReturns, OnlyAsks}
@@ -18,7 +20,8 @@ module _ (sql : List ℕ) (params : Row) (old new : State) where
   unfolding Shown
   shown_was_open rows h = go h.0.returning h.2
     where
-      go : (what : Option Returning) → ShowsRows old new sql h.0 (timed params h.0.formats h.1.now) rows what → IsTrue old.is_open
+      go : (what : Option Returning) → ShowsRows old new sql h.0 (timed params h.0.formats h.1.now) rows what
+          → IsTrue old.is_open
       go None it = it.3.0.was_open
       go (Some what) it = it.1.shown.was_open
 
@@ -27,7 +30,8 @@ module _ (sql : List ℕ) (params : Row) (old new : State) where
   unfolding Shown
   shown_is_open rows h = go h.0.returning h.2
     where
-      go : (what : Option Returning) → ShowsRows old new sql h.0 (timed params h.0.formats h.1.now) rows what → IsTrue new.is_open
+      go : (what : Option Returning) → ShowsRows old new sql h.0 (timed params h.0.formats h.1.now) rows what
+          → IsTrue new.is_open
       go None it = it.3.0.is_open
       go (Some what) it = it.1.shown.is_open
 
@@ -53,13 +57,15 @@ module _ (sql : List ℕ) (params : Row) (old new : State) where
       go (Some what) (inr it) = undone_stays it.3
 
   -- The query leaves the connection as it was.
-  pub shown_unchanged : (rows : List Row) → NeverReturns (understood old.now.schema sql) → Shown sql params old new rows → IsUnchanged old new
+  pub shown_unchanged : (rows : List Row) → NeverReturns (understood old.now.schema sql) → Shown sql params old new rows
+      → IsUnchanged old new
   unfolding Shown
   shown_unchanged rows never h =
       let none = subst NeverReturns h.1.is never in
       let it = subst (ShowsRows old new sql h.0 (timed params h.0.formats h.1.now) rows) none h.2 in it.3
 
-  survivor_follows : (Commits : Trees → Type 0) → Survives old new Commits → (HasCleanDisk new → IsTrue new.is_open → IsTrue old.is_open) → Follows old new
+  survivor_follows : (Commits : Trees → Type 0) → Survives old new Commits
+      → (HasCleanDisk new → IsTrue new.is_open → IsTrue old.is_open) → Follows old new
   survivor_follows Commits survives was_open = record {
     clean = λ h. omega (arith, h, survives.clean);
     was_open = was_open;
@@ -91,7 +97,8 @@ module _ (sql : List ℕ) (params : Row) (old new : State) where
   }
 
   -- after it failed
-  pub reads_failed : (Commits : Trees → Type 0) → Survives old new Commits → LeavesNothingNew old new → (e : Error) → ShowsCommitted old
+  pub reads_failed : (Commits : Trees → Type 0) → Survives old new Commits → LeavesNothingNew old new → (e : Error)
+      → ShowsCommitted old
       → (HasCleanDisk new → FailsToQuery sql params old new e) → OnlyReads old new
   reads_failed Commits survives nothing e settled h = record {
     keeps = record {

@@ -1,5 +1,6 @@
 -- The version of an office.
-use Rattle.std.proofs.Common.{◌≡◌, true, ℤ, pos, List, [], ◌∷◌, get_or, map, Option, Some, None, IfSome, refl, sym, ap, ◌∙◌, subst, IsPermutation, arith}
+use Rattle.std.proofs.Common.{◌≡◌, true, ℤ, pos, List, [], ◌∷◌, get_or, map, Option, Some, None, IfSome, refl, sym, ap}
+use Rattle.std.proofs.Common.{◌∙◌, subst, IsPermutation, arith}
 use Rattle.std.specs.Prelude.{unwrap_or}
 use Rattle.std.proofs.lemmas.List.Sorted.{length_permutation}
 use Rattle.sqlite_value.specs.Order.{Row, column}
@@ -15,20 +16,31 @@ use Rattle.office_schema.specs.tables.Holds.{stored}
 use Rattle.office_schema.specs.tables.Layouts.{schema_of, version_of}
 use Rattle.office_schema.specs.tables.InLayout.{HoldsOfficeIn}
 use Rattle.office_schema.specs.declared.tables.layouts.Layout.{Layout}
-use Rattle.office_schema.specs.declared.tables.layouts.Layout.TheVariants.{Own, Documented, DocumentedSecond, DocumentedFirst, EarlierFirst}
+use Rattle.office_schema.specs.declared.tables.layouts.Layout.TheVariants.{Own, Documented, DocumentedSecond}
+use Rattle.office_schema.specs.declared.tables.layouts.Layout.TheVariants.{DocumentedFirst, EarlierFirst}
 use Rattle.office_db.specs.loading.Finding.{HoldsVersion, names_round}
 
 module _ (db : Database) where
-  one_round : (r : RoundRecord) (entries : List (ℤ × RoundRecord)) → IsPermutation (r ∷ []) (map (λ (e : ℤ × RoundRecord). e.1) entries) → db.trees 6 ≡ map (stored round_columns) entries → HoldsVersion db (pos r.version)
+  one_round : (r : RoundRecord) (entries : List (ℤ × RoundRecord)) → IsPermutation (r ∷ [])
+      (map (λ (e : ℤ × RoundRecord). e.1) entries) → db.trees 6 ≡ map (stored round_columns) entries
+      → HoldsVersion db (pos r.version)
   one_round r [] same rows = let e : 0 ≡ 1 = length_permutation (r ∷ []) [] same in absurd (omega (arith, e))
-  one_round r (e ∷ []) same rows = (stored round_columns e, rows, ap (λ (x : RoundRecord). Int (pos x.version)) (permuted_all (λ x. x ≡ r) (r ∷ []) (e.1 ∷ []) same (refl, tt)).0)
-  one_round r (e ∷ f ∷ entries) same rows = absurd (omega (arith, length_permutation (r ∷ []) (map (λ (x : ℤ × RoundRecord). x.1) (e ∷ f ∷ entries)) same))
+  one_round r (e ∷ []) same rows = (
+    stored round_columns e,
+    rows,
+    ap (λ (x : RoundRecord). Int (pos x.version))
+        (permuted_all (λ x. x ≡ r) (r ∷ []) (e.1 ∷ []) same (refl, tt)).0,
+  )
+  one_round r (e ∷ f ∷ entries) same rows =
+      absurd (omega (arith, length_permutation (r ∷ []) (map (λ (x : ℤ × RoundRecord). x.1) (e ∷ f ∷ entries)) same))
 
 -- The row of table `round` holds the version of the layout.
-pub layout_states_version : (layout : Layout) (db : Database) (office : Office) → HoldsOfficeIn layout db office → HoldsVersion db (pos (version_of layout))
+pub layout_states_version : (layout : Layout) (db : Database) (office : Office) → HoldsOfficeIn layout db office
+    → HoldsVersion db (pos (version_of layout))
 unfolding rows_at
 layout_states_version layout db office h =
-    one_round db (record { version = version_of layout; number = office.number; phase = office.phase }) h.rows.rounds.entries h.rows.rounds.same h.rows.rounds.rows_are
+    one_round db (record { version = version_of layout; number = office.number; phase = office.phase })
+    h.rows.rounds.entries h.rows.rounds.same h.rows.rounds.rows_are
 
 -- The row of table `round` holds one version.
 pub one_version : (db : Database) (a b : ℤ) → HoldsVersion db a → HoldsVersion db b → a ≡ b

@@ -1,5 +1,6 @@
 -- Rowids that rise differ.
-use Rattle.std.proofs.Common.{◌≡◌, inl, inr, ℕ, ℤ, ◌<ℤ◌, ◌<◌, ◌+◌, ◌≤◌, false, List, [], ◌∷◌, ◌++◌, map, Option, Some, None, IfSome, IsTrue, sym, ap, ap₂, ◌∙◌, subst, IsPermutation, arith}
+use Rattle.std.proofs.Common.{◌≡◌, inl, inr, ℕ, ℤ, ◌<ℤ◌, ◌<◌, ◌+◌, ◌≤◌, false, List, [], ◌∷◌, ◌++◌, map, Option, Some}
+use Rattle.std.proofs.Common.{None, IfSome, IsTrue, sym, ap, ap₂, ◌∙◌, subst, IsPermutation, arith}
 use Rattle.std.proofs.Math.Nat.{eq-or-lt_of_le}
 use Rattle.std.specs.Ordering.{is_eq}
 use Rattle.std.specs.List.{AllByRecursion, IsDistinct}
@@ -27,11 +28,13 @@ abbrev pub IsLast : Option ℤ → List Row → Type 0
 IsLast None rows = rows ≡ []
 IsLast (Some number) rows = AreBelow number rows
 
-all_pushed : (P : Row → Type 0) (rows : List Row) (row : Row) → AllByRecursion P rows → P row → AllByRecursion P (rows ++ row ∷ [])
+all_pushed : (P : Row → Type 0) (rows : List Row) (row : Row) → AllByRecursion P rows → P row
+    → AllByRecursion P (rows ++ row ∷ [])
 all_pushed P [] row all one = (one, tt)
 all_pushed P (r ∷ rows) row all one = (all.0, all_pushed P rows row all.1 one)
 
-apart_pushed : (rows : List Row) (row : Row) → IsDistinct same_rowid rows → AllByRecursion (λ r. same_rowid r row ≡ false) rows → IsDistinct same_rowid (rows ++ row ∷ [])
+apart_pushed : (rows : List Row) (row : Row) → IsDistinct same_rowid rows → AllByRecursion
+    (λ r. same_rowid r row ≡ false) rows → IsDistinct same_rowid (rows ++ row ∷ [])
 unfolding IsDistinct
 apart_pushed [] row up apart = (tt, tt)
 apart_pushed (r ∷ rows) row up apart =
@@ -49,7 +52,8 @@ abbrev AreLower : ℤ → List Row → Type 0
 AreLower number rows = AllByRecursion (λ r. (m : ℤ) × (rowid r ≡ Int m) × (m <ℤ number)) rows
 
 -- one more row, whose rowid is greater
-pub pushed : (last : Option ℤ) (rows : List Row) (row : Row) (number : ℤ) → HaveRowids rows → IsLast last rows → rowid row ≡ Int number → IfSome last (λ before. before <ℤ number)
+pub pushed : (last : Option ℤ) (rows : List Row) (row : Row) (number : ℤ) → HaveRowids rows → IsLast last rows
+    → rowid row ≡ Int number → IfSome last (λ before. before <ℤ number)
     → HaveRowids (rows ++ row ∷ []) × IsLast (Some number) (rows ++ row ∷ [])
 pushed last rows row number numbered is e above = (
   record {
@@ -73,7 +77,8 @@ pushed last rows row number numbered is e above = (
 
     lower_weaker : (rs : List Row) → AreLower number rs → AreBelow number rs
     lower_weaker [] all = tt
-    lower_weaker (r ∷ rs) all = ((all.0.0, all.0.1, λ k less. below_trans all.0.0 number k all.0.2 less), lower_weaker rs all.1)
+    lower_weaker (r ∷ rs) all =
+        ((all.0.0, all.0.1, λ k less. below_trans all.0.0 number k all.0.2 less), lower_weaker rs all.1)
 
 pub none_numbered : HaveRowids []
 unfolding IsDistinct
@@ -89,15 +94,20 @@ listed_back (r ∷ rows) h =
       apart = IsDistinct-cons same_rowid r rows (heads rows (IsDistinct-head same_rowid _ _ h.apart)) more.apart;
     }
   where
-    heads : (rs : List Row) → AllByRecursion (λ y. same_rowid (listed only_rowid r) y ≡ false) (map (listed only_rowid) rs) → AllByRecursion (λ y. same_rowid r y ≡ false) rs
+    heads : (rs : List Row) → AllByRecursion (λ y. same_rowid (listed only_rowid r) y ≡ false)
+        (map (listed only_rowid) rs) → AllByRecursion (λ y. same_rowid r y ≡ false) rs
     heads [] all = tt
     heads (y ∷ rs) all = (all.0, heads rs all.1)
 
 -- The order in which the rows were read does not matter.
-pub numbered_if_read : (rows got : List Row) → IsPermutation (map (listed only_rowid) rows) got → HaveRowids got → HaveRowids rows
+pub numbered_if_read : (rows got : List Row) → IsPermutation (map (listed only_rowid) rows) got → HaveRowids got
+    → HaveRowids rows
 numbered_if_read rows got same h = listed_back rows (record {
-  keyed = recursion_from_All _ _ (All-permutation (λ r. IsTrue (is_int (rowid r))) got (map (listed only_rowid) rows) (IsPermutation-sym _ _ same) (All-from_recursion _ got h.keyed));
-  apart = IsDistinct-IsPermutation same_rowid flips got (map (listed only_rowid) rows) (IsPermutation-sym _ _ same) h.apart;
+  keyed = recursion_from_All _ _
+      (All-permutation (λ r. IsTrue (is_int (rowid r))) got (map (listed only_rowid) rows) (IsPermutation-sym _ _ same)
+      (All-from_recursion _ got h.keyed));
+  apart = IsDistinct-IsPermutation same_rowid flips got (map (listed only_rowid) rows)
+      (IsPermutation-sym _ _ same) h.apart;
 })
 
 -- the places before the next one

@@ -1,5 +1,6 @@
 -- The listed columns of a record determine the record.
-use Rattle.std.proofs.Common.{◌≡◌, ℕ, Bool, true, false, List, [], ◌∷◌, length, Option, Some, None, if◌then◌else◌, eqb, refl, sym, ap, ◌∙◌}
+use Rattle.std.proofs.Common.{◌≡◌, ℕ, Bool, true, false, List, [], ◌∷◌, length, Option, Some, None, if◌then◌else◌, eqb}
+use Rattle.std.proofs.Common.{refl, sym, ap, ◌∙◌}
 use Rattle.std.specs.Prelude.{unwrap_or, slice_get}
 use Rattle.sqlite_value.specs.declared.value.Value.TheVariants.{Text}
 use Rattle.sqlite_sql.specs.Term.{col}
@@ -21,8 +22,11 @@ use Rattle.office_schema.specs.declared.rows.records.ChoiceRecord.{ChoiceRecord}
 use Rattle.office_schema.specs.declared.rows.records.PersonRecord.{PersonRecord}
 use Rattle.office_schema.specs.declared.rows.records.RoundRecord.{RoundRecord}
 use Rattle.office_schema.specs.cells.Cells.{IsWord, flag, text_or_null, wave_value}
-use Rattle.office_schema.specs.cells.Columns.{room_columns, person_columns, round_columns, round_shown, choice_columns, word_columns, result_columns, move_columns, list_columns, grade_columns, going_columns, one, two, three, four, five}
-use Rattle.office_schema.specs.cells.Forms.{IsRoomRow, IsPersonRow, IsRoundRow, IsChoiceRow, IsWordRow, IsResultRow, IsMoveRow, IsListRow, IsGradeRow, IsGoingRow}
+use Rattle.office_schema.specs.cells.Columns.{room_columns, person_columns, round_columns, round_shown, choice_columns}
+use Rattle.office_schema.specs.cells.Columns.{word_columns, result_columns, move_columns, list_columns, grade_columns}
+use Rattle.office_schema.specs.cells.Columns.{going_columns, one, two, three, four, five}
+use Rattle.office_schema.specs.cells.Forms.{IsRoomRow, IsPersonRow, IsRoundRow, IsChoiceRow, IsWordRow, IsResultRow}
+use Rattle.office_schema.specs.cells.Forms.{IsMoveRow, IsListRow, IsGradeRow, IsGoingRow}
 use Rattle.office_db.specs.loading.Listing.{DeterminesRecords}
 
 -- ---- cells
@@ -50,7 +54,8 @@ abbrev phase_by : ℕ → Phase
 phase_by letter =
     if eqb letter 105 then Idle
     else (if eqb letter 111 then Opened
-    else (if eqb letter 99 then Closed else (if eqb letter 100 then Drawn else (if eqb letter 114 then Ran else Published))))
+    else (if eqb letter 99 then Closed else
+    (if eqb letter 100 then Drawn else (if eqb letter 114 then Ran else Published))))
 
 abbrev phase_of : List ℕ → Phase
 phase_of text = phase_by (unwrap_or (slice_get text 0) 0)
@@ -68,7 +73,8 @@ same_phase a b e = sym (phase_is a) ∙ ap phase_of e ∙ phase_is b
 
 -- So do the kinds of lists.
 abbrev kind_by : ℕ → ListKind
-kind_by letter = if eqb letter 114 then Rooms else (if eqb letter 112 then People else (if eqb letter 103 then Grades else Choices))
+kind_by letter =
+    if eqb letter 114 then Rooms else (if eqb letter 112 then People else (if eqb letter 103 then Grades else Choices))
 
 abbrev kind_of : List ℕ → ListKind
 kind_of text = kind_by (unwrap_or (slice_get text 0) 0)
@@ -103,7 +109,14 @@ same_room a b e =
     λ i. (code i, shut i)
 
 pub rooms_loaded : DeterminesRecords room_columns room_columns IsRoomRow two (col 1 1 ∷ col 1 2 ∷ [])
-rooms_loaded = record { projected = λ e. refl; shown_whole = λ x. refl; whole = λ row. refl; keeps_form = λ row h. h; apart = λ a b form e. same_room a b e }
+rooms_loaded =
+    record {
+      projected = λ e. refl;
+      shown_whole = λ x. refl;
+      whole = λ row. refl;
+      keeps_form = λ row h. h;
+      apart = λ a b form e. same_room a b e;
+    }
 
 same_person : (a b : PersonRecord) → person_columns a ≡ person_columns b → a ≡ b
 same_person a b e =
@@ -116,8 +129,16 @@ same_person a b e =
     let withdrawn = same_flag a.withdrawn b.withdrawn left in
     λ i. record { id = id i; person = record { name = name i; key = key i; home = home i }; withdrawn = withdrawn i }
 
-pub people_loaded : DeterminesRecords person_columns person_columns IsPersonRow five (col 1 1 ∷ col 1 2 ∷ col 1 3 ∷ col 1 4 ∷ col 1 5 ∷ [])
-people_loaded = record { projected = λ e. refl; shown_whole = λ x. refl; whole = λ row. refl; keeps_form = λ row h. h; apart = λ a b form e. same_person a b e }
+pub people_loaded : DeterminesRecords person_columns person_columns IsPersonRow five
+    (col 1 1 ∷ col 1 2 ∷ col 1 3 ∷ col 1 4 ∷ col 1 5 ∷ [])
+people_loaded =
+    record {
+      projected = λ e. refl;
+      shown_whole = λ x. refl;
+      whole = λ row. refl;
+      keeps_form = λ row h. h;
+      apart = λ a b form e. same_person a b e;
+    }
 
 same_round : (a b : RoundRecord) → round_shown a ≡ round_shown b → a ≡ b
 same_round a b e =
@@ -128,7 +149,14 @@ same_round a b e =
     λ i. record { version = version i; number = number i; phase = phase i }
 
 pub rounds_loaded : DeterminesRecords round_columns round_shown IsRoundRow three (col 1 2 ∷ col 1 3 ∷ col 1 4 ∷ [])
-rounds_loaded = record { projected = λ e. refl; shown_whole = λ x. refl; whole = λ row. refl; keeps_form = λ row h. h; apart = λ a b form e. same_round a b e }
+rounds_loaded =
+    record {
+      projected = λ e. refl;
+      shown_whole = λ x. refl;
+      whole = λ row. refl;
+      keeps_form = λ row h. h;
+      apart = λ a b form e. same_round a b e;
+    }
 
 same_choice : (a b : ChoiceRecord) → choice_columns a ≡ choice_columns b → a ≡ b
 same_choice a b e =
@@ -137,8 +165,16 @@ same_choice a b e =
     let room : a.room ≡ b.room = cc in
     λ i. record { person = person i; place = place i; room = room i }
 
-pub choices_loaded : DeterminesRecords choice_columns choice_columns IsChoiceRow three (col 1 1 ∷ col 1 2 ∷ col 1 3 ∷ [])
-choices_loaded = record { projected = λ e. refl; shown_whole = λ x. refl; whole = λ row. refl; keeps_form = λ row h. h; apart = λ a b form e. same_choice a b e }
+pub choices_loaded : DeterminesRecords choice_columns choice_columns IsChoiceRow three
+    (col 1 1 ∷ col 1 2 ∷ col 1 3 ∷ [])
+choices_loaded =
+    record {
+      projected = λ e. refl;
+      shown_whole = λ x. refl;
+      whole = λ row. refl;
+      keeps_form = λ row h. h;
+      apart = λ a b form e. same_choice a b e;
+    }
 
 same_draw : (a b : Bytes × ℕ) → IsWord (Text (word_text a.1)) → word_columns a ≡ word_columns b → a ≡ b
 same_draw a b form e =
@@ -148,7 +184,14 @@ same_draw a b form e =
     λ i. (person i, word i)
 
 pub words_loaded : DeterminesRecords word_columns word_columns IsWordRow two (col 1 1 ∷ col 1 2 ∷ [])
-words_loaded = record { projected = λ e. refl; shown_whole = λ x. refl; whole = λ row. refl; keeps_form = λ row h. h; apart = λ a b form e. same_draw a b form.1 e }
+words_loaded =
+    record {
+      projected = λ e. refl;
+      shown_whole = λ x. refl;
+      whole = λ row. refl;
+      keeps_form = λ row h. h;
+      apart = λ a b form e. same_draw a b form.1 e;
+    }
 
 same_result : (a b : Bytes × Assigned) → result_columns a ≡ result_columns b → a ≡ b
 same_result a b e =
@@ -158,7 +201,14 @@ same_result a b e =
     λ i. (person i, record { room = room i })
 
 pub results_loaded : DeterminesRecords result_columns result_columns IsResultRow two (col 1 1 ∷ col 1 2 ∷ [])
-results_loaded = record { projected = λ e. refl; shown_whole = λ x. refl; whole = λ row. refl; keeps_form = λ row h. h; apart = λ a b form e. same_result a b e }
+results_loaded =
+    record {
+      projected = λ e. refl;
+      shown_whole = λ x. refl;
+      whole = λ row. refl;
+      keeps_form = λ row h. h;
+      apart = λ a b form e. same_result a b e;
+    }
 
 same_move : (a b : Move) → move_columns a ≡ move_columns b → a ≡ b
 same_move a b e =
@@ -172,8 +222,16 @@ same_move a b e =
     let wave = same_wave a.wave b.wave turn in
     λ i. record { round = round i; person = person i; from = from i; to = to i; wave = wave i }
 
-pub moves_loaded : DeterminesRecords move_columns move_columns IsMoveRow five (col 1 1 ∷ col 1 2 ∷ col 1 3 ∷ col 1 4 ∷ col 1 5 ∷ [])
-moves_loaded = record { projected = λ e. refl; shown_whole = λ x. refl; whole = λ row. refl; keeps_form = λ row h. h; apart = λ a b form e. same_move a b e }
+pub moves_loaded : DeterminesRecords move_columns move_columns IsMoveRow five
+    (col 1 1 ∷ col 1 2 ∷ col 1 3 ∷ col 1 4 ∷ col 1 5 ∷ [])
+moves_loaded =
+    record {
+      projected = λ e. refl;
+      shown_whole = λ x. refl;
+      whole = λ row. refl;
+      keeps_form = λ row h. h;
+      apart = λ a b form e. same_move a b e;
+    }
 
 same_list : (a b : Bytes × StoredImport) → list_columns a ≡ list_columns b → a ≡ b
 same_list a b e =
@@ -184,8 +242,16 @@ same_list a b e =
     let kind = same_kind a.1.kind b.1.kind text in
     λ i. (label i, record { kind = kind i; bytes = bytes i; count = count i })
 
-pub lists_loaded : DeterminesRecords list_columns list_columns IsListRow four (col 1 1 ∷ col 1 2 ∷ col 1 3 ∷ col 1 4 ∷ [])
-lists_loaded = record { projected = λ e. refl; shown_whole = λ x. refl; whole = λ row. refl; keeps_form = λ row h. h; apart = λ a b form e. same_list a b e }
+pub lists_loaded : DeterminesRecords list_columns list_columns IsListRow four
+    (col 1 1 ∷ col 1 2 ∷ col 1 3 ∷ col 1 4 ∷ [])
+lists_loaded =
+    record {
+      projected = λ e. refl;
+      shown_whole = λ x. refl;
+      whole = λ row. refl;
+      keeps_form = λ row h. h;
+      apart = λ a b form e. same_list a b e;
+    }
 
 same_grade : (a b : Bytes × ℕ) → grade_columns a ≡ grade_columns b → a ≡ b
 same_grade a b e =
@@ -194,10 +260,24 @@ same_grade a b e =
     λ i. (person i, grade i)
 
 pub grades_loaded : DeterminesRecords grade_columns grade_columns IsGradeRow two (col 1 1 ∷ col 1 2 ∷ [])
-grades_loaded = record { projected = λ e. refl; shown_whole = λ x. refl; whole = λ row. refl; keeps_form = λ row h. h; apart = λ a b form e. same_grade a b e }
+grades_loaded =
+    record {
+      projected = λ e. refl;
+      shown_whole = λ x. refl;
+      whole = λ row. refl;
+      keeps_form = λ row h. h;
+      apart = λ a b form e. same_grade a b e;
+    }
 
 same_leaver : (a b : Bytes) → going_columns a ≡ going_columns b → a ≡ b
 same_leaver a b e = cc
 
 pub going_loaded : DeterminesRecords going_columns going_columns IsGoingRow one (col 1 1 ∷ [])
-going_loaded = record { projected = λ e. refl; shown_whole = λ x. refl; whole = λ row. refl; keeps_form = λ row h. h; apart = λ a b form e. same_leaver a b e }
+going_loaded =
+    record {
+      projected = λ e. refl;
+      shown_whole = λ x. refl;
+      whole = λ row. refl;
+      keeps_form = λ row h. h;
+      apart = λ a b form e. same_leaver a b e;
+    }

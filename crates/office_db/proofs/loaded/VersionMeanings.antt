@@ -10,7 +10,8 @@ use Rattle.sqlite_schema.specs.declared.schema.View.{View}
 use Rattle.office_schema.specs.tables.Layouts.{schema_of}
 use Rattle.office_schema.specs.tables.Schema.{room, person, round}
 use Rattle.office_schema.specs.declared.tables.layouts.Layout.{Layout}
-use Rattle.office_schema.specs.declared.tables.layouts.Layout.TheVariants.{Own, Documented, DocumentedSecond, DocumentedFirst, EarlierFirst}
+use Rattle.office_schema.specs.declared.tables.layouts.Layout.TheVariants.{Own, Documented, DocumentedSecond}
+use Rattle.office_schema.specs.declared.tables.layouts.Layout.TheVariants.{DocumentedFirst, EarlierFirst}
 use Rattle.office_db.proofs.asking.Selects.{selects_only_ask}
 use Rattle.office_db.specs.loading.Asking.{OnlyAsks}
 use Rattle.office_db.specs.loading.FirstTables.{BeginsOffice}

@@ -16,5 +16,8 @@ line_some (part ∷ parts) = omega (arith, length-append part (line_of parts), l
 pub order_text_some : (rows : List OrderRow) → 0 < length rows → 0 < length (order_text rows)
 order_text_some [] some = absurd (omega (arith, some))
 order_text_some (row ∷ rows) some =
-    let first : 0 < length (order_line 1 row) = line_some (right_in 4 (decimal 1) ∷ codes " " ∷ word_text row.word ∷ codes " " ∷ row.person ∷ grade_suffix row.grade ∷ []) in
+    let first : 0 < length (order_line 1 row) =
+    line_some
+    (right_in 4 (decimal 1) ∷ codes " " ∷ word_text row.word ∷ codes " " ∷ row.person ∷ grade_suffix
+    row.grade ∷ []) in
     omega (arith, length-append (order_line 1 row) (order_lines 2 rows), first)

@@ -10,4 +10,6 @@ texts = map (λ (word : Bor Text). word.now)
 
 -- the values of all words are those that are parsed so far, followed by those of the words from `i` on
 abbrev pub IsReadTo : {X : Type 0} → (Text → Option X) → List (Bor Text) → ℕ → List X → Type 0
-IsReadTo meaning words i read = all_of meaning (texts words) ≡ option_map (λ (others : List _). read ++ others) (all_of meaning (texts (drop i words)))
+IsReadTo meaning words i read =
+    all_of meaning (texts words) ≡ option_map (λ (others : List _). read ++ others)
+    (all_of meaning (texts (drop i words)))

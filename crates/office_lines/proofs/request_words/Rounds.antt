@@ -31,7 +31,8 @@ digits_model : IsNumeralModel HasDigits (digits_value 10)
 digits_model = numerals_by_value HasDigits digits_test
 
 -- `parse` of a word of 1 to 4 digits returns the number that they write
-pub round_read : {E : Type 0} (word : Text) (r : Result ℕ E) → ParsesUnsigned 16 10 word r → is_round_number word ≡ true → r ≡ Ok (digits_value 10 word)
+pub round_read : {E : Type 0} (word : Text) (r : Result ℕ E) → ParsesUnsigned 16 10 word r → is_round_number word ≡ true
+    → r ≡ Ok (digits_value 10 word)
 round_read word r parses is =
     let p = and_parts (is_in_range 1 4 (length word)) (list_all is_ascii_digit word) is in
     let long = in_range 1 4 (length word) p.0 in

@@ -1,5 +1,6 @@
 -- Databases that hold no office of an earlier version.
-use Rattle.std.proofs.Common.{◌≡◌, ◌⊎◌, ◌<◌, ◌≤◌, Decides, ℕ, ℤ, pos, Bool, true, false, IsTrue, codes, take, refl, sym, ap, ◌∙◌, subst, true≢false, inl, inr, arith}
+use Rattle.std.proofs.Common.{◌≡◌, ◌⊎◌, ◌<◌, ◌≤◌, Decides, ℕ, ℤ, pos, Bool, true, false, IsTrue, codes, take, refl, sym}
+use Rattle.std.proofs.Common.{ap, ◌∙◌, subst, true≢false, inl, inr, arith}
 use Rattle.sqlite_schema.specs.declared.schema.Schema.{Schema}
 use Rattle.sqlite_schema.specs.Names.{same_name}
 use Rattle.sqlite_catalog.specs.Change.{is_used}
@@ -13,13 +14,17 @@ use Rattle.office_db.specs.loading.Finding.{DeclaresTables, HoldsVersion}
 use Rattle.office_db.proofs.found_offices.Versions.{one_version}
 use Rattle.office_db.proofs.found_offices.Versions.{layout_states_version}
 use Rattle.office_db.specs.loading.FirstTables.{BeginsOffice}
-use Rattle.office_migration.specs.Causes.{AreEarlierRows, AreNoEarlierRows, BeginsAt, DeclaresVersion, HasCause, HoldsEarlier}
-use Rattle.office_migration.specs.Causes.{HoldsNoEarlier, IsAllowed, IsLaid, IsNameFault, IsVersionFault, HoldsEarlierFirst, LacksTable}
+use Rattle.office_migration.specs.Causes.{AreEarlierRows, AreNoEarlierRows, BeginsAt, DeclaresVersion, HasCause}
+use Rattle.office_migration.specs.Causes.{HoldsEarlier}
+use Rattle.office_migration.specs.Causes.{HoldsNoEarlier, IsAllowed, IsLaid, IsNameFault, IsVersionFault}
+use Rattle.office_migration.specs.Causes.{HoldsEarlierFirst, LacksTable}
 use Rattle.office_migration.specs.Names.{uses_missing_name, takes_name}
 use Rattle.office_migration.specs.Versions.{IsEarlier, IsNotEarlier}
 use Rattle.office_migration.specs.declared.migrating.MigrateFault.{MigrateFault}
-use Rattle.office_migration.specs.declared.migrating.MigrateFault.TheVariants.{Unavailable, OtherVersion, NotAnOffice, AlreadyThere}
-use Rattle.office_migration.proofs.earlier.First.{declares_first, declares_version, of_version, first_if_holds, first_is_laid, holds_if_first}
+use Rattle.office_migration.specs.declared.migrating.MigrateFault.TheVariants.{Unavailable, OtherVersion, NotAnOffice}
+use Rattle.office_migration.specs.declared.migrating.MigrateFault.TheVariants.{AlreadyThere}
+use Rattle.office_migration.proofs.earlier.First.{declares_first, declares_version, of_version, first_if_holds}
+use Rattle.office_migration.proofs.earlier.First.{first_is_laid, holds_if_first}
 
 -- In a layout of an earlier version, the names of the tables that it lacks are free.
 pub own_names_free : (layout : Layout) → IsEarlier (version_of layout)
@@ -98,7 +103,8 @@ pub declares_then : (schema start : Schema) (version : ℕ) (first second all : 
     → (version < 2 → all ≡ first) → (2 ≤ version → all ≡ second) → all ≡ true → DeclaresVersion version start
 declares_then schema start version first second all is same one two low high passes layout of_it =
     subst (DeclaresTables layout) same
-    (declares_version version layout schema is of_it (λ below. one.0 (sym (low below) ∙ passes)) (λ above. two.0 (sym (high above) ∙ passes)))
+    (declares_version version layout schema is of_it (λ below. one.0 (sym (low below) ∙ passes))
+    (λ above. two.0 (sym (high above) ∙ passes)))
 
 module _ (db : Database) (first_tables : BeginsOffice db.schema) where
   -- where there is not exactly one row in table `round`
@@ -115,22 +121,26 @@ module _ (db : Database) (first_tables : BeginsOffice db.schema) where
     held_one : (other : ℕ) → HoldsVersion db (pos other) → version ≡ other
     held_one other h = pos_injective version other (one_version db (pos version) (pos other) holds h)
 
-    same_version : (layout : Layout) (office : Office) → HoldsEarlierFirst layout db office → version_of layout ≡ version
+    same_version : (layout : Layout) (office : Office) → HoldsEarlierFirst layout db office
+        → version_of layout ≡ version
     same_version layout office h = pos_injective (version_of layout) version
         (one_version db (pos (version_of layout)) (pos version) (first_states_version layout db office h) holds)
 
     -- where the first tables are not the rows of an office of the version in the row of table `round`
-    pub none_first : BeginsAt version db.schema ⊎ IsLaid version db.schema ⊎ LacksTable version db.schema → AreNoEarlierRows version db → HoldsNoEarlier db
+    pub none_first : BeginsAt version db.schema ⊎ IsLaid version db.schema ⊎ LacksTable version db.schema
+        → AreNoEarlierRows version db → HoldsNoEarlier db
     none_first known none = record {
       first_tables = first_tables;
-      known = λ other earlier h. subst (λ v. BeginsAt v db.schema ⊎ IsLaid v db.schema ⊎ LacksTable v db.schema) (held_one other h) known;
+      known = λ other earlier h. subst (λ v. BeginsAt v db.schema ⊎ IsLaid v db.schema ⊎ LacksTable v db.schema)
+          (held_one other h) known;
       version = λ other none_earlier h. not_no version is_earlier
           (subst IsNotEarlier (one_version db other (pos version) h holds) none_earlier);
       none = λ layout office h. none layout (same_version layout office h) office h;
     }
 
     -- the cause for which such tables are refused if the name of a table that they lack is taken
-    pub name_cause : (fault : MigrateFault) → IsNameFault fault → DeclaresVersion version db.schema → IsTrue (uses_missing_name version db.schema)
+    pub name_cause : (fault : MigrateFault) → IsNameFault fault → DeclaresVersion version db.schema
+        → IsTrue (uses_missing_name version db.schema)
         → (fault ≡ NotAnOffice → BeginsAt version db.schema) → (fault ≡ NotAnOffice → AreNoEarlierRows version db)
         → (fault ≡ AlreadyThere → AreEarlierRows version db) → HasCause db fault
     name_cause Unavailable is declared taken known none rows = tt
@@ -146,7 +156,8 @@ module _ (db : Database) (first_tables : BeginsOffice db.schema) where
     }
 
     -- where a table of the version is absent or declared in another way
-    pub none_declared : ((layout : Layout) → version_of layout ≡ version → DeclaresTables layout db.schema → ⊥) → HoldsNoEarlier db
+    pub none_declared : ((layout : Layout) → version_of layout ≡ version → DeclaresTables layout db.schema → ⊥)
+        → HoldsNoEarlier db
     none_declared lacks =
         none_first
         (inr (inr (elim is_earlier [
@@ -162,7 +173,8 @@ module _ (db : Database) (first_tables : BeginsOffice db.schema) where
       none_in_layout none = none_first (inr (inl ((layout, has), free))) (λ other same office h.
           let here = subst (λ v. uses_missing_name v (schema_of layout) ≡ false) (sym same)
           (subst (λ (s : Schema). uses_missing_name version s ≡ false) has free) in
-          let tables = subst (λ (s : Schema). take (table_count other) s.tables ≡ (schema_of other).tables) has h.tables in
+          let tables =
+          subst (λ (s : Schema). take (table_count other) s.tables ≡ (schema_of other).tables) has h.tables in
           let is = first_is_laid layout other h.earlier here tables in
           none office (holds_if_first layout db office has (subst (λ l. HoldsEarlierFirst l db office) is h)))
 

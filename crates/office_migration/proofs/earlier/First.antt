@@ -1,5 +1,6 @@
 -- Tables of an earlier version with which a database begins.
-use Rattle.std.proofs.Common.{◌≡◌, ◌++◌, ◌<◌, ◌≤◌, ℕ, nat_lt, true, false, List, [], ◌∷◌, Contains, drop, take, length, slice_index_or, refl, sym, ap, ◌∙◌, subst, true≢false, inl, inr, arith}
+use Rattle.std.proofs.Common.{◌≡◌, ◌++◌, ◌<◌, ◌≤◌, ℕ, nat_lt, true, false, List, [], ◌∷◌, Contains, drop, take, length}
+use Rattle.std.proofs.Common.{slice_index_or, refl, sym, ap, ◌∙◌, subst, true≢false, inl, inr, arith}
 use Rattle.std.specs.List.{AllByRecursion}
 use Rattle.std.proofs.lemmas.Bool.{ltb-true}
 use Rattle.std.proofs.lemmas.List.{get_or_append_left, length-append, take-append-drop}
@@ -23,7 +24,8 @@ use Rattle.office_migration.specs.Causes.{HoldsEarlier, HoldsEarlierFirst}
 use Rattle.office_migration.specs.Names.{uses_missing_name}
 use Rattle.office_migration.specs.Versions.{IsEarlier}
 
-followed_begins_office : (layout : Layout) (tables : List Table) (indexes : List Index) → BeginsOffice (followed_by layout tables indexes)
+followed_begins_office : (layout : Layout) (tables : List Table) (indexes : List Index)
+    → BeginsOffice (followed_by layout tables indexes)
 followed_begins_office Own tables indexes = record { tables = refl; views = refl }
 followed_begins_office Documented tables indexes = record { tables = refl; views = refl }
 followed_begins_office DocumentedSecond tables indexes = record { tables = refl; views = refl }
@@ -88,11 +90,13 @@ pub one_first : (layout found : Layout) (schema : Schema) → IsEarlier (version
     → take (table_count layout) schema.tables ≡ (schema_of layout).tables → found ≡ layout
 one_first layout found schema is same begins tables =
     one_layout found layout
-    (sym (begins_tables found schema begins) ∙ ap (λ n. take n schema.tables) (same_count layout found is same) ∙ tables)
+    (sym (begins_tables found schema begins)
+    ∙ ap (λ n. take n schema.tables) (same_count layout found is same) ∙ tables)
 
 -- ---- tables that are declared
 
-there : (tables : List Table) (k : ℕ) (table : Table) → nat_lt k (length tables) ≡ true → slice_index_or tables k table ≡ table
+there : (tables : List Table) (k : ℕ) (table : Table) → nat_lt k (length tables) ≡ true
+    → slice_index_or tables k table ≡ table
     → Contains tables table
 there tables k table below is = (k, ltb-true k (length tables) below, is)
 
@@ -168,7 +172,10 @@ own_declares DocumentedSecond =
               (10, at 4 (word 10) refl refl),
               (
                 (12, at 5 (result 12) refl refl),
-                ((15, at 6 (move 15) refl refl), ((17, at 7 (list 17) refl refl), ((19, at 8 (grade 19) refl refl), tt))),
+                (
+                  (15, at 6 (move 15) refl refl),
+                  ((17, at 7 (list 17) refl refl), ((19, at 8 (grade 19) refl refl), tt)),
+                ),
               ),
             ),
           ),
@@ -217,7 +224,8 @@ own_declares EarlierFirst =
     )
 
 -- What the first tables declare, all declare.
-all_declare : (few all : Schema) → ((table : Table) → Contains few.tables table → Contains all.tables table) → (owns : List Table)
+all_declare : (few all : Schema) → ((table : Table) → Contains few.tables table → Contains all.tables table)
+    → (owns : List Table)
     → AllByRecursion (Declares few) owns → AllByRecursion (Declares all) owns
 all_declare few all more [] h = tt
 all_declare few all more (own ∷ owns) h =
@@ -232,7 +240,8 @@ contains_more xs ys x h =
     )
 
 -- A schema that begins with the tables of the layout declares them.
-pub declares_first : (layout : Layout) (schema : Schema) → take (table_count layout) schema.tables ≡ (schema_of layout).tables
+pub declares_first : (layout : Layout) (schema : Schema)
+    → take (table_count layout) schema.tables ≡ (schema_of layout).tables
     → DeclaresTables layout schema
 declares_first layout schema tables =
     all_declare (schema_of layout) schema
@@ -258,7 +267,8 @@ of_version version DocumentedSecond schema is same h = (λ low. absurd (omega (a
 of_version version DocumentedFirst schema is same h = (λ low. h, λ high. absurd (omega (arith, high, same)))
 of_version version EarlierFirst schema is same h = (λ low. h, λ high. absurd (omega (arith, high, same)))
 
-pub declares_version : (version : ℕ) (layout : Layout) (schema : Schema) → IsEarlier version → version_of layout ≡ version
+pub declares_version : (version : ℕ) (layout : Layout) (schema : Schema) → IsEarlier version
+    → version_of layout ≡ version
     → (version < 2 → DeclaresTables DocumentedFirst schema) → (2 ≤ version → DeclaresTables DocumentedSecond schema)
     → DeclaresTables layout schema
 declares_version version Own schema (inl e) same first second = absurd (omega (arith, e, same))

@@ -16,7 +16,8 @@ use Rattle.office_migration.proofs.earlier.First.{layout_begins_office, one_firs
 module _ (version : ℕ) (is : IsEarlier version) (db : Database) (layout : Layout)
     (begins : Begins layout db.schema) (of_it : version_of layout ≡ version) where
   -- An office of that version in the first tables is in the layout with whose tables the schema begins.
-  pub first_in_found : (other : Layout) (office : Office) → version_of other ≡ version → HoldsEarlierFirst other db office
+  pub first_in_found : (other : Layout) (office : Office) → version_of other ≡ version
+      → HoldsEarlierFirst other db office
       → HoldsEarlierFirst layout db office
   first_in_found other office same h =
       let one = one_first other layout db.schema (subst IsEarlier (sym of_it) is) (same ∙ sym of_it) begins h.tables in

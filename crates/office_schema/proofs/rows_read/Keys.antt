@@ -21,13 +21,19 @@ keys_of_entries : (keys : List Text) → map (λ e. e.0) (map key_entry keys) �
 keys_of_entries [] = refl
 keys_of_entries (k ∷ keys) = ap (λ l. k ∷ l) (keys_of_entries keys)
 
-entries_moved : (m : TextMap (Unit {0})) (rows : List Text) → IsPermutation (key_rows m) rows → IsPermutation (maps.entries m) (map key_entry rows)
-entries_moved m rows same = subst (λ l. IsPermutation l (map key_entry rows)) (entries_of_keys (maps.entries m)) (IsPermutation-map key_entry _ _ same)
+entries_moved : (m : TextMap (Unit {0})) (rows : List Text) → IsPermutation (key_rows m) rows
+    → IsPermutation (maps.entries m) (map key_entry rows)
+entries_moved m rows same =
+    subst (λ l. IsPermutation l (map key_entry rows)) (entries_of_keys (maps.entries m))
+    (IsPermutation-map key_entry _ _ same)
 
-keys_moved : (m : TextMap (Unit {0})) (rows : List Text) → IsPermutation (maps.entries m) (map key_entry rows) → IsPermutation (key_rows m) rows
-keys_moved m rows same = subst (IsPermutation (key_rows m)) (keys_of_entries rows) (IsPermutation-map (λ e. e.0) _ _ same)
+keys_moved : (m : TextMap (Unit {0})) (rows : List Text) → IsPermutation (maps.entries m) (map key_entry rows)
+    → IsPermutation (key_rows m) rows
+keys_moved m rows same =
+    subst (IsPermutation (key_rows m)) (keys_of_entries rows) (IsPermutation-map (λ e. e.0) _ _ same)
 
-keys_if_entries : (rows : List Text) (found : Option (TextMap (Unit {0}))) → Reads IsAny maps.entries (map key_entry rows) found → Reads IsAny key_rows rows found
+keys_if_entries : (rows : List Text) (found : Option (TextMap (Unit {0}))) → Reads IsAny maps.entries
+    (map key_entry rows) found → Reads IsAny key_rows rows found
 keys_if_entries rows None reads = record {
   returned = tt;
   only = λ m any same. reads.only m tt (entries_moved m rows same);
@@ -44,4 +50,5 @@ keys_filled rows = keys_if_entries rows _ (filled-reads (map key_entry rows))
 -- Sets with the same keys are equal.
 pub one_set : (m n : TextMap (Unit {0})) → IsPermutation (key_rows m) (key_rows n) → m ≡ n
 one_set m n same =
-    one_map nat_list_cmp_total exact_texts m n (subst (IsPermutation (maps.entries m)) (entries_of_keys (maps.entries n)) (entries_moved m (key_rows n) same))
+    one_map nat_list_cmp_total exact_texts m n
+    (subst (IsPermutation (maps.entries m)) (entries_of_keys (maps.entries n)) (entries_moved m (key_rows n) same))

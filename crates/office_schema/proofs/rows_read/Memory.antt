@@ -11,7 +11,8 @@ use Rattle.office_schema.specs.rows.Rows.{row_of_person, rows_of_people}
 use Rattle.office_schema.specs.rows.Tables.{rows_at}
 use Rattle.office_schema.specs.declared.rows.records.OfficeRecords.{OfficeRecords}
 
-pub allocates : (version : ℕ) (records : OfficeRecords) (office : Office) → AreRecordsOf (rows_at version office) records → soundness.Allocates office → Allocates version records
+pub allocates : (version : ℕ) (records : OfficeRecords) (office : Office)
+    → AreRecordsOf (rows_at version office) records → soundness.Allocates office → Allocates version records
 unfolding rows_at
 allocates version records office has takes = elim takes as (λ _. Allocates version records) [
   | inl noted ↦

@@ -1,5 +1,6 @@
 -- The only row of the round.
-use Rattle.std.proofs.Common.{◌≡◌, ◌≢◌, ℕ, List, [], ◌∷◌, length, Option, Some, None, refl, sym, ap, ◌∙◌, arith, IsPermutation}
+use Rattle.std.proofs.Common.{◌≡◌, ◌≢◌, ℕ, List, [], ◌∷◌, length, Option, Some, None, refl, sym, ap, ◌∙◌, arith}
+use Rattle.std.proofs.Common.{IsPermutation}
 use Rattle.std.specs.Prelude.{unwrap_or, slice_index_or}
 use Rattle.std.proofs.lemmas.List.Sorted.{IsPermutation-refl, length_permutation}
 use Rattle.office_schema.specs.rows.Rows.{IsOfVersion, only_row}
@@ -12,7 +13,8 @@ pub one_round : (m n : RoundRecord) → IsPermutation (only_row m) (only_row n) 
 one_round m n same = sym (permuted_all (λ x. x ≡ m) (m ∷ []) (n ∷ []) same (refl, tt)).0
 
 module _ (version : ℕ) where
-  pub one_row : (rows : List RoundRecord) (d : RoundRecord) → length rows ≡ 1 → (slice_index_or rows 0 d).version ≡ version
+  pub one_row : (rows : List RoundRecord) (d : RoundRecord) → length rows ≡ 1
+      → (slice_index_or rows 0 d).version ≡ version
       → Reads (IsOfVersion version) only_row rows (Some (slice_index_or rows 0 d))
   one_row [] d e own = absurd (omega (arith, e))
   one_row (r ∷ []) d e own = record {
@@ -21,7 +23,8 @@ module _ (version : ℕ) where
   }
   one_row (r ∷ s ∷ rows) d e own = absurd (omega (arith, e))
 
-  pub row_of_other : (rows : List RoundRecord) (d : RoundRecord) → length rows ≡ 1 → (slice_index_or rows 0 d).version ≢ version
+  pub row_of_other : (rows : List RoundRecord) (d : RoundRecord) → length rows ≡ 1
+      → (slice_index_or rows 0 d).version ≢ version
       → Reads (IsOfVersion version) only_row rows None
   row_of_other [] d e other = absurd (omega (arith, e))
   row_of_other (r ∷ []) d e other = record {

@@ -1,5 +1,6 @@
 -- CREATE TABLE and DROP TABLE of each table of an office, in each layout.
-use Rattle.std.proofs.Common.{◌≡◌, ℕ, List, [], ◌∷◌, cond, slice_get, Option, Some, None, Ok, false, codes, refl, sym, ap, ◌∙◌, subst}
+use Rattle.std.proofs.Common.{◌≡◌, ℕ, List, [], ◌∷◌, cond, slice_get, Option, Some, None, Ok, false, codes, refl, sym}
+use Rattle.std.proofs.Common.{ap, ◌∙◌, subst}
 use Rattle.std.proofs.lemmas.Bool.{MatchBool-at_false}
 use Rattle.sqlite_schema.specs.declared.schema.Schema.{Schema}
 use Rattle.sqlite_schema.specs.declared.schema.Table.{Table}
@@ -35,26 +36,31 @@ pub record IsDeclaredBy (text : List ℕ) (before after : Schema) (table : Table
   pub added : created before table ≡ after
   pub uncounted : lacks_sequence after ≡ false
 
-module _ (text : List ℕ) (before after : Schema) (table : Table) (it : IsDeclaredBy text before after table) (old new : State) where
+module _ (text : List ℕ) (before after : Schema) (table : Table) (it : IsDeclaredBy text before after table)
+    (old new : State) where
   -- the effect of CREATE TABLE on the tables
   pub adds : (count : ℕ) → old.now.schema ≡ before → Executes text [] old new (Ok count) → Adds table old.now new.now
   adds count has h =
-      let w = subst (λ t. Writes old new None CreateTable t [] count) it.whole (runs_as text [] old new before has CreateTable it.is it.plain count h) in
+      let w = subst (λ t. Writes old new None CreateTable t [] count) it.whole
+      (runs_as text [] old new before has CreateTable it.is it.plain count h) in
       let all = continued w.changed in
       let first = continued all.1 in
       let made = first.1 in
       let both : Ok made.table ≡ Ok table = sym made.defined ∙ it.defined in
       let same : made.table ≡ table = cc in
       let schema_is : first.0.schema ≡ created old.now.schema table = made.is ∙ ap (created old.now.schema) same in
-      let uncounted : lacks_sequence first.0.schema ≡ false = ap lacks_sequence (schema_is ∙ ap (λ s. created s table) has ∙ it.added) ∙ it.uncounted in
-      let now : new.now ≡ first.0 = ap (λ (p : Tally × Database). p.1) (same_value all.2) ∙ same_value (rw uncounted at first.2) in
+      let uncounted : lacks_sequence first.0.schema ≡ false =
+      ap lacks_sequence (schema_is ∙ ap (λ s. created s table) has ∙ it.added) ∙ it.uncounted in
+      let now : new.now ≡ first.0 = ap (λ (p : Tally × Database). p.1) (same_value all.2)
+      ∙ same_value (rw uncounted at first.2) in
       record {
         schema = ap (λ (d : Database). d.schema) now ∙ schema_is;
         empty = ap (λ (d : Database). d.trees (next_tree old.now.schema)) now ∙ made.empty;
         others = subst (λ (d : Database). KeepsRows old.now.schema.tables old.now.trees d.trees) (sym now) made.others;
       }
 
-  pub gains : (HasCleanDisk new → HasRun text [] old new) → ChangesSchema before after before.tables (record table { tree = next_tree before } ∷ []) old new
+  pub gains : (HasCleanDisk new → HasRun text [] old new) → ChangesSchema before after before.tables
+      (record table { tree = next_tree before } ∷ []) old new
   gains runs = record {
     shown = λ clean has.
         let a = adds (runs clean).count has (runs clean).ran in (
@@ -76,17 +82,22 @@ pub record IsDroppedBy (text : List ℕ) (before after : Schema) (place : ℕ) (
   pub uncounted : table.is_counted ≡ false
   pub left : without_table before table.tree ≡ after
 
-module _ (text : List ℕ) (before after : Schema) (place : ℕ) (table : Table) (it : IsDroppedBy text before after place table) (old new : State) where
+module _ (text : List ℕ) (before after : Schema) (place : ℕ) (table : Table)
+    (it : IsDroppedBy text before after place table) (old new : State) where
   abbrev task : Schema → Table → Task
   task schema t = record { limit = old.step_limit; keys = Enforced; schema = schema; table = t; params = [] }
 
-  drop_runs : (tally : Tally) → old.now.schema ≡ before → Does old.step_limit (mode_of old) [] old.now (statement_of text (understood before text)) None (DropTable place) (Ok (tally, new.now))
+  drop_runs : (tally : Tally) → old.now.schema ≡ before → Does old.step_limit (mode_of old) [] old.now
+      (statement_of text (understood before text)) None (DropTable place) (Ok (tally, new.now))
       → Drops (task before table) (mode_of old) old.now.trees (Ok (tally, new.now))
   drop_runs tally has does =
-      subst (λ (o : Option Table). AtPlace (λ t. Drops (task before t) (mode_of old) old.now.trees) o (Ok (tally, new.now))) it.found
-      (subst (λ (s : Schema). AtPlace (λ t. Drops (task s t) (mode_of old) old.now.trees) (slice_get s.tables place) (Ok (tally, new.now))) has does)
+      subst (λ (o : Option Table). AtPlace (λ t. Drops (task before t) (mode_of old) old.now.trees) o
+      (Ok (tally, new.now))) it.found
+      (subst (λ (s : Schema). AtPlace (λ t. Drops (task s t) (mode_of old) old.now.trees) (slice_get s.tables place)
+      (Ok (tally, new.now))) has does)
 
-  lost : (count : ℕ) → old.now.schema ≡ before → Executes text [] old new (Ok count) → (new.now.schema ≡ after) × KeepsRows after.tables old.now.trees new.now.trees
+  lost : (count : ℕ) → old.now.schema ≡ before → Executes text [] old new (Ok count) → (new.now.schema ≡ after)
+      × KeepsRows after.tables old.now.trees new.now.trees
   lost count has h =
       let w = runs_as text [] old new before has (DropTable place) it.is it.plain count h in
       let emptied = continued (drop_runs w.tally has w.changed) in
@@ -94,7 +105,10 @@ module _ (text : List ℕ) (before after : Schema) (place : ℕ) (table : Table)
       let tested = continued uncounted.2 in
       let left = continued tested.2 in
       let first : emptied.0 ≡ old.now.trees = same_value (MatchBool-at_false _ _ it.unmoved emptied.1) in
-      let second : uncounted.0 ≡ emptied.0 = same_value (subst (λ b. UncountsIn (task before table) emptied.0 (cond b (sequence before) None) (Ok uncounted.0)) it.uncounted uncounted.1) in
+      let second : uncounted.0 ≡ emptied.0 =
+      same_value
+      (subst (λ b. UncountsIn (task before table) emptied.0 (cond b (sequence before) None) (Ok uncounted.0))
+      it.uncounted uncounted.1) in
       let now : new.now ≡ left.0 = ap (λ (p : Tally × Database). p.1) (same_value left.2) in
       let kept = subst (λ (s : Schema). KeepsRows s.tables uncounted.0 left.0.trees) it.left left.1.1 in (
         ap (λ (d : Database). d.schema) now ∙ left.1.0 ∙ it.left,
@@ -118,11 +132,13 @@ room_declared = record { is = refl; whole = refl; defined = refl; plain = (refl,
 
 pub person_declared : IsDeclaredBy schema.person_text (first_tables 1) (first_tables 2) (schema.person 0)
 unfolding understood everything
-person_declared = record { is = refl; whole = refl; defined = refl; plain = (refl, refl); added = refl; uncounted = refl }
+person_declared =
+    record { is = refl; whole = refl; defined = refl; plain = (refl, refl); added = refl; uncounted = refl }
 
 pub round_declared : IsDeclaredBy schema.round_text (first_tables 2) (first_tables 3) (schema.round 0)
 unfolding understood everything
-round_declared = record { is = refl; whole = refl; defined = refl; plain = (refl, refl); added = refl; uncounted = refl }
+round_declared =
+    record { is = refl; whole = refl; defined = refl; plain = (refl, refl); added = refl; uncounted = refl }
 
 pub move_declared : IsDeclaredBy schema.move_text (first_tables 3) (first_tables 4) (schema.move 0)
 unfolding understood everything
@@ -134,7 +150,8 @@ list_declared = record { is = refl; whole = refl; defined = refl; plain = (refl,
 
 pub grade_declared : IsDeclaredBy schema.grade_text (first_tables 5) (first_tables 6) (schema.grade 0)
 unfolding understood everything
-grade_declared = record { is = refl; whole = refl; defined = refl; plain = (refl, refl); added = refl; uncounted = refl }
+grade_declared =
+    record { is = refl; whole = refl; defined = refl; plain = (refl, refl); added = refl; uncounted = refl }
 
 pub word_declared : IsDeclaredBy schema.word_text (first_tables 6) (first_tables 7) (schema.word 0)
 unfolding understood everything
@@ -142,92 +159,130 @@ word_declared = record { is = refl; whole = refl; defined = refl; plain = (refl,
 
 pub result_declared : IsDeclaredBy schema.result_text (first_tables 7) (first_tables 8) (schema.result 0)
 unfolding understood everything
-result_declared = record { is = refl; whole = refl; defined = refl; plain = (refl, refl); added = refl; uncounted = refl }
+result_declared =
+    record { is = refl; whole = refl; defined = refl; plain = (refl, refl); added = refl; uncounted = refl }
 
 pub choice_declared : IsDeclaredBy schema.choice_text (first_tables 8) (first_tables 9) (schema.choice 0)
 unfolding understood everything
-choice_declared = record { is = refl; whole = refl; defined = refl; plain = (refl, refl); added = refl; uncounted = refl }
+choice_declared =
+    record { is = refl; whole = refl; defined = refl; plain = (refl, refl); added = refl; uncounted = refl }
 
 pub going_declared : IsDeclaredBy schema.going_text (first_tables 9) (first_tables 10) (schema.going 0)
 unfolding understood everything
-going_declared = record { is = refl; whole = refl; defined = refl; plain = (refl, refl); added = refl; uncounted = refl }
+going_declared =
+    record { is = refl; whole = refl; defined = refl; plain = (refl, refl); added = refl; uncounted = refl }
 
 -- ---- the statement that drops each table, the last one first, in each order
 
 pub own_move_dropped : IsDroppedBy (drop_table_text (codes "move")) (first_tables 4) (first_tables 3) 3 (schema.move 7)
 unfolding understood everything
-own_move_dropped = record { is = refl; plain = (refl, refl); found = refl; unmoved = refl; uncounted = refl; left = refl }
+own_move_dropped =
+    record { is = refl; plain = (refl, refl); found = refl; unmoved = refl; uncounted = refl; left = refl }
 
 pub own_list_dropped : IsDroppedBy (drop_table_text (codes "list")) (first_tables 5) (first_tables 4) 4 (schema.list 9)
 unfolding understood everything
-own_list_dropped = record { is = refl; plain = (refl, refl); found = refl; unmoved = refl; uncounted = refl; left = refl }
+own_list_dropped =
+    record { is = refl; plain = (refl, refl); found = refl; unmoved = refl; uncounted = refl; left = refl }
 
-pub own_grade_dropped : IsDroppedBy (drop_table_text (codes "grade")) (first_tables 6) (first_tables 5) 5 (schema.grade 11)
+pub own_grade_dropped : IsDroppedBy (drop_table_text (codes "grade")) (first_tables 6) (first_tables 5) 5
+    (schema.grade 11)
 unfolding understood everything
-own_grade_dropped = record { is = refl; plain = (refl, refl); found = refl; unmoved = refl; uncounted = refl; left = refl }
+own_grade_dropped =
+    record { is = refl; plain = (refl, refl); found = refl; unmoved = refl; uncounted = refl; left = refl }
 
 pub own_word_dropped : IsDroppedBy (drop_table_text (codes "word")) (first_tables 7) (first_tables 6) 6 (schema.word 13)
 unfolding understood everything
-own_word_dropped = record { is = refl; plain = (refl, refl); found = refl; unmoved = refl; uncounted = refl; left = refl }
+own_word_dropped =
+    record { is = refl; plain = (refl, refl); found = refl; unmoved = refl; uncounted = refl; left = refl }
 
-pub own_result_dropped : IsDroppedBy (drop_table_text (codes "result")) (first_tables 8) (first_tables 7) 7 (schema.result 15)
+pub own_result_dropped : IsDroppedBy (drop_table_text (codes "result")) (first_tables 8) (first_tables 7) 7
+    (schema.result 15)
 unfolding understood everything
-own_result_dropped = record { is = refl; plain = (refl, refl); found = refl; unmoved = refl; uncounted = refl; left = refl }
+own_result_dropped =
+    record { is = refl; plain = (refl, refl); found = refl; unmoved = refl; uncounted = refl; left = refl }
 
-pub own_choice_dropped : IsDroppedBy (drop_table_text (codes "choice")) (first_tables 9) (first_tables 8) 8 (schema.choice 18)
+pub own_choice_dropped : IsDroppedBy (drop_table_text (codes "choice")) (first_tables 9) (first_tables 8) 8
+    (schema.choice 18)
 unfolding understood everything
-own_choice_dropped = record { is = refl; plain = (refl, refl); found = refl; unmoved = refl; uncounted = refl; left = refl }
+own_choice_dropped =
+    record { is = refl; plain = (refl, refl); found = refl; unmoved = refl; uncounted = refl; left = refl }
 
-pub own_going_dropped : IsDroppedBy (drop_table_text (codes "going")) (first_tables 10) (first_tables 9) 9 (schema.going 21)
+pub own_going_dropped : IsDroppedBy (drop_table_text (codes "going")) (first_tables 10) (first_tables 9) 9
+    (schema.going 21)
 unfolding understood everything
-own_going_dropped = record { is = refl; plain = (refl, refl); found = refl; unmoved = refl; uncounted = refl; left = refl }
+own_going_dropped =
+    record { is = refl; plain = (refl, refl); found = refl; unmoved = refl; uncounted = refl; left = refl }
 
-pub documented_choice_dropped : IsDroppedBy (drop_table_text (codes "choice")) (documented_tables 4) (documented_tables 3) 3 (schema.choice 7)
+pub documented_choice_dropped : IsDroppedBy (drop_table_text (codes "choice")) (documented_tables 4)
+    (documented_tables 3) 3 (schema.choice 7)
 unfolding understood everything
-documented_choice_dropped = record { is = refl; plain = (refl, refl); found = refl; unmoved = refl; uncounted = refl; left = refl }
+documented_choice_dropped =
+    record { is = refl; plain = (refl, refl); found = refl; unmoved = refl; uncounted = refl; left = refl }
 
-pub documented_word_dropped : IsDroppedBy (drop_table_text (codes "word")) (documented_tables 5) (documented_tables 4) 4 (schema.word 10)
+pub documented_word_dropped : IsDroppedBy (drop_table_text (codes "word")) (documented_tables 5) (documented_tables 4) 4
+    (schema.word 10)
 unfolding understood everything
-documented_word_dropped = record { is = refl; plain = (refl, refl); found = refl; unmoved = refl; uncounted = refl; left = refl }
+documented_word_dropped =
+    record { is = refl; plain = (refl, refl); found = refl; unmoved = refl; uncounted = refl; left = refl }
 
-pub documented_result_dropped : IsDroppedBy (drop_table_text (codes "result")) (documented_tables 6) (documented_tables 5) 5 (schema.result 12)
+pub documented_result_dropped : IsDroppedBy (drop_table_text (codes "result")) (documented_tables 6)
+    (documented_tables 5) 5 (schema.result 12)
 unfolding understood everything
-documented_result_dropped = record { is = refl; plain = (refl, refl); found = refl; unmoved = refl; uncounted = refl; left = refl }
+documented_result_dropped =
+    record { is = refl; plain = (refl, refl); found = refl; unmoved = refl; uncounted = refl; left = refl }
 
-pub documented_move_dropped : IsDroppedBy (drop_table_text (codes "move")) (documented_tables 7) (documented_tables 6) 6 (schema.move 15)
+pub documented_move_dropped : IsDroppedBy (drop_table_text (codes "move")) (documented_tables 7) (documented_tables 6) 6
+    (schema.move 15)
 unfolding understood everything
-documented_move_dropped = record { is = refl; plain = (refl, refl); found = refl; unmoved = refl; uncounted = refl; left = refl }
+documented_move_dropped =
+    record { is = refl; plain = (refl, refl); found = refl; unmoved = refl; uncounted = refl; left = refl }
 
-pub documented_list_dropped : IsDroppedBy (drop_table_text (codes "list")) (documented_tables 8) (documented_tables 7) 7 (schema.list 17)
+pub documented_list_dropped : IsDroppedBy (drop_table_text (codes "list")) (documented_tables 8) (documented_tables 7) 7
+    (schema.list 17)
 unfolding understood everything
-documented_list_dropped = record { is = refl; plain = (refl, refl); found = refl; unmoved = refl; uncounted = refl; left = refl }
+documented_list_dropped =
+    record { is = refl; plain = (refl, refl); found = refl; unmoved = refl; uncounted = refl; left = refl }
 
-pub documented_grade_dropped : IsDroppedBy (drop_table_text (codes "grade")) (documented_tables 9) (documented_tables 8) 8 (schema.grade 19)
+pub documented_grade_dropped : IsDroppedBy (drop_table_text (codes "grade")) (documented_tables 9)
+    (documented_tables 8) 8 (schema.grade 19)
 unfolding understood everything
-documented_grade_dropped = record { is = refl; plain = (refl, refl); found = refl; unmoved = refl; uncounted = refl; left = refl }
+documented_grade_dropped =
+    record { is = refl; plain = (refl, refl); found = refl; unmoved = refl; uncounted = refl; left = refl }
 
-pub documented_going_dropped : IsDroppedBy (drop_table_text (codes "going")) (documented_tables 10) (documented_tables 9) 9 (schema.going 21)
+pub documented_going_dropped : IsDroppedBy (drop_table_text (codes "going")) (documented_tables 10)
+    (documented_tables 9) 9 (schema.going 21)
 unfolding understood everything
-documented_going_dropped = record { is = refl; plain = (refl, refl); found = refl; unmoved = refl; uncounted = refl; left = refl }
+documented_going_dropped =
+    record { is = refl; plain = (refl, refl); found = refl; unmoved = refl; uncounted = refl; left = refl }
 
-pub earlier_move_dropped : IsDroppedBy (drop_table_text (codes "move")) (earlier_tables 4) (earlier_tables 3) 3 (schema.move 7)
+pub earlier_move_dropped : IsDroppedBy (drop_table_text (codes "move")) (earlier_tables 4) (earlier_tables 3) 3
+    (schema.move 7)
 unfolding understood everything
-earlier_move_dropped = record { is = refl; plain = (refl, refl); found = refl; unmoved = refl; uncounted = refl; left = refl }
+earlier_move_dropped =
+    record { is = refl; plain = (refl, refl); found = refl; unmoved = refl; uncounted = refl; left = refl }
 
-pub earlier_list_dropped : IsDroppedBy (drop_table_text (codes "list")) (earlier_tables 5) (earlier_tables 4) 4 (schema.list 9)
+pub earlier_list_dropped : IsDroppedBy (drop_table_text (codes "list")) (earlier_tables 5) (earlier_tables 4) 4
+    (schema.list 9)
 unfolding understood everything
-earlier_list_dropped = record { is = refl; plain = (refl, refl); found = refl; unmoved = refl; uncounted = refl; left = refl }
+earlier_list_dropped =
+    record { is = refl; plain = (refl, refl); found = refl; unmoved = refl; uncounted = refl; left = refl }
 
-pub earlier_word_dropped : IsDroppedBy (drop_table_text (codes "word")) (earlier_tables 6) (earlier_tables 5) 5 (schema.word 11)
+pub earlier_word_dropped : IsDroppedBy (drop_table_text (codes "word")) (earlier_tables 6) (earlier_tables 5) 5
+    (schema.word 11)
 unfolding understood everything
-earlier_word_dropped = record { is = refl; plain = (refl, refl); found = refl; unmoved = refl; uncounted = refl; left = refl }
+earlier_word_dropped =
+    record { is = refl; plain = (refl, refl); found = refl; unmoved = refl; uncounted = refl; left = refl }
 
-pub earlier_result_dropped : IsDroppedBy (drop_table_text (codes "result")) (earlier_tables 7) (earlier_tables 6) 6 (schema.result 13)
+pub earlier_result_dropped : IsDroppedBy (drop_table_text (codes "result")) (earlier_tables 7) (earlier_tables 6) 6
+    (schema.result 13)
 unfolding understood everything
-earlier_result_dropped = record { is = refl; plain = (refl, refl); found = refl; unmoved = refl; uncounted = refl; left = refl }
+earlier_result_dropped =
+    record { is = refl; plain = (refl, refl); found = refl; unmoved = refl; uncounted = refl; left = refl }
 
-pub earlier_choice_dropped : IsDroppedBy (drop_table_text (codes "choice")) (earlier_tables 8) (earlier_tables 7) 7 (schema.choice 16)
+pub earlier_choice_dropped : IsDroppedBy (drop_table_text (codes "choice")) (earlier_tables 8) (earlier_tables 7) 7
+    (schema.choice 16)
 unfolding understood everything
-earlier_choice_dropped = record { is = refl; plain = (refl, refl); found = refl; unmoved = refl; uncounted = refl; left = refl }
+earlier_choice_dropped =
+    record { is = refl; plain = (refl, refl); found = refl; unmoved = refl; uncounted = refl; left = refl }
 
 -- ---- one statement after another

@@ -9,7 +9,8 @@ use Rattle.sqlite.proofs.InsideLemmas.{keeps_then}
 use Rattle.office_schema.specs.tables.Steps.{Follows, IsIntact, StaysInside, SeesTheSame, RollsBack, IsUndone}
 
 pub follows-refl : (a : State) → Follows a a
-follows-refl a = record { clean = λ h. h; was_open = λ h o. o; counts = omega arith; limit = refl; closes = λ h o. inl o }
+follows-refl a =
+    record { clean = λ h. h; was_open = λ h o. o; counts = omega arith; limit = refl; closes = λ h o. inl o }
 
 pub follows_then : (a b c : State) → Follows a b → Follows b c → Follows a c
 follows_then a b c p q = record {
@@ -61,7 +62,8 @@ pub undone_none : (a : State) → IsUndone a a
 undone_none a intact = inl (refl, refl)
 
 -- what the engine guarantees for a statement that it refused, or that failed
-pub undone_by : (held : ℕ) (sql : List ℕ) (params : Row) (e : Error) (old new : State) → ExecutesInside held sql params old new (Err e) → IsUndone old new
+pub undone_by : (held : ℕ) (sql : List ℕ) (params : Row) (e : Error) (old new : State)
+    → ExecutesInside held sql params old new (Err e) → IsUndone old new
 undone_by held sql params e old new h intact = elim h [
   | inl failed ↦ either failed.1
   | inr refused ↦ either (inl refused.2)

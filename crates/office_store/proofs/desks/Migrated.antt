@@ -21,13 +21,15 @@ use Rattle.office_store.specs.Migrating.{IsFaultOfMigration, MayNotMigrate, migr
 use Rattle.office_store.specs.declared.desk.faults.DeskFault.TheVariants.{AlreadyThere}
 
 -- A fault that a migration may return is one that the desk may return.
-pub may_not_migrate : (db : Database) (fault : MigrateFault) → HasCause db fault → MayNotMigrate db (migrating_fault fault)
+pub may_not_migrate : (db : Database) (fault : MigrateFault) → HasCause db fault
+    → MayNotMigrate db (migrating_fault fault)
 may_not_migrate db migrate.Unavailable cause = tt
 may_not_migrate db (migrate.OtherVersion version) cause = cause
 may_not_migrate db migrate.NotAnOffice cause = cause
 may_not_migrate db migrate.AlreadyThere cause = cause
 
-pub fault_of_migration : (schema : Schema) (fault : MigrateFault) → IsAllowed schema fault → IsFaultOfMigration schema (migrating_fault fault)
+pub fault_of_migration : (schema : Schema) (fault : MigrateFault) → IsAllowed schema fault
+    → IsFaultOfMigration schema (migrating_fault fault)
 fault_of_migration schema migrate.Unavailable allowed = tt
 fault_of_migration schema (migrate.OtherVersion version) allowed = allowed
 fault_of_migration schema migrate.NotAnOffice allowed = allowed
@@ -41,13 +43,18 @@ only_there migrate.NotAnOffice e = absurd (cc)
 only_there migrate.AlreadyThere e = refl
 
 -- The rows of any version are those of this one, except for the version in the row of table `round`.
-pub well_formed_as_own : (version : ℕ) (office : Office) → IsWellFormed (rows_at version office) → IsWellFormed (rows_of office)
+pub well_formed_as_own : (version : ℕ) (office : Office) → IsWellFormed (rows_at version office)
+    → IsWellFormed (rows_of office)
 unfolding rows_at
 well_formed_as_own version office well_formed =
-    let row = All-head IsRoundRow (round_shown (record { version = version; number = office.number; phase = office.phase })) [] well_formed.rounds in record {
+    let row =
+    All-head IsRoundRow (round_shown (record { version = version; number = office.number; phase = office.phase }))
+    [] well_formed.rounds in record {
       rooms = well_formed.rooms;
       people = well_formed.people;
-      rounds = All-cons IsRoundRow (round_shown (record { version = own_version; number = office.number; phase = office.phase })) [] ((own_version, refl, omega arith), row.1, row.2) (All-nil IsRoundRow);
+      rounds = All-cons IsRoundRow
+          (round_shown (record { version = own_version; number = office.number; phase = office.phase })) []
+          ((own_version, refl, omega arith), row.1, row.2) (All-nil IsRoundRow);
       choices = well_formed.choices;
       words = well_formed.words;
       results = well_formed.results;
@@ -57,7 +64,8 @@ well_formed_as_own version office well_formed =
       going = well_formed.going;
     }
 
-pub shows_migrated : {S : Type 0} (g : Ghosts S) (new : Held S) (version : ℕ) (office : Office) → IsIntact (state g new) → IsLawful office → IsWellFormed (rows_at version office)
+pub shows_migrated : {S : Type 0} (g : Ghosts S) (new : Held S) (version : ℕ) (office : Office) → IsIntact (state g new)
+    → IsLawful office → IsWellFormed (rows_at version office)
     → HoldsOffice (state g new).now office → Shows g (record { conn = new; cached = Some office }) office
 shows_migrated g new version office intact lawful well_formed holds = record {
   is_open = intact.1;

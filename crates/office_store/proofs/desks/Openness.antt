@@ -1,5 +1,6 @@
 -- What the empty statement says of the connection of a desk.
-use Rattle.std.proofs.Common.{◌≡◌, ℕ, List, [], Bool, true, false, Option, Result, Ok, Err, IfOk, IsTrue, refl, sym, ◌∙◌, subst, inl, inr, arith}
+use Rattle.std.proofs.Common.{◌≡◌, ℕ, List, [], Bool, true, false, Option, Result, Ok, Err, IfOk, IsTrue, refl, sym}
+use Rattle.std.proofs.Common.{◌∙◌, subst, inl, inr, arith}
 use Rattle.sqlite_value.specs.Order.{Row}
 use Rattle.sqlite_trees.specs.declared.error.StoreError.{StoreError}
 use Rattle.sqlite_trees.specs.declared.error.StoreError.TheVariants.{OutOfMemory, Io, Corrupt, Full, Broken, Unstorable}
@@ -8,7 +9,8 @@ use Rattle.sqlite.specs.Held.{Held, state}
 use Rattle.sqlite.specs.declared.error.Error.{Error}
 use Rattle.sqlite.specs.declared.error.Error.TheVariants.{SqliteFailure}
 use Rattle.sqlite.specs.declared.error.ErrorCode.TheVariants as code
-use Rattle.sqlite.specs.State.{State, HasCleanDisk, HasCause, Survives, FailsToQuery, IsNoStatement, IsNotRun, IsUnchanged, store_error}
+use Rattle.sqlite.specs.State.{State, HasCleanDisk, HasCause, Survives, FailsToQuery, IsNoStatement, IsNotRun}
+use Rattle.sqlite.specs.State.{IsUnchanged, store_error}
 use Rattle.office_state.specs.declared.office.Office.{Office}
 use Rattle.office_schema.specs.tables.Crashes.{ShowsCommitted}
 use Rattle.office_schema.proofs.statements.Crashes.{survives_nothing_new}
@@ -27,7 +29,8 @@ module _ (sql : List ℕ) (params : Row) (old new : State) where
   not_refused (inr (c, is, inr (inr h))) = cc (h.1)
 
   -- Of the failures of a store, only that of a closed one is reported so.
-  closed_by : (cause : StoreError) → SqliteFailure code.Closed ≡ store_error cause → HasCause old new ⊥ cause → old.is_open ≡ false
+  closed_by : (cause : StoreError) → SqliteFailure code.Closed ≡ store_error cause → HasCause old new ⊥ cause
+      → old.is_open ≡ false
   closed_by OutOfMemory e h = absurd (cc (e))
   closed_by Io e h = absurd (cc (e))
   closed_by Corrupt e h = absurd (cc (e))
@@ -63,9 +66,12 @@ module _ (sql : List ℕ) (params : Row) (old new : State) where
   reads_not_run : Survives old new (λ _. ⊥) → (e : Error) → ShowsCommitted old
       → (HasCleanDisk new → IsNotRun old new sql params e) → OnlyReads old new
   unfolding FailsToQuery
-  reads_not_run survives e settled failed = reads_failed sql params old new (λ _. ⊥) survives (survives_nothing_new old new survives) e settled (λ clean. inl (failed clean))
+  reads_not_run survives e settled failed =
+      reads_failed sql params old new (λ _. ⊥) survives (survives_nothing_new old new survives) e settled
+      (λ clean. inl (failed clean))
 
-module _ {S : Type 0} (g : Ghosts S) (old new : Held S) (cached : Option Office) (survives : Survives (state g old) (state g new) (λ _. ⊥)) where
+module _ {S : Type 0} (g : Ghosts S) (old new : Held S) (cached : Option Office)
+    (survives : Survives (state g old) (state g new) (λ _. ⊥)) where
   -- what the desk says if its connection prepared the empty statement
   pub tells_open : ShowsCommitted (state g new) → (HasCleanDisk (state g new) → IsUnchanged (state g old) (state g new))
       → TellsIfOpen g (record { conn = old; cached = cached }) (Ok true) (record { conn = new; cached = cached })
@@ -76,7 +82,9 @@ module _ {S : Type 0} (g : Ghosts S) (old new : Held S) (cached : Option Office)
         committed = committed;
         cached = refl;
         right = λ clean. sym (same clean).0.is_open;
-        represents = λ clean office represents. represents_still g old new cached office clean reads.keeps.follows reads.keeps.same represents;
+        represents =
+            λ clean office represents. represents_still g old new cached office clean reads.keeps.follows
+            reads.keeps.same represents;
       }
 
   -- what the desk says if its connection did not prepare it
@@ -91,12 +99,18 @@ module _ {S : Type 0} (g : Ghosts S) (old new : Held S) (cached : Option Office)
         committed = committed;
         cached = refl;
         right = λ clean. right_of answer said clean (reads.keeps.follows.was_open clean);
-        represents = λ clean office represents. represents_still g old new cached office clean reads.keeps.follows reads.keeps.same represents;
+        represents =
+            λ clean office represents. represents_still g old new cached office clean reads.keeps.follows
+            reads.keeps.same represents;
       }
     where
-      right_of : (answer : Result Bool NoAnswer) → IfOk answer (λ is_open. (is_open ≡ false) × (e ≡ SqliteFailure code.Closed))
-          → HasCleanDisk (state g new) → (IsTrue (state g new).is_open → IsTrue (state g old).is_open) → IfOk answer (λ is_open. is_open ≡ (state g new).is_open)
+      right_of : (answer : Result Bool NoAnswer)
+          → IfOk answer (λ is_open. (is_open ≡ false) × (e ≡ SqliteFailure code.Closed))
+          → HasCleanDisk (state g new) → (IsTrue (state g new).is_open → IsTrue (state g old).is_open)
+          → IfOk answer (λ is_open. is_open ≡ (state g new).is_open)
       right_of (Err fault) said clean was = tt
       right_of (Ok is_open) said clean was =
-          let shut = was_closed [] [] (state g old) (state g new) (subst (λ x. IsNotRun (state g old) (state g new) [] [] x) said.1 (failed clean [])) in
+          let shut =
+          was_closed [] [] (state g old) (state g new)
+          (subst (λ x. IsNotRun (state g old) (state g new) [] [] x) said.1 (failed clean [])) in
           said.0 ∙ sym (stays_closed [] [] (state g old) (state g new) (state g new).is_open was shut)

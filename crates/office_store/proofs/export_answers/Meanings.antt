@@ -31,7 +31,8 @@ person_names = codes "id" ∷ codes "name" ∷ codes "home" ∷ []
 
 pub people_meant : Means queries.people_text queries.people_query person_names
 unfolding understood everything
-people_meant = record { is = refl; plain = (refl, refl); unlisted = refl; asks = selects_only_ask queries.people_text tt }
+people_meant =
+    record { is = refl; plain = (refl, refl); unlisted = refl; asks = selects_only_ask queries.people_text tt }
 
 abbrev pub move_names : List (List ℕ)
 move_names = codes "round" ∷ codes "person" ∷ codes "from_room" ∷ codes "to_room" ∷ codes "wave" ∷ []
@@ -45,4 +46,5 @@ grade_names = codes "id" ∷ codes "value" ∷ []
 
 pub grades_meant : Means queries.grades_text queries.grades_query grade_names
 unfolding understood everything
-grades_meant = record { is = refl; plain = (refl, refl); unlisted = refl; asks = selects_only_ask queries.grades_text tt }
+grades_meant =
+    record { is = refl; plain = (refl, refl); unlisted = refl; asks = selects_only_ask queries.grades_text tt }

@@ -1,5 +1,6 @@
 -- The answer to the query for moves is their export.
-use Rattle.std.proofs.Common.{◌≡◌, ◌<◌, ℕ, ℤ, pos, List, [], ◌∷◌, map, flat_map, Option, Some, None, Equal, Less, refl, sym, ap, ◌∙◌, subst, IsPermutation}
+use Rattle.std.proofs.Common.{◌≡◌, ◌<◌, ℕ, ℤ, pos, List, [], ◌∷◌, map, flat_map, Option, Some, None, Equal, Less, refl}
+use Rattle.std.proofs.Common.{sym, ap, ◌∙◌, subst, IsPermutation}
 use Rattle.std.specs.Ordering.{nat_cmp, ordering_then}
 use Rattle.std.specs.Cmp.{tied_itself}
 use Rattle.std.specs.List.{AllByRecursion}
@@ -13,7 +14,8 @@ use Rattle.sqlite_value.proofs.OrderLemmas.{value_cmp-Int}
 use Rattle.sqlite_sql.specs.Term.{col}
 use Rattle.sqlite_sql.specs.Query.{Output, inner, end, matches, output, output_cmp}
 use Rattle.sqlite_trees.specs.Tree.{IsAscending}
-use Rattle.sqlite_keyed.proofs.ListLemmas.{map-map, map_same, all-map, all-append, all_weaker, ascending-append, ascending-map, ascending_weaker}
+use Rattle.sqlite_keyed.proofs.ListLemmas.{map-map, map_same, all-map, all-append, all_weaker, ascending-append}
+use Rattle.sqlite_keyed.proofs.ListLemmas.{ascending-map, ascending_weaker}
 use Rattle.sqlite_keyed.proofs.KeyedLemmas.{Less-from_lt}
 use Rattle.sqlite.specs.Effect.{Answers, Database}
 use Rattle.room_types.specs.Texts.{Text as Bytes, text_cmp}
@@ -58,9 +60,11 @@ number_same : (a : ℕ) → value_cmp (Int (pos a)) (Int (pos a)) ≡ Equal
 number_same a = value_cmp-Int (pos a) (pos a) ∙ tied_itself int_cmp_total (pos a)
 
 earlier_round : (a b : Move) → nat_cmp a.round b.round ≡ Less → Before a b
-earlier_round a b less = ap (λ o. ordering_then o (ordering_then (value_cmp (Text a.person) (Text b.person)) Equal)) (number_before a.round b.round less)
+earlier_round a b less = ap (λ o. ordering_then o (ordering_then (value_cmp (Text a.person) (Text b.person)) Equal))
+    (number_before a.round b.round less)
 
-earlier_person : (round : ℕ) (a b : Bytes × Moved) → text_cmp a.0 b.0 ≡ Less → Before (row_of_move round a) (row_of_move round b)
+earlier_person : (round : ℕ) (a b : Bytes × Moved) → text_cmp a.0 b.0 ≡ Less → Before (row_of_move round a)
+    (row_of_move round b)
 earlier_person round a b less =
     ap (λ o. ordering_then o (ordering_then (value_cmp (Text a.0) (Text b.0)) Equal)) (number_same round)
     ∙ text_before a.0 b.0 Equal less
@@ -68,29 +72,37 @@ earlier_person round a b less =
 round_rises : (e : ℕ × RoundMoves) → IsAscending Before (round_rows e)
 round_rises e =
     ascending-map Before (row_of_move e.0) (maps.entries e.1.by_person)
-    (ascending_weaker (λ a b. text_cmp a.0 b.0 ≡ Less) (λ a b. Before (row_of_move e.0 a) (row_of_move e.0 b)) (earlier_person e.0) (maps.entries e.1.by_person) (entries_rise text_cmp e.1.by_person))
+    (ascending_weaker (λ a b. text_cmp a.0 b.0 ≡ Less) (λ a b. Before (row_of_move e.0 a) (row_of_move e.0 b))
+    (earlier_person e.0) (maps.entries e.1.by_person) (entries_rise text_cmp e.1.by_person))
 
 of_round : (e : ℕ × RoundMoves) → AllByRecursion (λ x. x.round ≡ e.0) (round_rows e)
 of_round e = all-map (λ x. x.round ≡ e.0) (row_of_move e.0) (λ _. refl) (maps.entries e.1.by_person)
 
-later_rounds : (round : ℕ) (es : List (ℕ × RoundMoves)) → AllByRecursion (λ e. nat_cmp round e.0 ≡ Less) es → AllByRecursion (λ x. nat_cmp round x.round ≡ Less) (flat_map round_rows es)
+later_rounds : (round : ℕ) (es : List (ℕ × RoundMoves)) → AllByRecursion (λ e. nat_cmp round e.0 ≡ Less) es
+    → AllByRecursion (λ x. nat_cmp round x.round ≡ Less) (flat_map round_rows es)
 later_rounds round [] above = tt
 later_rounds round (e ∷ es) above =
     all-append (λ (x : Move). nat_cmp round x.round ≡ Less) (round_rows e) (flat_map round_rows es)
-    (all_weaker (λ (x : Move). x.round ≡ e.0) (λ (x : Move). nat_cmp round x.round ≡ Less) (λ x same. ap (nat_cmp round) same ∙ above.0) (round_rows e) (of_round e))
+    (all_weaker (λ (x : Move). x.round ≡ e.0) (λ (x : Move). nat_cmp round x.round ≡ Less)
+    (λ x same. ap (nat_cmp round) same ∙ above.0) (round_rows e) (of_round e))
     (later_rounds round es above.1)
 
-rounds_rise : (es : List (ℕ × RoundMoves)) → IsAscending (λ a b. nat_cmp a.0 b.0 ≡ Less) es → IsAscending Before (flat_map round_rows es)
+rounds_rise : (es : List (ℕ × RoundMoves)) → IsAscending (λ a b. nat_cmp a.0 b.0 ≡ Less) es
+    → IsAscending Before (flat_map round_rows es)
 rounds_rise [] up = tt
 rounds_rise (e ∷ es) up =
     ascending-append Before (round_rows e) (flat_map round_rows es) (round_rises e) (rounds_rise es up.1)
     (all_weaker (λ (x : Move). x.round ≡ e.0) (λ x. AllByRecursion (Before x) (flat_map round_rows es))
-    (λ x same. all_weaker (λ (y : Move). nat_cmp e.0 y.round ≡ Less) (Before x) (λ y less. earlier_round x y (ap (λ n. nat_cmp n y.round) same ∙ less)) (flat_map round_rows es) (later_rounds e.0 es up.0))
+    (λ x same. all_weaker (λ (y : Move). nat_cmp e.0 y.round ≡ Less) (Before x)
+    (λ y less. earlier_round x y (ap (λ n. nat_cmp n y.round) same ∙ less)) (flat_map round_rows es)
+    (later_rounds e.0 es up.0))
     (round_rows e) (of_round e))
 
 outs_rise : (moves : RoundMap RoundMoves)
-    → Rises (inner 7 end) (col 1 1 ∷ col 1 2 ∷ col 1 3 ∷ col 1 4 ∷ col 1 5 ∷ []) (up (col 1 1) ∷ up (col 1 2) ∷ []) (map out (rows_of_moves moves))
-outs_rise moves = ascending-map (λ a b. output_cmp moves_query a b ≡ Less) out (rows_of_moves moves) (rounds_rise (maps.entries moves) (entries_rise nat_cmp moves))
+    → Rises (inner 7 end) (col 1 1 ∷ col 1 2 ∷ col 1 3 ∷ col 1 4 ∷ col 1 5 ∷ []) (up (col 1 1) ∷ up (col 1 2) ∷ [])
+    (map out (rows_of_moves moves))
+outs_rise moves = ascending-map (λ a b. output_cmp moves_query a b ≡ Less) out (rows_of_moves moves)
+    (rounds_rise (maps.entries moves) (entries_rise nat_cmp moves))
 
 -- what is shown of all rows of the table
 outs_are : (rows : List Row) (records : List Move) (h : Holds move_columns rows records)
@@ -117,16 +129,19 @@ move_again x = ap move_fields (go x.from x.to x.wave)
     go (Some f) (Some t) Swap = refl
     go (Some f) (Some t) (Nth n) = refl
 
-moves_answer : (db : Database) (office : Office) (rows : List Row) → HoldsOffice db office → IsLawful office → Answers db (alone moves_query) [] rows
+moves_answer : (db : Database) (office : Office) (rows : List Row) → HoldsOffice db office → IsLawful office
+    → Answers db (alone moves_query) [] rows
     → header_of Moves ∷ map move_record rows ≡ exported Moves office
 unfolding rows_at
 moves_answer db office rows holds lawful h =
     let held = holds.rows.moves in
     let records = rows_of_moves office.moves in
     let all : IsPermutation (map out records) (map (output moves_query) (matches db.trees [] (inner 7 end) ([] ∷ []))) =
-    subst (IsPermutation (map out records)) (sym (ap (map (output moves_query)) (one_table db.trees 7) ∙ outs_are (db.trees 7) records held))
+    subst (IsPermutation (map out records))
+    (sym (ap (map (output moves_query)) (one_table db.trees 7) ∙ outs_are (db.trees 7) records held))
     (IsPermutation-map out _ _ held.same) in
-    let is = answer_is (inner 7 end) (col 1 1 ∷ col 1 2 ∷ col 1 3 ∷ col 1 4 ∷ col 1 5 ∷ []) (up (col 1 1) ∷ up (col 1 2) ∷ []) db rows (map out records) h all (outs_rise office.moves) in
+    let is = answer_is (inner 7 end) (col 1 1 ∷ col 1 2 ∷ col 1 3 ∷ col 1 4 ∷ col 1 5 ∷ [])
+    (up (col 1 1) ∷ up (col 1 2) ∷ []) db rows (map out records) h all (outs_rise office.moves) in
     ap (λ l. header_of Moves ∷ l)
     (ap (map move_record) (is ∙ map-map (λ (o : Output). o.1) out records)
     ∙ map-map move_record move_columns records

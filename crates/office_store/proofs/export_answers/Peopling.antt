@@ -1,5 +1,6 @@
 -- The answer to the query for people is their export.
-use Rattle.std.proofs.Common.{◌≡◌, ℤ, List, [], ◌∷◌, map, Option, Some, None, Equal, Less, refl, sym, ap, ◌∙◌, subst, IsPermutation}
+use Rattle.std.proofs.Common.{◌≡◌, ℤ, List, [], ◌∷◌, map, Option, Some, None, Equal, Less, refl, sym, ap, ◌∙◌, subst}
+use Rattle.std.proofs.Common.{IsPermutation}
 use Rattle.std.specs.FinMap as maps
 use Rattle.std.proofs.lemmas.List.Sorted.{IsPermutation-map}
 use Rattle.sqlite_value.specs.Order.{Row}
@@ -45,35 +46,47 @@ outs_are rows records h =
     ∙ sym (map-map out (λ (e : ℤ × PersonRecord). e.1) h.entries)
 
 outs_rise : (people : TextMap Person) (withdrawn : TextMap (Unit {0}))
-    → Rises (inner 2 end) (col 1 1 ∷ col 1 2 ∷ col 1 4 ∷ []) (up (col 1 1) ∷ []) (map out (rows_of_people people withdrawn))
+    → Rises (inner 2 end) (col 1 1 ∷ col 1 2 ∷ col 1 4 ∷ []) (up (col 1 1) ∷ [])
+    (map out (rows_of_people people withdrawn))
 outs_rise people withdrawn =
     ascending-map (λ a b. output_cmp people_query a b ≡ Less) out (rows_of_people people withdrawn)
-    (ascending-map (λ a b. output_cmp people_query (out a) (out b) ≡ Less) (row_of_person withdrawn) (maps.entries people)
-    (ascending_weaker (λ a b. text_cmp a.0 b.0 ≡ Less) (λ a b. output_cmp people_query (out (row_of_person withdrawn a)) (out (row_of_person withdrawn b)) ≡ Less)
+    (ascending-map (λ a b. output_cmp people_query (out a) (out b) ≡ Less) (row_of_person withdrawn)
+    (maps.entries people)
+    (ascending_weaker (λ a b. text_cmp a.0 b.0 ≡ Less)
+    (λ a b. output_cmp people_query (out (row_of_person withdrawn a)) (out (row_of_person withdrawn b)) ≡ Less)
     (λ a b less. text_before a.0 b.0 Equal less) (maps.entries people) (entries_rise text_cmp people)))
 
-shown_again : (withdrawn : TextMap (Unit {0})) (e : Bytes × Person) → person_record ((out (row_of_person withdrawn e)).1) ≡ person_fields (people.row_of_person e)
+shown_again : (withdrawn : TextMap (Unit {0})) (e : Bytes × Person)
+    → person_record ((out (row_of_person withdrawn e)).1) ≡ person_fields (people.person_row e)
 shown_again withdrawn e = go e.1.home
   where
-    go : (home : Option Bytes) → person_record (Text e.0 ∷ Text e.1.name ∷ text_or_null home ∷ []) ≡ person_fields (record { person = e.0; name = e.1.name; home = home })
+    go : (home : Option Bytes) → person_record (Text e.0 ∷ Text e.1.name ∷ text_or_null home ∷ []) ≡ person_fields
+        (record { person = e.0; name = e.1.name; home = home })
     go None = refl
     go (Some room) = refl
 
-people_answer : (db : Database) (office : Office) (rows : List Row) → HoldsOffice db office → IsLawful office → Answers db (alone people_query) [] rows
+people_answer : (db : Database) (office : Office) (rows : List Row) → HoldsOffice db office → IsLawful office
+    → Answers db (alone people_query) [] rows
     → header_of People ∷ map person_record rows ≡ exported People office
 unfolding rows_at
 people_answer db office rows holds lawful h =
     let held = holds.rows.people in
     let records = rows_of_people office.people office.withdrawn in
-    let all : IsPermutation (map out records) (map (output people_query) (matches db.trees [] (inner 2 end) ([] ∷ []))) =
-    subst (IsPermutation (map out records)) (sym (ap (map (output people_query)) (one_table db.trees 2) ∙ outs_are (db.trees 2) records held))
+    let all : IsPermutation (map out records)
+    (map (output people_query) (matches db.trees [] (inner 2 end) ([] ∷ []))) =
+    subst (IsPermutation (map out records))
+    (sym (ap (map (output people_query)) (one_table db.trees 2) ∙ outs_are (db.trees 2) records held))
     (IsPermutation-map out _ _ held.same) in
-    let is = answer_is (inner 2 end) (col 1 1 ∷ col 1 2 ∷ col 1 4 ∷ []) (up (col 1 1) ∷ []) db rows (map out records) h all (outs_rise office.people office.withdrawn) in
+    let is = answer_is (inner 2 end) (col 1 1 ∷ col 1 2 ∷ col 1 4 ∷ []) (up (col 1 1) ∷ []) db rows
+    (map out records) h all (outs_rise office.people office.withdrawn) in
     ap (λ l. header_of People ∷ l)
-    (ap (map person_record) (is ∙ map-map (λ (o : Output). o.1) out records ∙ map-map (λ x. (out x).1) (row_of_person office.withdrawn) (maps.entries office.people))
+    (ap (map person_record)
+    (is ∙ map-map (λ (o : Output). o.1) out records ∙ map-map (λ x. (out x).1) (row_of_person office.withdrawn)
+    (maps.entries office.people))
     ∙ map-map person_record (λ e. (out (row_of_person office.withdrawn e)).1) (maps.entries office.people)
-    ∙ map_same _ (λ e. person_fields (people.row_of_person e)) (shown_again office.withdrawn) (maps.entries office.people)
-    ∙ sym (map-map person_fields people.row_of_person (maps.entries office.people)))
+    ∙ map_same _ (λ e. person_fields (people.person_row e)) (shown_again office.withdrawn)
+    (maps.entries office.people)
+    ∙ sym (map-map person_fields people.person_row (maps.entries office.people)))
 
 pub people_exported_by_query : AsksForExport People people_text person_record
 people_exported_by_query = record {

@@ -1,5 +1,6 @@
 -- At most one person lives in a room.
-use Rattle.std.proofs.Common.{◌≡◌, Bool, true, false, List, [], ◌∷◌, map, filter, cond, Option, Some, None, refl, sym, ap, ◌∙◌, subst, IsPermutation, arith, option_to_list, Equal, Less}
+use Rattle.std.proofs.Common.{◌≡◌, Bool, true, false, List, [], ◌∷◌, map, filter, cond, Option, Some, None, refl, sym}
+use Rattle.std.proofs.Common.{ap, ◌∙◌, subst, IsPermutation, arith, option_to_list, Equal, Less}
 use Rattle.std.specs.Cmp.{tied_itself}
 use Rattle.std.specs.Cmp.Lexicographic.{nat_list_cmp_total}
 use Rattle.std.specs.List.{AllByRecursion}
@@ -35,7 +36,8 @@ module _ (people : TextMap Person) (code : Text) (differ : Unshared (λ p. p.hom
   IsFound e = had_by (λ p. p.home) people e.0 ≡ e.1.home
 
   -- Nobody after the person who lives there lives there too.
-  no_other : (e : Text × Person) (es : List (Text × Person)) → IsFound e → lives e ≡ true → AllByRecursion (λ f. text_cmp e.0 f.0 ≡ Less) es → AllByRecursion IsFound es
+  no_other : (e : Text × Person) (es : List (Text × Person)) → IsFound e → lives e ≡ true
+      → AllByRecursion (λ f. text_cmp e.0 f.0 ≡ Less) es → AllByRecursion IsFound es
       → AllByRecursion (λ f. lives f ≡ false) es
   no_other e [] found here above all = tt
   no_other e (f ∷ es) found here above all = (go (lives f) refl, no_other e es found here above.1 all.1)
@@ -43,7 +45,8 @@ module _ (people : TextMap Person) (code : Text) (differ : Unshared (λ p. p.hom
       go : (b : Bool) → lives f ≡ b → lives f ≡ false
       go false h = h
       go true h =
-          let same : e.0 ≡ f.0 = differ e.0 f.0 code (found ∙ held-is_text e.1.home code here) (all.0 ∙ held-is_text f.1.home code h) in
+          let same : e.0 ≡ f.0 = differ e.0 f.0 code (found ∙ held-is_text e.1.home code here)
+          (all.0 ∙ held-is_text f.1.home code h) in
           let tied : text_cmp e.0 f.0 ≡ Equal = ap (λ k. text_cmp k f.0) same ∙ tied_itself nat_list_cmp_total f.0 in
           absurd (let clash : Equal ≡ Less = sym tied ∙ above.0 in cc)
 
@@ -52,8 +55,10 @@ module _ (people : TextMap Person) (code : Text) (differ : Unshared (λ p. p.hom
   one_lives [] up all = refl
   one_lives (e ∷ es) up all = go (lives e) refl (one_lives es up.1 all.1)
     where
-      go : (b : Bool) → lives e ≡ b → map (λ (f : Text × Person). f.0) (filter lives es) ≡ option_to_list (first_person (lives_in code) es)
-          → map (λ (f : Text × Person). f.0) (cond (lives e) (e ∷ filter lives es) (filter lives es)) ≡ option_to_list (cond (lives e) (Some e.0) (first_person (lives_in code) es))
+      go : (b : Bool) → lives e ≡ b → map (λ (f : Text × Person). f.0) (filter lives es) ≡ option_to_list
+          (first_person (lives_in code) es)
+          → map (λ (f : Text × Person). f.0) (cond (lives e) (e ∷ filter lives es) (filter lives es)) ≡ option_to_list
+          (cond (lives e) (Some e.0) (first_person (lives_in code) es))
       go true h more = rw (h, filter_none lives es (no_other e es all.0 h up.0 all.1)) refl
       go false h more = rw h more
 
@@ -64,12 +69,17 @@ module _ (people : TextMap Person) (code : Text) (differ : Unshared (λ p. p.hom
       (maps.entries people) (entries_found nat_list_cmp_total exact_texts (maps.entries people) (entries_sorted people))
 
   -- Among the rows of all people, in any order, those of the people who live there name the tenant.
-  pub tenant_named : (withdrawn : TextMap (Unit {0})) (rows : List PersonRecord) → IsPermutation (rows_of_people people withdrawn) rows
-      → map (λ (x : PersonRecord). x.id) (filter (λ (x : PersonRecord). is_text x.person.home code) rows) ≡ option_to_list (holder (λ p. p.home) people code)
+  pub tenant_named : (withdrawn : TextMap (Unit {0})) (rows : List PersonRecord)
+      → IsPermutation (rows_of_people people withdrawn) rows
+      → map (λ (x : PersonRecord). x.id)
+      (filter (λ (x : PersonRecord). is_text x.person.home code) rows) ≡ option_to_list
+      (holder (λ p. p.home) people code)
   tenant_named withdrawn rows same =
       let test : PersonRecord → Bool = λ x. is_text x.person.home code in
-      let named : map (λ (x : PersonRecord). x.id) (filter test (rows_of_people people withdrawn)) ≡ option_to_list (holder (λ p. p.home) people code) =
+      let named : map (λ (x : PersonRecord). x.id) (filter test (rows_of_people people withdrawn)) ≡ option_to_list
+      (holder (λ p. p.home) people code) =
       ap (map (λ (x : PersonRecord). x.id)) (filter-map test (row_of_person withdrawn) (maps.entries people))
       ∙ map-map (λ (x : PersonRecord). x.id) (row_of_person withdrawn) (filter lives (maps.entries people))
       ∙ one_lives (maps.entries people) (entries_rise text_cmp people) each_found in
-      few _ _ (subst (λ l. IsPermutation l (map (λ (x : PersonRecord). x.id) (filter test rows))) named (IsPermutation-map (λ (x : PersonRecord). x.id) _ _ (IsPermutation-filter test _ _ same)))
+      few _ _ (subst (λ l. IsPermutation l (map (λ (x : PersonRecord). x.id) (filter test rows))) named
+      (IsPermutation-map (λ (x : PersonRecord). x.id) _ _ (IsPermutation-filter test _ _ same)))

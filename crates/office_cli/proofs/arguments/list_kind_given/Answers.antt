@@ -7,4 +7,5 @@ use Rattle.office_cli.proofs.arguments.list_kind_given.Goals as goal
 
 pub returns : goal.returns
 returns c =
-    kind_is c.in_ok-text.field-0.now c.named.result c.named.ensures ∙ ap (λ (name : Option Text). option_and_then list_kind_named name) c.in_ok-text.ensures
+    kind_is c.in_ok-text.field-0.now c.named.result c.named.ensures
+    ∙ ap (λ (name : Option Text). option_and_then list_kind_named name) c.in_ok-text.ensures

@@ -12,7 +12,8 @@ returns-in-Err-flush-clause-exports g c =
       reads = sent.reads;
       written = inl (formed.0, Prints-unflushed _ _ _ _ formed.1 flush.bytes flush.taken (flush.failed ∙ or-true _));
       done = λ clean office represents. (
-        inl (Prints-unflushed _ _ _ _ (sent.whole clean office represents) flush.bytes flush.taken (flush.failed ∙ or-true _)),
+        inl (Prints-unflushed _ _ _ _ (sent.whole clean office represents) flush.bytes flush.taken
+            (flush.failed ∙ or-true _)),
         sent.same clean office represents,
       );
     }
@@ -24,7 +25,12 @@ returns-in-Err-clause-exports g c =
       reads = end.reads;
       written = inr (refl, end.flushes, c.in-Err._end, end.counted, end.between, end.failed);
       done = λ clean office represents. (
-        inr (refl, end.flushes, ends_early _ c.in-Err._end _ _ (end.prefix clean office represents) (end.short clean office represents) end.failed),
+        inr (
+          refl,
+          end.flushes,
+          ends_early _ c.in-Err._end _ _ (end.prefix clean office represents)
+              (end.short clean office represents) end.failed,
+        ),
         end.same clean office represents,
       );
     }

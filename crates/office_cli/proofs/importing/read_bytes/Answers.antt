@@ -25,7 +25,8 @@ returns-in-Err-extend_from_slice-clause-cannot_read g c =
         bytes ++ came,
         omega arith,
         omega arith,
-        one_more_read g.R.Source.reads bytes _ c.read.new.buf c.in-Ok.n _ _ _ held.called read.called (omega arith) (omega arith),
+        one_more_read g.R.Source.reads bytes _ c.read.new.buf c.in-Ok.n _ _ _ held.called read.called (omega arith)
+            (omega arith),
         Consumes-trans _ _ _ _ _ held.consumed read.bytes.0,
       );
     }
@@ -44,10 +45,13 @@ reads-preserved g c =
     let ended = read.ended in
     let failed = read.failed in
     let stored : c.extend_from_slice.new.self.items ≡ bytes ++ came =
-    c.in-Ok-extend_from_slice.ensures.items ∙ ap (λ l. bytes ++ l) (take-append-le c.in-Ok.n c.read.new.buf _ (omega arith)) in
+    c.in-Ok-extend_from_slice.ensures.items
+    ∙ ap (λ l. bytes ++ l) (take-append-le c.in-Ok.n c.read.new.buf _ (omega arith)) in
     let size : length c.extend_from_slice.new.self.items ≡ length bytes + length came = ap length stored ∙ joined in
     record {
-      called = rw stored (one_more_read g.R.Source.reads bytes _ c.read.new.buf c.in-Ok.n _ _ _ held.called read.called (omega arith) (omega arith));
+      called = rw stored
+          (one_more_read g.R.Source.reads bytes _ c.read.new.buf c.in-Ok.n _ _ _ held.called read.called (omega arith)
+          (omega arith));
       consumed = rw stored (Consumes-trans _ _ _ _ _ held.consumed read.bytes.0);
       bounded = omega arith;
       count = omega arith;

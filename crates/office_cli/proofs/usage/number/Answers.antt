@@ -14,7 +14,8 @@ from_least least = grind (arith, nat_tests)
 up_to_most : (all most : ℕ) → most ≤ all → int_min (pos all) (pos most) ≡ pos most
 up_to_most all most within = grind (arith, nat_tests)
 
-between : (least most : ℕ) → least < 2 ^ 32 → signed_between (pos least) (pos most) ≡ parser.Signed (pos least) (pos most)
+between : (least most : ℕ) → least < 2 ^ 32 → signed_between (pos least) (pos most) ≡ parser.Signed
+    (pos least) (pos most)
 between least most fits = grind (arith, nat_tests)
 
 pub returns-clause-rule : goal.returns-clause-rule
@@ -22,9 +23,15 @@ returns-clause-rule c =
     let least = c.args.least in
     let most = c.args.most in
     let numbers = c.new-numbers.result in
-    let low : range_inclusive_start numbers ≡ pos least = c.new-numbers.ensures.start ∙ to_z-of_z {w = w64} (search rules) ∙ c.from.ensures in
-    let high : range_inclusive_end numbers ≡ pos most = c.new-numbers.ensures.end ∙ to_z-of_z {w = w64} (search rules) ∙ c.from-2.ensures in
+    let low : range_inclusive_start numbers ≡ pos least =
+    c.new-numbers.ensures.start ∙ to_z-of_z {w = w64} (search rules) ∙ c.from.ensures in
+    let high : range_inclusive_end numbers ≡ pos most = c.new-numbers.ensures.end ∙ to_z-of_z {w = w64} (search rules)
+    ∙ c.from-2.ensures in
     let narrow = rw (c.value_parser.ensures, low, high) at c.range.ensures in
-    let bounds = ap₂ signed_between (from_least least) (up_to_most 4294967295 most (omega arith)) ∙ between least most (omega arith) in
-    let parser : c.value_parser-2.result.value_parser ≡ Some (parser.Signed (pos least) (pos most)) = c.value_parser-2.ensures.given.1 ∙ ap (λ (p : ValueParser). Some p) (c.value_parser-2.ensures.given.2 ∙ narrow ∙ bounds) in
-    ap rule_of c.value_parser-2.ensures.others ∙ ap₂ (λ (rule : Rule) (p : Option ValueParser). record rule { parser = p }) c.option.ensures.rule parser
+    let bounds = ap₂ signed_between (from_least least) (up_to_most 4294967295 most (omega arith))
+    ∙ between least most (omega arith) in
+    let parser : c.value_parser-2.result.value_parser ≡ Some (parser.Signed (pos least) (pos most)) =
+    c.value_parser-2.ensures.given.1
+    ∙ ap (λ (p : ValueParser). Some p) (c.value_parser-2.ensures.given.2 ∙ narrow ∙ bounds) in
+    ap rule_of c.value_parser-2.ensures.others
+    ∙ ap₂ (λ (rule : Rule) (p : Option ValueParser). record rule { parser = p }) c.option.ensures.rule parser

@@ -6,6 +6,8 @@ use Rattle.office_cli.proofs.usage.option.Goals as goal
 pub returns-clause-rule : goal.returns-clause-rule
 returns-clause-rule c =
     let name = c.args.name.now in
-    let long : rule_of c.long.result ≡ record (new_rule name) { long = Some name } = ap rule_of c.long.ensures ∙ ap (λ (r : Rule). record r { long = Some name }) c.new.ensures.rule in
-    let action : rule_of c.action.result ≡ record (new_rule name) { long = Some name; action = Some Set } = ap rule_of c.action.ensures ∙ ap (λ (r : Rule). record r { action = Some Set }) long in
+    let long : rule_of c.long.result ≡ record (new_rule name) { long = Some name } =
+    ap rule_of c.long.ensures ∙ ap (λ (r : Rule). record r { long = Some name }) c.new.ensures.rule in
+    let action : rule_of c.action.result ≡ record (new_rule name) { long = Some name; action = Some Set } =
+    ap rule_of c.action.ensures ∙ ap (λ (r : Rule). record r { action = Some Set }) long in
     ap rule_of c.required.ensures ∙ ap (λ (r : Rule). record r { required = true }) action

@@ -6,4 +6,5 @@ use Rattle.office_cli.proofs.word_lines.lines_of.Given as goal
 
 -- the lines so far, followed by those of the remaining words, are all lines
 abbrev pub invariant-loop-word : goal.invariant-loop-word
-invariant-loop-word l = string_bytes l.text ++ flat_map word_line (drop l.word-index l.words) ≡ flat_map word_line l.words
+invariant-loop-word l =
+    string_bytes l.text ++ flat_map word_line (drop l.word-index l.words) ≡ flat_map word_line l.words

@@ -13,4 +13,6 @@ some_wanted (suc count) stream some = omega arith
 pub returns-clause-memory : goal.returns-clause-memory
 returns-clause-memory c =
     let are = c.as_slice.ensures.value ∙ c.in_ok-words.ensures.words in
-    on_err_weaker c.lines_of.result (λ some. some_wanted c.args.count (stream_of_seed c.args.seed) (subst (λ (words : List ℕ). 0 < length words) are some)) c.lines_of.ensures.memory
+    on_err_weaker c.lines_of.result
+    (λ some. some_wanted c.args.count (stream_of_seed c.args.seed)
+    (subst (λ (words : List ℕ). 0 < length words) are some)) c.lines_of.ensures.memory

@@ -13,4 +13,5 @@ returns-clause-blank g c =
 pub returns-clause-cause : goal.returns-clause-cause
 returns-clause-cause g c =
     let opened = IsOpenedOver (image_at g.S.Start) in
-    create_fault over_files opened opened (λ _ _ _. ⊤) (λ _ _ _. ⊤) c.new-files.result c.create_in.new.files _ c.create_in.result c.create_in.ensures.cause
+    create_fault over_files opened opened (λ _ _ _. ⊤) (λ _ _ _. ⊤) c.new-files.result c.create_in.new.files _
+    c.create_in.result c.create_in.ensures.cause

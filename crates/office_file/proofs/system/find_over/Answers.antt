@@ -13,4 +13,5 @@ returns-clause-shows g c =
 pub returns-clause-cause : goal.returns-clause-cause
 returns-clause-cause g c =
     let opened = IsOpenedOver (image_at g.S.Start) in
-    file_fault over_files opened opened (λ _ _ _. ⊤) (λ _ _ _. ⊤) c.new-files.result c.find_in.new.files _ c.find_in.result c.find_in.ensures.cause
+    file_fault over_files opened opened (λ _ _ _. ⊤) (λ _ _ _. ⊤) c.new-files.result c.find_in.new.files _
+    c.find_in.result c.find_in.ensures.cause

@@ -13,4 +13,5 @@ returns-clause-shows g c =
 pub returns-clause-cause : goal.returns-clause-cause
 returns-clause-cause g c =
     let opened = IsOpenedOver (image_at g.S.Start) in
-    migrate_fault over_files opened opened (λ _ _ _. ⊤) (λ _ _ _. ⊤) c.new-files.result c.migrate_in.new.files _ c.migrate_in.result c.migrate_in.ensures.cause
+    migrate_fault over_files opened opened (λ _ _ _. ⊤) (λ _ _ _. ⊤) c.new-files.result c.migrate_in.new.files _
+    c.migrate_in.result c.migrate_in.ensures.cause

@@ -7,5 +7,7 @@ use Rattle.office_lines.proofs.line.words_of.Goals as goal
 pub returns : goal.returns
 returns c =
     map_from_collect _ c.collect.ensures.ran (YieldsList-from_filter _ has_bytes
-    (YieldsList-at c.filter.ensures.source (YieldsList-from_str_split 32 c.args.text.now (lit< tt) c.split.ensures.text c.split.ensures.has_more c.split.ensures.pattern))
+    (YieldsList-at c.filter.ensures.source
+    (YieldsList-from_str_split 32 c.args.text.now (lit< tt) c.split.ensures.text c.split.ensures.has_more
+    c.split.ensures.pattern))
     c.filter.ensures.closure (λ x b q k. search (rules, tests)))

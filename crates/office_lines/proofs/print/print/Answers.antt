@@ -9,4 +9,9 @@ returns-in-Err-flush-clause-prints g c =
     let text = c.args.text.now in
     let whole : take (length text) text ≡ text = take_all (length text) text (omega arith) in
     let sent = rw c.as_bytes.ensures.value at c.in-Ok.ensures.sent in
-    inr (refl, c.in-Err-flush.ensures.failed ∙ or-true _, length text, rw whole (Puts-kept _ _ _ _ sent c.in-Err-flush.ensures.bytes c.in-Err-flush.ensures.taken))
+    inr (
+      refl,
+      c.in-Err-flush.ensures.failed ∙ or-true _,
+      length text,
+      rw whole (Puts-kept _ _ _ _ sent c.in-Err-flush.ensures.bytes c.in-Err-flush.ensures.taken),
+    )

@@ -1,6 +1,7 @@
 use Rattle.std.proofs.Common.{◌≡◌, ◌*◌, ◌^◌, ◌≤◌, length}
 use Rattle.room_types.specs.Streams.{output_of}
-use Rattle.room_types.specs.Watched.{watched_inner, watched_failed, watched_reads, watched_ended, StopsAtEnd, StopsAtFailure}
+use Rattle.room_types.specs.Watched.{watched_inner, watched_failed, watched_reads, watched_ended, StopsAtEnd}
+use Rattle.room_types.specs.Watched.{StopsAtFailure}
 use Rattle.office_lines.specs.Lines.{line_limit}
 use Rattle.office_lines.specs.Inner.Sessions.{InputHandled, state}
 use Rattle.office_lines.proofs.rehearse.handle_input.Given as goal

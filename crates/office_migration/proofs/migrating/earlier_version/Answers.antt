@@ -12,4 +12,5 @@ returns-in-Ok-None-clause-cause g c clean first_tables =
 
 pub returns-in-Ok-None-clause-returned : goal.returns-in-Ok-None-clause-returned
 returns-in-Ok-None-clause-returned g c clean first_tables version h =
-    absurd (none_some version ((rw c.in-Ok-None.field-0-is at c.in-Ok-None.ensures.returned) clean first_tables version h))
+    absurd (none_some version
+    ((rw c.in-Ok-None.field-0-is at c.in-Ok-None.ensures.returned) clean first_tables version h))

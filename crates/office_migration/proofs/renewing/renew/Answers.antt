@@ -27,25 +27,31 @@ returns-clause-made g c =
     subst (λ k. Migrates c.args.layout c.args.records.now old (state g.S.Store k)) (sym same) done
 
 -- What the transaction commits: `begun` is its first state, and `mid` its last.
-renewed_once : (layout : Layout) (records : OfficeRecords) (old begun mid new : State) → begun.now ≡ old.now → ((db : _) → begun.may_leave db → old.may_leave db)
+renewed_once : (layout : Layout) (records : OfficeRecords) (old begun mid new : State) → begun.now ≡ old.now
+    → ((db : _) → begun.may_leave db → old.may_leave db)
     → StaysInside begun mid → Migrates layout records begun mid → Survives mid new (λ db. db ≡ mid.now.trees)
     → LeavesOldOr (HoldsRecords layout records old.now) old new
 renewed_once layout records old begun mid new same before inside made =
     committed_once (HoldsRecords layout records old.now) old begun mid new before inside
-    (λ clean tables has are. made.shown tables clean (subst (λ (d : Database). HasTablesIn layout d tables) (sym same) has) are)
+    (λ clean tables has are. made.shown tables clean
+    (subst (λ (d : Database). HasTablesIn layout d tables) (sym same) has) are)
 
 pub returns-in_err-commit-clause-crash : goal.returns-in_err-commit-clause-crash
 returns-in_err-commit-clause-crash g c =
     let old = state g.S.Store c.args.conn.now in
     let same : c.conn-2-1.given.0 ≡ c.commit.new.self.0 = search rules in
     subst (λ k. LeavesOldOr (HoldsRecords c.args.layout c.args.records.now old.now) old (state g.S.Store k)) (sym same)
-    (renewed_once c.args.layout c.args.records.now old (state g.S.Store c.transaction-tx.result.conn.now) (state g.S.Store c.migrate_tables.new.tx.conn.now) (state g.S.Store c.commit.new.self.0)
-    (cc (c.transaction-tx.ensures.begun)) (search rules) c.migrate_tables.ensures.inside c.in_ok-migrate_tables.ensures.made c.commit.ensures.survives)
+    (renewed_once c.args.layout c.args.records.now old (state g.S.Store c.transaction-tx.result.conn.now)
+    (state g.S.Store c.migrate_tables.new.tx.conn.now) (state g.S.Store c.commit.new.self.0)
+    (cc (c.transaction-tx.ensures.begun)) (search rules) c.migrate_tables.ensures.inside
+    c.in_ok-migrate_tables.ensures.made c.commit.ensures.survives)
 
 pub returns-clause-crash : goal.returns-clause-crash
 returns-clause-crash g c =
     let old = state g.S.Store c.args.conn.now in
     let same : c.conn-2-1.given.0 ≡ c.commit.new.self.0 = search rules in
     subst (λ k. LeavesOldOr (HoldsRecords c.args.layout c.args.records.now old.now) old (state g.S.Store k)) (sym same)
-    (renewed_once c.args.layout c.args.records.now old (state g.S.Store c.transaction-tx.result.conn.now) (state g.S.Store c.migrate_tables.new.tx.conn.now) (state g.S.Store c.commit.new.self.0)
-    (cc (c.transaction-tx.ensures.begun)) (search rules) c.migrate_tables.ensures.inside c.in_ok-migrate_tables.ensures.made c.commit.ensures.survives)
+    (renewed_once c.args.layout c.args.records.now old (state g.S.Store c.transaction-tx.result.conn.now)
+    (state g.S.Store c.migrate_tables.new.tx.conn.now) (state g.S.Store c.commit.new.self.0)
+    (cc (c.transaction-tx.ensures.begun)) (search rules) c.migrate_tables.ensures.inside
+    c.in_ok-migrate_tables.ensures.made c.commit.ensures.survives)

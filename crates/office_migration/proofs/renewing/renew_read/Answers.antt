@@ -26,8 +26,10 @@ returns-clause-renewed g c clean tables has well_formed =
 
 -- What is committed after the records were read.
 copied_once : (layout : Layout) (records : OfficeRecords) (start one two : State)
-    → (HasCleanDisk one → (tables : Tables) → HasTablesIn layout start.now tables → IsWellFormed tables → AreRecordsOf tables records)
-    → OnlyReads start one → WasOpen one one → (HasCleanDisk two → HasCleanDisk one) → LeavesOldOr (HoldsRecords layout records one.now) one two
+    → (HasCleanDisk one → (tables : Tables) → HasTablesIn layout start.now tables → IsWellFormed tables
+    → AreRecordsOf tables records)
+    → OnlyReads start one → WasOpen one one → (HasCleanDisk two → HasCleanDisk one)
+    → LeavesOldOr (HoldsRecords layout records one.now) one two
     → LeavesOldOr (HoldsSameTables layout start.now) start two
 copied_once layout records start one two found reads is_open early renewed =
     old_or_weaker (HoldsRecords layout records start.now) (HoldsSameTables layout start.now) start two
@@ -37,13 +39,15 @@ copied_once layout records start one two found reads is_open early renewed =
 pub returns-in_err-renew-clause-crash : goal.returns-in_err-renew-clause-crash
 returns-in_err-renew-clause-crash g c =
     let records = c.in_ok-records.ensures in
-    copied_once c.args.layout c.in-Some.records (state g.S.Store c.args.conn.now) (state g.S.Store c.read_records.new.conn) (state g.S.Store c.renew.new.conn)
+    copied_once c.args.layout c.in-Some.records (state g.S.Store c.args.conn.now)
+    (state g.S.Store c.read_records.new.conn) (state g.S.Store c.renew.new.conn)
     (λ clean tables has well_formed. rw c.in-Some.is at records.found clean tables has well_formed)
     c.read_records.ensures.reads records.is_open c.renew.ensures.follows.clean c.renew.ensures.crash
 
 pub returns-clause-crash : goal.returns-clause-crash
 returns-clause-crash g c =
     let records = c.in_ok-records.ensures in
-    copied_once c.args.layout c.in-Some.records (state g.S.Store c.args.conn.now) (state g.S.Store c.read_records.new.conn) (state g.S.Store c.renew.new.conn)
+    copied_once c.args.layout c.in-Some.records (state g.S.Store c.args.conn.now)
+    (state g.S.Store c.read_records.new.conn) (state g.S.Store c.renew.new.conn)
     (λ clean tables has well_formed. rw c.in-Some.is at records.found clean tables has well_formed)
     c.read_records.ensures.reads records.is_open c.renew.ensures.follows.clean c.renew.ensures.crash

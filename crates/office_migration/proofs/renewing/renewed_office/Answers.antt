@@ -68,9 +68,12 @@ returns-then-not-is_of_version-clause-found g c clean office lawful well_formed 
 -- ---- after a crash
 
 -- What is committed after the office was read.
-renewed_once : (layout : Layout) (office : Office) (start one two : State) → IsLawful office → IsOfVersion (version_of layout) office
-    → (HasCleanDisk one → IsLaidOut layout start.now → HoldsOfficeIn layout start.now office × IsWellFormed (rows_at (version_of layout) office))
-    → OnlyReads start one → WasOpen one one → (HasCleanDisk two → HasCleanDisk one) → LeavesOldOr (HoldsSameTables layout one.now) one two
+renewed_once : (layout : Layout) (office : Office) (start one two : State) → IsLawful office
+    → IsOfVersion (version_of layout) office
+    → (HasCleanDisk one → IsLaidOut layout start.now → HoldsOfficeIn layout start.now office
+    × IsWellFormed (rows_at (version_of layout) office))
+    → OnlyReads start one → WasOpen one one → (HasCleanDisk two → HasCleanDisk one)
+    → LeavesOldOr (HoldsSameTables layout one.now) one two
     → LeavesOldOr (CommitsRenewed layout start.now) start two
 unfolding rows_at with_version
 renewed_once layout office start one two lawful kind found reads is_open early renewed =
@@ -87,17 +90,25 @@ renewed_once layout office start one two lawful kind found reads is_open early r
 pub returns-in_err-renew_read-clause-crash : goal.returns-in_err-renew_read-clause-crash
 returns-in_err-renew_read-clause-crash g c =
     let found = c.in_ok-office.ensures in
-    let kind = subst (λ v. IsOfVersion v c.in-Some.office) c.version.ensures (c.is_of_version.ensures.0 c.if-not-is_of_version.false) in
-    renewed_once c.args.layout c.in-Some.office (state g.S.Store c.args.conn.now) (state g.S.Store c.held.new.conn) (state g.S.Store c.renew_read.new.conn)
+    let kind =
+    subst (λ v. IsOfVersion v c.in-Some.office) c.version.ensures
+    (c.is_of_version.ensures.0 c.if-not-is_of_version.false) in
+    renewed_once c.args.layout c.in-Some.office (state g.S.Store c.args.conn.now) (state g.S.Store c.held.new.conn)
+    (state g.S.Store c.renew_read.new.conn)
     (rw c.in-Some.is at found.lawful) kind
-    (λ clean laid. let held = rw c.in-Some.is at found.held clean laid in let well_formed = rw c.in-Some.is at found.well_formed clean laid in (held, well_formed))
+    (λ clean laid. let held = rw c.in-Some.is at found.held clean laid in
+    let well_formed = rw c.in-Some.is at found.well_formed clean laid in (held, well_formed))
     c.held.ensures.reads found.is_open c.renew_read.ensures.follows.clean c.renew_read.ensures.crash
 
 pub returns-clause-crash : goal.returns-clause-crash
 returns-clause-crash g c =
     let found = c.in_ok-office.ensures in
-    let kind = subst (λ v. IsOfVersion v c.in-Some.office) c.version.ensures (c.is_of_version.ensures.0 c.if-not-is_of_version.false) in
-    renewed_once c.args.layout c.in-Some.office (state g.S.Store c.args.conn.now) (state g.S.Store c.held.new.conn) (state g.S.Store c.renew_read.new.conn)
+    let kind =
+    subst (λ v. IsOfVersion v c.in-Some.office) c.version.ensures
+    (c.is_of_version.ensures.0 c.if-not-is_of_version.false) in
+    renewed_once c.args.layout c.in-Some.office (state g.S.Store c.args.conn.now) (state g.S.Store c.held.new.conn)
+    (state g.S.Store c.renew_read.new.conn)
     (rw c.in-Some.is at found.lawful) kind
-    (λ clean laid. let held = rw c.in-Some.is at found.held clean laid in let well_formed = rw c.in-Some.is at found.well_formed clean laid in (held, well_formed))
+    (λ clean laid. let held = rw c.in-Some.is at found.held clean laid in
+    let well_formed = rw c.in-Some.is at found.well_formed clean laid in (held, well_formed))
     c.held.ensures.reads found.is_open c.renew_read.ensures.follows.clean c.renew_read.ensures.crash

@@ -19,13 +19,15 @@ returns-then-is_of_version-clause-rows g c already clean other same begins whole
     let start = state g.S.Store c.args.conn.now in
     let layout = c.in-Some.layout in
     let begun = subst (Begins layout) c.schema.ensures.value c.in-Some.ensures.begun in
-    let is = begins_is_found c.args.version c.requires.earlier start.now layout begun c.in-Some.ensures.version other same begins in
+    let is = begins_is_found c.args.version c.requires.earlier start.now layout begun c.in-Some.ensures.version other
+    same begins in
     let open_ = c.held.ensures.reads.keeps.follows.was_open clean (c.in-Ok-Some.ensures.is_open clean) in
     let sound = (c.schema.ensures.live open_).0 in
     let laid = first_if_sound layout start.now sound (subst (λ l. Begins l start.now.schema) (sym is) begins)
     (subst (λ l. AreWhole l start.now.trees) (sym is) whole) in
     let office = c.in-Ok-Some.office in
-    let holding = first_if_held c.args.version c.requires.earlier start.now layout begun c.in-Some.ensures.version office
+    let holding =
+    first_if_held c.args.version c.requires.earlier start.now layout begun c.in-Some.ensures.version office
     (rw c.in-Ok-Some.field-0-is at c.in-Ok-Some.ensures.lawful)
     ((rw c.in-Ok-Some.field-0-is at c.in-Ok-Some.ensures.well_formed_first) clean laid)
     (c.is_of_version.ensures.0 c.if-is_of_version.true)
@@ -37,11 +39,17 @@ returns-else-is_of_version-clause-none g c is_none clean other same office h =
     let start = state g.S.Store c.args.conn.now in
     let layout = c.in-Some.layout in
     let begun = subst (Begins layout) c.schema.ensures.value c.in-Some.ensures.begun in
-    let here = first_in_found c.args.version c.requires.earlier start.now layout begun c.in-Some.ensures.version other office same h in
-    let held = held_in_found c.args.version c.requires.earlier start.now layout begun c.in-Some.ensures.version office here in
-    let found = (rw c.in-Ok-Some.field-0-is at c.in-Ok-Some.ensures.first) clean office h.lawful here.well_formed held in
+    let here =
+    first_in_found c.args.version c.requires.earlier start.now layout begun c.in-Some.ensures.version other
+    office same h in
+    let held =
+    held_in_found c.args.version c.requires.earlier start.now layout begun c.in-Some.ensures.version office here in
+    let found =
+    (rw c.in-Ok-Some.field-0-is at c.in-Ok-Some.ensures.first) clean office h.lawful here.well_formed held in
     let one = same_some c.in-Ok-Some.office office found in
-    let kind = c.is_of_version.ensures.1 (subst (IsOfVersion c.args.version) (sym one) (subst (λ v. IsOfVersion v office) same h.kind)) in
+    let kind =
+    c.is_of_version.ensures.1
+    (subst (IsOfVersion c.args.version) (sym one) (subst (λ v. IsOfVersion v office) same h.kind)) in
     absurd (true≢false (sym kind ∙ c.if-is_of_version.false))
 
 pub returns-else-is_of_version-clause-returned : goal.returns-else-is_of_version-clause-returned
@@ -53,9 +61,13 @@ returns-in-Ok-None-clause-none g c is_none clean other same office h =
     let start = state g.S.Store c.args.conn.now in
     let layout = c.in-Some.layout in
     let begun = subst (Begins layout) c.schema.ensures.value c.in-Some.ensures.begun in
-    let here = first_in_found c.args.version c.requires.earlier start.now layout begun c.in-Some.ensures.version other office same h in
-    let held = held_in_found c.args.version c.requires.earlier start.now layout begun c.in-Some.ensures.version office here in
-    none_some office ((rw c.in-Ok-None.field-0-is at c.in-Ok-None.ensures.first) clean office h.lawful here.well_formed held)
+    let here =
+    first_in_found c.args.version c.requires.earlier start.now layout begun c.in-Some.ensures.version other
+    office same h in
+    let held =
+    held_in_found c.args.version c.requires.earlier start.now layout begun c.in-Some.ensures.version office here in
+    none_some office
+    ((rw c.in-Ok-None.field-0-is at c.in-Ok-None.ensures.first) clean office h.lawful here.well_formed held)
 
 pub returns-in-Ok-None-clause-returned : goal.returns-in-Ok-None-clause-returned
 returns-in-Ok-None-clause-returned g c clean other office same h =

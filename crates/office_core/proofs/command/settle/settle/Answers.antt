@@ -30,7 +30,8 @@ returns c =
       replied = ap (λ count. Settled count) (ap length moves ∙ as_many_settled c.args.office.now);
       changed = collected c.push_first_out.new.changes.items c.push_arrivals.new.changes.items
           c.push_records.new.changes.items c.push.new.self.items c.push-2.new.self.items _ _ _ _ _
-          (c.in_ok-push_first_out.ensures ∙ ap (λ x. x ++ map leaving (first_out c.as_slice-moves.result.now)) c.new-changes.ensures.items
+          (c.in_ok-push_first_out.ensures ∙ ap (λ x. x ++ map leaving (first_out c.as_slice-moves.result.now))
+          c.new-changes.ensures.items
           ∙ ap (λ m. map leaving (first_out m)) moves)
           (c.in_ok-push_arrivals.ensures
           ∙ ap (λ rows. c.push_first_out.new.changes.items ++ map arriving (map (λ moved. moved.now) rows)) order

@@ -18,5 +18,7 @@ returns-clause-made g c =
 -- Its first statement ran.
 pub returns-clause-was_open : goal.returns-clause-was_open
 returns-clause-was_open g c =
-    on_ok_weaker {Q = WasOpen (state g.S.Store c.args.tx.now.conn.now) (state g.S.Store c.add_choices.new.tx.conn.now)} c.add_choices.result
-    (λ made clean. c.in_ok-drop_choices.ensures.was_open (omega (arith, clean, c.add_choices.ensures.inside.survives.clean))) c.add_choices.ensures.made
+    on_ok_weaker {Q = WasOpen (state g.S.Store c.args.tx.now.conn.now) (state g.S.Store c.add_choices.new.tx.conn.now)}
+    c.add_choices.result
+    (λ made clean. c.in_ok-drop_choices.ensures.was_open
+    (omega (arith, clean, c.add_choices.ensures.inside.survives.clean))) c.add_choices.ensures.made

@@ -18,5 +18,7 @@ returns-clause-made g c =
 -- Its first statement ran.
 pub returns-clause-was_open : goal.returns-clause-was_open
 returns-clause-was_open g c =
-    on_ok_weaker {Q = WasOpen (state g.S.Store c.args.tx.now.conn.now) (state g.S.Store c.record_grade.new.tx.conn.now)} c.record_grade.result
-    (λ made clean. c.in_ok-drop_grade.ensures.was_open (omega (arith, clean, c.record_grade.ensures.inside.survives.clean))) c.record_grade.ensures.made
+    on_ok_weaker {Q = WasOpen (state g.S.Store c.args.tx.now.conn.now) (state g.S.Store c.record_grade.new.tx.conn.now)}
+    c.record_grade.result
+    (λ made clean. c.in_ok-drop_grade.ensures.was_open
+    (omega (arith, clean, c.record_grade.ensures.inside.survives.clean))) c.record_grade.ensures.made

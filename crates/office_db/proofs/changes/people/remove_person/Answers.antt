@@ -17,5 +17,7 @@ returns-clause-made g c =
 -- Its first statement ran.
 pub returns-clause-was_open : goal.returns-clause-was_open
 returns-clause-was_open g c =
-    on_ok_weaker {Q = WasOpen (state g.S.Store c.args.tx.now.conn.now) (state g.S.Store c.drop_person.new.tx.conn.now)} c.drop_person.result
-    (λ made clean. c.in_ok-drop_grade.ensures.was_open (omega (arith, clean, c.drop_person.ensures.inside.survives.clean))) c.drop_person.ensures.made
+    on_ok_weaker {Q = WasOpen (state g.S.Store c.args.tx.now.conn.now) (state g.S.Store c.drop_person.new.tx.conn.now)}
+    c.drop_person.result
+    (λ made clean. c.in_ok-drop_grade.ensures.was_open
+    (omega (arith, clean, c.drop_person.ensures.inside.survives.clean))) c.drop_person.ensures.made

@@ -22,5 +22,6 @@ returns-clause-was_open g c =
     let mid = state g.S.Store c.clear_round_tables.new.tx.conn.now in
     let new = state g.S.Store c.clear_withdrawn.new.tx.conn.now in
     on_ok_weaker {Q = WasOpen old new} c.clear_withdrawn.result
-    (was_open_then old mid new c.clear_round_tables.ensures.inside (λ clean. omega (arith, clean, c.clear_withdrawn.ensures.inside.survives.clean)))
+    (was_open_then old mid new c.clear_round_tables.ensures.inside
+    (λ clean. omega (arith, clean, c.clear_withdrawn.ensures.inside.survives.clean)))
     c.clear_withdrawn.ensures.was_open

@@ -37,9 +37,12 @@ loop-change-preserved g c =
           (applied m.0 change, fit.1, now.1, now.0, rw here at m.4);
       mode = λ clean. c.in_ok-apply_change.ensures.made.mode clean
           ∙ c.loop-change.invariant.mode (omega (arith, c.apply_change.ensures.inside.survives.clean));
-      was_open = λ some. was_open_then (state g.S.Store c.args.tx.now.conn.now) (state g.S.Store c.loop-change.tx.conn.now) (state g.S.Store c.apply_change.new.tx.conn.now)
+      was_open =
+          λ some. was_open_then (state g.S.Store c.args.tx.now.conn.now) (state g.S.Store c.loop-change.tx.conn.now)
+          (state g.S.Store c.apply_change.new.tx.conn.now)
           c.loop-change.invariant.inside
-          (λ clean. omega (arith, clean, c.apply_change.ensures.inside.survives.clean)) c.in_ok-apply_change.ensures.was_open;
+          (λ clean. omega (arith, clean, c.apply_change.ensures.inside.survives.clean))
+          c.in_ok-apply_change.ensures.was_open;
       inside = inside_then _ _ _ c.loop-change.invariant.inside c.apply_change.ensures.inside;
     }
 

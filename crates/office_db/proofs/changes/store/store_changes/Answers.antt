@@ -13,8 +13,10 @@ use Rattle.office_db.specs.changes.StoresChanges.{CommitsChanges, StoresChanges}
 use Rattle.office_db.proofs.changes.store.store_changes.Goals as goal
 
 -- What the transaction commits: `begun` is its first state, and `mid` its last.
-stored_once : (first : Office) (old begun mid new : State) (changes : List Change) → begun.now ≡ old.now → begun.is_open ≡ old.is_open
-    → ((db : Trees) → begun.may_leave db → old.may_leave db) → StaysInside begun mid → StoresChanges first begun mid changes
+stored_once : (first : Office) (old begun mid new : State) (changes : List Change) → begun.now ≡ old.now
+    → begun.is_open ≡ old.is_open
+    → ((db : Trees) → begun.may_leave db → old.may_leave db) → StaysInside begun mid
+    → StoresChanges first begun mid changes
     → (0 < length changes → HasCleanDisk mid → IsTrue begun.is_open) → Survives mid new (λ db. db ≡ mid.now.trees)
     → LeavesOldOr (CommitsChanges first old changes) old new
 stored_once first old begun mid new changes same open_ before inside made was_open =
@@ -28,16 +30,22 @@ pub returns-in_err-commit-clause-crash : goal.returns-in_err-commit-clause-crash
 returns-in_err-commit-clause-crash g c =
     let old = state g.S.Store c.args.conn.now in
     let same : c.conn-2-1.given.0 ≡ c.commit.new.self.0 = search rules in
-    subst (λ k. LeavesOldOr (CommitsChanges c.args.office.now old c.args.changes.now) old (state g.S.Store k)) (sym same)
-    (stored_once c.args.office.now old (state g.S.Store c.transaction-tx.result.conn.now) (state g.S.Store c.apply_changes.new.tx.conn.now) (state g.S.Store c.commit.new.self.0)
-    c.args.changes.now (search rules) (search rules) (search rules) c.apply_changes.ensures.inside c.in_ok-apply_changes.ensures.made c.in_ok-apply_changes.ensures.was_open
+    subst (λ k. LeavesOldOr (CommitsChanges c.args.office.now old c.args.changes.now) old (state g.S.Store k))
+    (sym same)
+    (stored_once c.args.office.now old (state g.S.Store c.transaction-tx.result.conn.now)
+    (state g.S.Store c.apply_changes.new.tx.conn.now) (state g.S.Store c.commit.new.self.0)
+    c.args.changes.now (search rules) (search rules) (search rules) c.apply_changes.ensures.inside
+    c.in_ok-apply_changes.ensures.made c.in_ok-apply_changes.ensures.was_open
     c.commit.ensures.survives)
 
 pub returns-clause-crash : goal.returns-clause-crash
 returns-clause-crash g c =
     let old = state g.S.Store c.args.conn.now in
     let same : c.conn-2-1.given.0 ≡ c.commit.new.self.0 = search rules in
-    subst (λ k. LeavesOldOr (CommitsChanges c.args.office.now old c.args.changes.now) old (state g.S.Store k)) (sym same)
-    (stored_once c.args.office.now old (state g.S.Store c.transaction-tx.result.conn.now) (state g.S.Store c.apply_changes.new.tx.conn.now) (state g.S.Store c.commit.new.self.0)
-    c.args.changes.now (search rules) (search rules) (search rules) c.apply_changes.ensures.inside c.in_ok-apply_changes.ensures.made c.in_ok-apply_changes.ensures.was_open
+    subst (λ k. LeavesOldOr (CommitsChanges c.args.office.now old c.args.changes.now) old (state g.S.Store k))
+    (sym same)
+    (stored_once c.args.office.now old (state g.S.Store c.transaction-tx.result.conn.now)
+    (state g.S.Store c.apply_changes.new.tx.conn.now) (state g.S.Store c.commit.new.self.0)
+    c.args.changes.now (search rules) (search rules) (search rules) c.apply_changes.ensures.inside
+    c.in_ok-apply_changes.ensures.made c.in_ok-apply_changes.ensures.was_open
     c.commit.ensures.survives)

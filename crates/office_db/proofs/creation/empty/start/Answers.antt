@@ -16,8 +16,10 @@ returns-clause-made g c =
     let mid = state g.S.Store c.create_tables_from.new.tx.conn.now in
     let new = state g.S.Store c.add_round.new.tx.conn.now in
     let tables = c.in_ok-create_tables_from.ensures.made in
-    let early : HasCleanDisk new → HasCleanDisk mid = λ clean. omega (arith, c.add_round.ensures.inside.survives.clean) in
+    let early : HasCleanDisk new → HasCleanDisk mid =
+    λ clean. omega (arith, c.add_round.ensures.inside.survives.clean) in
     on_ok_weaker {P = Makes mid new (with_first_round 0 Idle)} {Q = Starts old new} _ (λ filled. record {
-      shown = λ clean none. subst (HasTables new.now) first_rows (filled.shown no_rows clean (made_empty old mid tables (early clean) none));
+      shown = λ clean none. subst (HasTables new.now) first_rows
+          (filled.shown no_rows clean (made_empty old mid tables (early clean) none));
       mode = λ clean. filled.mode clean ∙ tables.mode (early clean);
     }) c.add_round.ensures.made

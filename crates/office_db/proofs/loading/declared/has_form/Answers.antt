@@ -5,7 +5,8 @@ use Rattle.office_db.proofs.loading.declared.has_form.Goals as goal
 
 pub returns : goal.returns
 returns c =
-    last_decides _ _ _ (sym c.has_columns.ensures ∙ c.if-not-has_columns.false) (sym c.has_rules.ensures ∙ c.if-not-has_rules.false)
+    last_decides _ _ _ (sym c.has_columns.ensures ∙ c.if-not-has_columns.false)
+    (sym c.has_rules.ensures ∙ c.if-not-has_rules.false)
     (form-Decides c.args.own c.args.table.now _ c.has_checks.ensures)
 
 pub returns-then-not-has_columns : goal.returns-then-not-has_columns

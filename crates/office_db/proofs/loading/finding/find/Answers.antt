@@ -12,7 +12,8 @@ use Rattle.office_db.proofs.loading.finding.find.Goals as goal
 
 pub returns-then-not-names_round-clause-found : goal.returns-then-not-names_round-clause-found
 returns-then-not-names_round-clause-found g c clean layout own office lawful well_formed holds =
-    absurd (true≢false (sym (own_round layout) ∙ ap names_round (sym holds.schema) ∙ ap names_round (sym c.schema.ensures.value) ∙ sym c.names_round.ensures ∙ c.if-not-names_round.true))
+    absurd (true≢false (sym (own_round layout) ∙ ap names_round (sym holds.schema)
+    ∙ ap names_round (sym c.schema.ensures.value) ∙ sym c.names_round.ensures ∙ c.if-not-names_round.true))
 
 pub returns-in-Ok-clause-laid : goal.returns-in-Ok-clause-laid
 returns-in-Ok-clause-laid g c = sym c.schema-2.ensures.value ∙ c.in-Some.ensures.laid
@@ -22,7 +23,9 @@ returns-in-Ok-clause-held g c clean wide =
     let start = state g.S.Store c.args.conn.now in
     let layout = c.in-Some.layout in
     let laid = sym c.schema-2.ensures.value ∙ c.in-Some.ensures.laid in
-    let sound = (c.schema-2.ensures.live (c.read.ensures.reads.keeps.follows.was_open clean (c.in-Ok.ensures.is_open clean))).0 in
+    let sound =
+    (c.schema-2.ensures.live
+    (c.read.ensures.reads.keeps.follows.was_open clean (c.in-Ok.ensures.is_open clean))).0 in
     c.in-Ok.ensures.held clean (laid_if_sound layout start.now sound laid wide)
 
 pub returns-in-Ok-clause-found : goal.returns-in-Ok-clause-found
@@ -60,7 +63,8 @@ returns-in-Err-clause-unread g c none =
 pub returns-then-not-names_round-clause-other : goal.returns-then-not-names_round-clause-other
 returns-then-not-names_round-clause-other g c clean version front other =
     let start = state g.S.Store c.args.conn.now in
-    absurd (true≢false (sym (office_names_round start.now.schema front) ∙ ap names_round (sym c.schema.ensures.value) ∙ sym c.names_round.ensures ∙ c.if-not-names_round.true))
+    absurd (true≢false (sym (office_names_round start.now.schema front) ∙ ap names_round (sym c.schema.ensures.value)
+    ∙ sym c.names_round.ensures ∙ c.if-not-names_round.true))
 
 pub returns-in-Err-clause-allowed : goal.returns-in-Err-clause-allowed
 returns-in-Err-clause-allowed g c =

@@ -15,7 +15,9 @@ pub returns-in-Ok-Some-clause-found : goal.returns-in-Ok-Some-clause-found
 returns-in-Ok-Some-clause-found g c clean own office lawful well_formed holds =
     let start = state g.S.Store c.args.conn.now in
     let layout = c.args.layout in
-    let other = (rw c.in-Ok-Some.field-0-is at c.in-Ok-Some.ensures.other) clean (same_begins_office layout start.now.schema holds.schema) in
+    let other =
+    (rw c.in-Ok-Some.field-0-is at c.in-Ok-Some.ensures.other) clean
+    (same_begins_office layout start.now.schema holds.schema) in
     let held = subst (λ n. HoldsVersion start.now (pos n)) own (layout_states_version layout start.now office holds) in
     absurd (other.1 (one_version start.now c.in-Ok-Some.version (pos own_version) other.0 held))
 
@@ -23,7 +25,9 @@ pub returns-in-Ok-Some-clause-cause : goal.returns-in-Ok-Some-clause-cause
 returns-in-Ok-Some-clause-cause g c clean has =
     let start = state g.S.Store c.args.conn.now in
     let same : to_z w64 (of_z w64 c.in-Ok-Some.version) ≡ c.in-Ok-Some.version = to_z-of_z {w = w64} (search rules) in
-    let other = (rw c.in-Ok-Some.field-0-is at c.in-Ok-Some.ensures.other) clean (same_begins_office c.args.layout start.now.schema has) in
+    let other =
+    (rw c.in-Ok-Some.field-0-is at c.in-Ok-Some.ensures.other) clean
+    (same_begins_office c.args.layout start.now.schema has) in
     (same_begins_office c.args.layout start.now.schema has, subst (HoldsOtherVersion start.now) (sym same) other)
 
 pub returns-then-version-ne3-clause-cause : goal.returns-then-version-ne3-clause-cause
@@ -46,7 +50,9 @@ pub returns-in-Ok-None-held-clause-cause : goal.returns-in-Ok-None-held-clause-c
 returns-in-Ok-None-held-clause-cause g c clean has =
     let start = state g.S.Store c.args.conn.now in
     let layout = c.args.layout in
-    let between = intact_before (state g.S.Store c.other_version.new.conn) (state g.S.Store c.held.new.conn) c.held.ensures.reads.keeps.follows (clean, c.in-Ok-None-held.ensures.is_open clean) in
+    let between =
+    intact_before (state g.S.Store c.other_version.new.conn) (state g.S.Store c.held.new.conn)
+    c.held.ensures.reads.keeps.follows (clean, c.in-Ok-None-held.ensures.is_open clean) in
     let same = c.other_version.ensures.reads.keeps.same between in
     let front = same_begins_office layout start.now.schema has in
     let returned = (rw c.in-Ok-None.field-0-is at c.in-Ok-None.ensures.returned) between.0 front in
@@ -60,7 +66,8 @@ returns-in-Ok-None-held-clause-cause g c clean has =
 
 pub returns-in-Ok-Some-clause-other : goal.returns-in-Ok-Some-clause-other
 returns-in-Ok-Some-clause-other g c clean version front other =
-    let is = same_some c.in-Ok-Some.version version ((rw c.in-Ok-Some.field-0-is at c.in-Ok-Some.ensures.returned) clean front version other) in
+    let is = same_some c.in-Ok-Some.version version
+    ((rw c.in-Ok-Some.field-0-is at c.in-Ok-Some.ensures.returned) clean front version other) in
     let same : to_z w64 (of_z w64 c.in-Ok-Some.version) ≡ c.in-Ok-Some.version = to_z-of_z {w = w64} (search rules) in
     inr (ap (λ v. OtherVersion v) (same ∙ is))
 
@@ -71,9 +78,11 @@ returns-then-version-ne3-clause-other g c clean version front other =
 pub returns-in-Ok-None-held-clause-other : goal.returns-in-Ok-None-held-clause-other
 returns-in-Ok-None-held-clause-other g c clean version front other =
     let before = c.held.ensures.reads.keeps.follows.clean clean in
-    absurd (none_some version ((rw c.in-Ok-None.field-0-is at c.in-Ok-None.ensures.returned) before front version other))
+    absurd (none_some version
+    ((rw c.in-Ok-None.field-0-is at c.in-Ok-None.ensures.returned) before front version other))
 
 pub returns-in-Ok-Some-held-clause-other : goal.returns-in-Ok-Some-held-clause-other
 returns-in-Ok-Some-held-clause-other g c clean version front other =
     let before = c.held.ensures.reads.keeps.follows.clean clean in
-    absurd (none_some version ((rw c.in-Ok-None.field-0-is at c.in-Ok-None.ensures.returned) before front version other))
+    absurd (none_some version
+    ((rw c.in-Ok-None.field-0-is at c.in-Ok-None.ensures.returned) before front version other))

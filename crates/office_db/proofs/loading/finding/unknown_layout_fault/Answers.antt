@@ -17,7 +17,8 @@ returns-in-Ok-clause-cause g c clean =
     let front = subst BeginsOffice c.schema.ensures.value (c.begins_office.ensures.0 c.if-not-begins_office.false) in
     subst (HasCause start.now) (sym c.layout_fault.ensures)
     (layout_fault_cause start.now front c.declares_tables-all_there.result c.in-Ok.found
-    (λ declares. c.declares_tables-all_there.ensures.1 (subst (DeclaresTables Own) (sym c.schema-2.ensures.value) declares))
+    (λ declares. c.declares_tables-all_there.ensures.1
+    (subst (DeclaresTables Own) (sym c.schema-2.ensures.value) declares))
     (c.in-Ok.ensures.other clean front) (c.in-Ok.ensures.returned clean front))
 
 pub returns-in-Ok-clause-allowed : goal.returns-in-Ok-clause-allowed
@@ -26,9 +27,11 @@ returns-in-Ok-clause-allowed g c =
     let front = subst BeginsOffice c.schema.ensures.value (c.begins_office.ensures.0 c.if-not-begins_office.false) in
     subst (IsAllowed start.now.schema) (sym c.layout_fault.ensures)
     (layout_fault_allowed start.now.schema c.declares_tables-all_there.result c.in-Ok.found front
-    (λ declares. c.declares_tables-all_there.ensures.1 (subst (DeclaresTables Own) (sym c.schema-2.ensures.value) declares))
+    (λ declares. c.declares_tables-all_there.ensures.1
+    (subst (DeclaresTables Own) (sym c.schema-2.ensures.value) declares))
     c.in-Ok.ensures.number)
 
 pub returns-in-Ok-clause-other : goal.returns-in-Ok-clause-other
 returns-in-Ok-clause-other g c clean version front other =
-    inr (c.layout_fault.ensures ∙ ap (layout_fault c.declares_tables-all_there.result) (c.in-Ok.ensures.returned clean front version other))
+    inr (c.layout_fault.ensures ∙ ap (layout_fault c.declares_tables-all_there.result)
+    (c.in-Ok.ensures.returned clean front version other))

@@ -15,4 +15,5 @@ returns c =
 pub returns-then-not-is_empty : goal.returns-then-not-is_empty
 returns-then-not-is_empty c =
     let views = rw c.as_slice.ensures at c.is_empty.ensures in
-    never (λ begins. true≢false (sym (ap (λ (vs : List View). length vs == 0) begins.views) ∙ sym views ∙ c.if-not-is_empty.true))
+    never (λ begins. true≢false (sym (ap (λ (vs : List View). length vs == 0) begins.views) ∙ sym views
+    ∙ c.if-not-is_empty.true))

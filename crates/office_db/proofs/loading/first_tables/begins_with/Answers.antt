@@ -17,9 +17,11 @@ returns c =
 pub returns-then-not-has_first_tables : goal.returns-then-not-has_first_tables
 returns-then-not-has_first_tables c =
     let tables = rw c.as_slice-2.ensures at c.has_first_tables.ensures in
-    never (λ begins. not_from_Decides _ tables c.if-not-has_first_tables.true (begins_tables c.args.layout c.args.schema.now begins))
+    never (λ begins. not_from_Decides _ tables c.if-not-has_first_tables.true
+    (begins_tables c.args.layout c.args.schema.now begins))
 
 pub returns-then-not-is_empty : goal.returns-then-not-is_empty
 returns-then-not-is_empty c =
     let views = rw c.as_slice.ensures at c.is_empty.ensures in
-    never (λ begins. true≢false (sym (begins_views c.args.layout c.args.schema.now begins) ∙ sym views ∙ c.if-not-is_empty.true))
+    never (λ begins. true≢false (sym (begins_views c.args.layout c.args.schema.now begins) ∙ sym views
+    ∙ c.if-not-is_empty.true))

@@ -21,7 +21,8 @@ loop-place-preserved c = record {
 
 pub returns : goal.returns
 returns c = (
-  λ _. agree_all (λ o. office_table o.0 o.1) c.args.own.now c.args.tables.now c.loop-place.place c.loop-place.invariant.even
+  λ _. agree_all (λ o. office_table o.0 o.1) c.args.own.now c.args.tables.now c.loop-place.place
+      c.loop-place.invariant.even
       (omega (arith, c.loop-place-test.false)) c.loop-place.invariant.left,
   λ _. refl,
 )

@@ -20,4 +20,6 @@ loop-place-preserved c =
     c.index-tables-place.is (not_from_Decides _ c.is_declared.ensures c.if-is_declared.false) c.loop-place.invariant
 
 pub returns : goal.returns
-returns c = never (not_among c.args.tables.now c.args.own c.loop-place.place (omega (arith, c.loop-place-test.false)) c.loop-place.invariant)
+returns c =
+    never (not_among c.args.tables.now c.args.own c.loop-place.place (omega (arith, c.loop-place-test.false))
+    c.loop-place.invariant)

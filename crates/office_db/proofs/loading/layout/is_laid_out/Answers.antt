@@ -10,7 +10,8 @@ returns c =
     let views = rw c.as_slice.ensures at c.is_empty.ensures in
     let tables = rw c.as_slice-2.ensures at c.has_tables.ensures in
     let indexes = rw c.as_slice-3.ensures at c.has_indexes.ensures in (
-      λ e. schema_is c.args.layout c.args.schema.now (sym views ∙ c.if-not-is_empty.false) (tables.0 c.if-not-has_tables.false) (sym indexes ∙ e),
+      λ e. schema_is c.args.layout c.args.schema.now (sym views ∙ c.if-not-is_empty.false)
+          (tables.0 c.if-not-has_tables.false) (sym indexes ∙ e),
       λ p. indexes ∙ has_own_indexes c.args.layout c.args.schema.now p,
     )
 

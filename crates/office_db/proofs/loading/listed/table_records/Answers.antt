@@ -9,44 +9,71 @@ use Rattle.office_db.proofs.loading.listed.table_records.Goals as goal
 pub returns-in_err-rows-clause-reads : goal.returns-in_err-rows-clause-reads
 returns-in_err-rows-clause-reads g c =
     reads_failed c.query.result.now [] _ _ _ c.query_all.ensures.survives
-    (asks_nothing_new c.query.result.now [] _ _ (subst OnlyAsks (sym c.query.ensures.text) c.query.ensures.asks) c.query_all.ensures.survives) _
-    (c.is_autocommit-outside.ensures.settled (c.is_autocommit-outside.ensures.value ∙ ap not c.requires.outside)) c.in_err-rows.ensures.err
+    (asks_nothing_new c.query.result.now [] _ _ (subst OnlyAsks (sym c.query.ensures.text) c.query.ensures.asks)
+    c.query_all.ensures.survives) _
+    (c.is_autocommit-outside.ensures.settled (c.is_autocommit-outside.ensures.value ∙ ap not c.requires.outside))
+    c.in_err-rows.ensures.err
 
 pub returns-in-Ok-clause-reads : goal.returns-in-Ok-clause-reads
 returns-in-Ok-clause-reads g c =
-    reads_shown c.query.result.now [] _ _ c.query_all.ensures.survives _ (subst OnlyAsks (sym c.query.ensures.text) c.query.ensures.asks) c.in_ok-rows.ensures.ok
+    reads_shown c.query.result.now [] _ _ c.query_all.ensures.survives _
+    (subst OnlyAsks (sym c.query.ensures.text) c.query.ensures.asks) c.in_ok-rows.ensures.ok
 
 pub returns-clause-reads : goal.returns-clause-reads
 returns-clause-reads g c =
-    reads_shown c.query.result.now [] _ _ c.query_all.ensures.survives _ (subst OnlyAsks (sym c.query.ensures.text) c.query.ensures.asks) c.in_ok-rows.ensures.ok
+    reads_shown c.query.result.now [] _ _ c.query_all.ensures.survives _
+    (subst OnlyAsks (sym c.query.ensures.text) c.query.ensures.asks) c.in_ok-rows.ensures.ok
 
 pub returns-in-Ok-clause-found : goal.returns-in-Ok-clause-found
 returns-in-Ok-clause-found g c clean has records holds well_formed =
     let old = state g.S.Store c.args.conn.now in
-    let shown = subst (λ t. Shown t [] old (state g.S.Store c.query_all.new.self) c.in_ok-rows.rows.items) c.query.ensures.text (c.in_ok-rows.ensures.ok clean) in
-    let same = shows_table old.now.schema g.R.Listed.text (g.R.Listed.tree c.args.layout) g.R.Listed.project g.R.Listed.names (c.query.ensures.lists c.args.layout c.requires.known old.now.schema has) old _ _ refl shown in
-    found_is g.R.Listed.kept g.R.Record.columns g.R.Record.is_form g.R.Record.front g.R.Listed.project c.query.ensures.determines (old.now.trees (g.R.Listed.tree c.args.layout)) c.in_ok-rows.rows.items records holds same
+    let shown =
+    subst (λ t. Shown t [] old (state g.S.Store c.query_all.new.self) c.in_ok-rows.rows.items) c.query.ensures.text
+    (c.in_ok-rows.ensures.ok clean) in
+    let same =
+    shows_table old.now.schema g.R.Listed.text (g.R.Listed.tree c.args.layout) g.R.Listed.project g.R.Listed.names
+    (c.query.ensures.lists c.args.layout c.requires.known old.now.schema has) old _ _ refl shown in
+    found_is g.R.Listed.kept g.R.Record.columns g.R.Record.is_form g.R.Record.front g.R.Listed.project
+    c.query.ensures.determines (old.now.trees (g.R.Listed.tree c.args.layout)) c.in_ok-rows.rows.items
+    records holds same
     _ c.in-Ok.found well_formed
-    (subst (λ l. MatchOption c.in-Ok.found (¬ All g.R.Record.is_form l) (λ read. map g.R.Record.columns read.items ≡ map g.R.Record.front l)) c.as_slice.ensures.value c.in-Ok.ensures.returned)
+    (subst (λ l. MatchOption c.in-Ok.found (¬ All g.R.Record.is_form l)
+    (λ read. map g.R.Record.columns read.items ≡ map g.R.Record.front l)) c.as_slice.ensures.value
+    c.in-Ok.ensures.returned)
 
 pub returns-in-Ok-clause-returned : goal.returns-in-Ok-clause-returned
 returns-in-Ok-clause-returned g c clean has =
     let old = state g.S.Store c.args.conn.now in
-    let shown = subst (λ t. Shown t [] old (state g.S.Store c.query_all.new.self) c.in_ok-rows.rows.items) c.query.ensures.text (c.in_ok-rows.ensures.ok clean) in
-    let same = shows_table old.now.schema g.R.Listed.text (g.R.Listed.tree c.args.layout) g.R.Listed.project g.R.Listed.names (c.query.ensures.lists c.args.layout c.requires.known old.now.schema has) old _ _ refl shown in
-    read_all g.R.Record.columns g.R.Record.is_form g.R.Record.front g.R.Listed.project c.query.ensures.determines.whole (old.now.trees (g.R.Listed.tree c.args.layout)) c.in_ok-rows.rows.items same
+    let shown =
+    subst (λ t. Shown t [] old (state g.S.Store c.query_all.new.self) c.in_ok-rows.rows.items) c.query.ensures.text
+    (c.in_ok-rows.ensures.ok clean) in
+    let same =
+    shows_table old.now.schema g.R.Listed.text (g.R.Listed.tree c.args.layout) g.R.Listed.project g.R.Listed.names
+    (c.query.ensures.lists c.args.layout c.requires.known old.now.schema has) old _ _ refl shown in
+    read_all g.R.Record.columns g.R.Record.is_form g.R.Record.front g.R.Listed.project c.query.ensures.determines.whole
+    (old.now.trees (g.R.Listed.tree c.args.layout)) c.in_ok-rows.rows.items same
     _ c.in-Ok.found
-    (subst (λ l. MatchOption c.in-Ok.found (¬ All g.R.Record.is_form l) (λ read. map g.R.Record.columns read.items ≡ map g.R.Record.front l)) c.as_slice.ensures.value c.in-Ok.ensures.returned)
+    (subst (λ l. MatchOption c.in-Ok.found (¬ All g.R.Record.is_form l)
+    (λ read. map g.R.Record.columns read.items ≡ map g.R.Record.front l)) c.as_slice.ensures.value
+    c.in-Ok.ensures.returned)
 
 pub returns-in-Ok-clause-shown : goal.returns-in-Ok-clause-shown
 returns-in-Ok-clause-shown g c clean has =
     let old = state g.S.Store c.args.conn.now in
-    let text = subst (λ t. Shown t [] old (state g.S.Store c.query_all.new.self) c.in_ok-rows.rows.items) c.query.ensures.text (c.in_ok-rows.ensures.ok clean) in
-    let same = shows_table old.now.schema g.R.Listed.text (g.R.Listed.tree c.args.layout) g.R.Listed.project g.R.Listed.names (c.query.ensures.lists c.args.layout c.requires.known old.now.schema has) old _ _ refl text in
-    shown_is g.R.Listed.kept g.R.Record.columns g.R.Record.is_form g.R.Record.front g.R.Listed.project c.query.ensures.determines (old.now.trees (g.R.Listed.tree c.args.layout)) c.in_ok-rows.rows.items same
+    let text =
+    subst (λ t. Shown t [] old (state g.S.Store c.query_all.new.self) c.in_ok-rows.rows.items) c.query.ensures.text
+    (c.in_ok-rows.ensures.ok clean) in
+    let same =
+    shows_table old.now.schema g.R.Listed.text (g.R.Listed.tree c.args.layout) g.R.Listed.project g.R.Listed.names
+    (c.query.ensures.lists c.args.layout c.requires.known old.now.schema has) old _ _ refl text in
+    shown_is g.R.Listed.kept g.R.Record.columns g.R.Record.is_form g.R.Record.front g.R.Listed.project
+    c.query.ensures.determines (old.now.trees (g.R.Listed.tree c.args.layout)) c.in_ok-rows.rows.items same
     _ c.in-Ok.found
-    (subst (λ l. MatchOption c.in-Ok.found (¬ All g.R.Record.is_form l) (λ read. map g.R.Record.columns read.items ≡ map g.R.Record.front l)) c.as_slice.ensures.value c.in-Ok.ensures.returned)
+    (subst (λ l. MatchOption c.in-Ok.found (¬ All g.R.Record.is_form l)
+    (λ read. map g.R.Record.columns read.items ≡ map g.R.Record.front l)) c.as_slice.ensures.value
+    c.in-Ok.ensures.returned)
     (subst (λ l. IfSome c.in-Ok.found (λ _. All g.R.Record.is_form l)) c.as_slice.ensures.value c.in-Ok.ensures.formed)
 
 pub returns-in-Ok-clause-is_open : goal.returns-in-Ok-clause-is_open
-returns-in-Ok-clause-is_open g c clean = shown_is_open c.query.result.now [] _ _ c.in_ok-rows.rows.items (c.in_ok-rows.ensures.ok clean)
+returns-in-Ok-clause-is_open g c clean =
+    shown_is_open c.query.result.now [] _ _ c.in_ok-rows.rows.items (c.in_ok-rows.ensures.ok clean)

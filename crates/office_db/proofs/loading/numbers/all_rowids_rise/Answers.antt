@@ -19,10 +19,17 @@ loop-place-preserved g c =
       reads = reads_then start before after c.loop-place.invariant.reads c.rowids.ensures.reads;
       opened = λ clean low. c.in_ok-rows.ensures.is_open clean;
       risen = λ clean has.
-          let early = intact_before before after c.rowids.ensures.reads.keeps.follows (clean, c.in_ok-rows.ensures.is_open clean) in
+          let early =
+          intact_before before after c.rowids.ensures.reads.keeps.follows
+          (clean, c.in_ok-rows.ensures.is_open clean) in
           let same = c.loop-place.invariant.reads.keeps.same early in
-          let here = numbered_if_read _ _ (c.in_ok-rows.ensures.shown clean (subst (λ (d : Database). Begins c.args.layout d.schema) (sym same) has)) (subst HaveRowids c.as_slice.ensures.value (c.if-not-do_rowids_rise.ensures refl)) in
-          next_place (λ k. HaveRowids (start.now.trees (tree_of c.args.layout k))) c.loop-place.place (c.loop-place.invariant.risen early.0 has)
+          let here =
+          numbered_if_read _ _
+          (c.in_ok-rows.ensures.shown clean
+          (subst (λ (d : Database). Begins c.args.layout d.schema) (sym same) has))
+          (subst HaveRowids c.as_slice.ensures.value (c.if-not-do_rowids_rise.ensures refl)) in
+          next_place (λ k. HaveRowids (start.now.trees (tree_of c.args.layout k))) c.loop-place.place
+          (c.loop-place.invariant.risen early.0 has)
           (subst (λ (d : Database). HaveRowids (d.trees (tree_of c.args.layout c.loop-place.place))) same here);
     }
 
@@ -31,4 +38,5 @@ returns-clause-is_open g c clean = c.loop-place.invariant.opened clean (omega (a
 
 pub returns-clause-risen : goal.returns-clause-risen
 returns-clause-risen g c clean has rise place low =
-    c.loop-place.invariant.risen clean has place (omega (arith, low, c.loop-place-test.false, c.tables-place-end.ensures))
+    c.loop-place.invariant.risen clean has place
+    (omega (arith, low, c.loop-place-test.false, c.tables-place-end.ensures))

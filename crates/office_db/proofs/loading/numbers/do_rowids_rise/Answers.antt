@@ -1,4 +1,5 @@
-use Rattle.std.proofs.Common.{rules, ◌≡◌, ◌<◌, take, length, to_z, of_z, to_z-of_z, w64, sym, ap, ◌∙◌, subst, refl, arith}
+use Rattle.std.proofs.Common.{rules, ◌≡◌, ◌<◌, take, length, to_z, of_z, to_z-of_z, w64, sym, ap, ◌∙◌, subst, refl}
+use Rattle.std.proofs.Common.{arith}
 use Rattle.std.proofs.lemmas.List.{take_more}
 use Rattle.sqlite_value.specs.Order.{Row}
 use Rattle.sqlite_value.specs.declared.value.Value.TheVariants.{Int}
@@ -14,7 +15,9 @@ loop-row-preserved c =
     let number = to_z w64 (of_z w64 c.in-Ok.number) in
     let same : c.in-Ok.number ≡ number = sym (to_z-of_z {w = w64} (search rules)) in
     let is = subst (λ (r : Row). rowid r ≡ Int number) c.row-item.is (c.in-Ok.ensures.ok.1 ∙ ap (λ n. Int n) same) in
-    let next = pushed c.loop-row.last (take c.loop-row.row-index c.args.rows.now) _ number c.loop-row.invariant.numbered c.loop-row.invariant.last is (c.if-not-is_above.ensures refl) in
+    let next =
+    pushed c.loop-row.last (take c.loop-row.row-index c.args.rows.now) _ number c.loop-row.invariant.numbered
+    c.loop-row.invariant.last is (c.if-not-is_above.ensures refl) in
     record { numbered = subst HaveRowids (sym more) next.0; last = subst (AreBelow number) (sym more) next.1 }
 
 pub loop-row-init : goal.loop-row-init

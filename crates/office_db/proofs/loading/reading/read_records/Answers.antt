@@ -10,7 +10,8 @@ use Rattle.office_db.proofs.loading.reading.read_records.Goals as goal
 
 pub returns-in_default-clause-first : goal.returns-in_default-clause-first
 returns-in_default-clause-first g c clean tables has well_formed =
-    rw c.in_default.is at c.in_ok-rooms.ensures.found clean has.schema tables.rooms tables.people has.rows.rooms has.rows.people well_formed.rooms well_formed.people
+    rw c.in_default.is at c.in_ok-rooms.ensures.found clean has.schema tables.rooms tables.people has.rows.rooms
+    has.rows.people well_formed.rooms well_formed.people
 
 pub returns-in_default-2-clause-first : goal.returns-in_default-2-clause-first
 returns-in_default-2-clause-first g c clean tables has well_formed =
@@ -20,7 +21,8 @@ returns-in_default-2-clause-first g c clean tables has well_formed =
     let clean_1 = c.read_two-2.ensures.reads.keeps.follows.clean clean in
     let at_1 : IsIntact one = (clean_1, c.in_ok-rooms.ensures.is_open clean_1) in
     let has_1 = still_first c.args.layout start one tables c.read_two.ensures.reads at_1 has in
-    rw c.in_default-2.is at c.in_ok-rounds.ensures.found clean has_1.schema tables.rounds tables.choices has_1.rows.rounds has_1.rows.choices well_formed.rounds well_formed.choices
+    rw c.in_default-2.is at c.in_ok-rounds.ensures.found clean has_1.schema tables.rounds tables.choices
+    has_1.rows.rounds has_1.rows.choices well_formed.rounds well_formed.choices
 
 pub returns-in_default-3-clause-first : goal.returns-in_default-3-clause-first
 returns-in_default-3-clause-first g c clean tables has well_formed =
@@ -34,7 +36,8 @@ returns-in_default-3-clause-first g c clean tables has well_formed =
     let at_2 : IsIntact two = (clean_2, c.in_ok-rounds.ensures.is_open clean_2) in
     let has_1 = still_first c.args.layout start one tables c.read_two.ensures.reads at_1 has in
     let has_2 = still_first c.args.layout one two tables c.read_two-2.ensures.reads at_2 has_1 in
-    rw c.in_default-3.is at c.in_ok-words.ensures.found clean has_2.schema tables.words tables.results has_2.rows.words has_2.rows.results well_formed.words well_formed.results
+    rw c.in_default-3.is at c.in_ok-words.ensures.found clean has_2.schema tables.words tables.results has_2.rows.words
+    has_2.rows.results well_formed.words well_formed.results
 
 pub returns-in_default-4-clause-first : goal.returns-in_default-4-clause-first
 returns-in_default-4-clause-first g c clean tables has well_formed =
@@ -52,7 +55,8 @@ returns-in_default-4-clause-first g c clean tables has well_formed =
     let has_1 = still_first c.args.layout start one tables c.read_two.ensures.reads at_1 has in
     let has_2 = still_first c.args.layout one two tables c.read_two-2.ensures.reads at_2 has_1 in
     let has_3 = still_first c.args.layout two three tables c.read_two-3.ensures.reads at_3 has_2 in
-    rw c.in_default-4.is at c.in_ok-moves.ensures.found clean has_3.schema tables.moves tables.lists has_3.rows.moves has_3.rows.lists well_formed.moves well_formed.lists
+    rw c.in_default-4.is at c.in_ok-moves.ensures.found clean has_3.schema tables.moves tables.lists has_3.rows.moves
+    has_3.rows.lists well_formed.moves well_formed.lists
 
 pub returns-in_default-5-clause-first : goal.returns-in_default-5-clause-first
 returns-in_default-5-clause-first g c clean tables has well_formed =
@@ -74,7 +78,8 @@ returns-in_default-5-clause-first g c clean tables has well_formed =
     let has_2 = still_first c.args.layout one two tables c.read_two-2.ensures.reads at_2 has_1 in
     let has_3 = still_first c.args.layout two three tables c.read_two-3.ensures.reads at_3 has_2 in
     let has_4 = still_first c.args.layout three four tables c.read_two-4.ensures.reads at_4 has_3 in
-    rw c.in_default-5.is at c.in_ok-grades.ensures.found clean has_4.schema tables.grades has_4.rows.grades well_formed.grades
+    rw c.in_default-5.is at c.in_ok-grades.ensures.found clean has_4.schema tables.grades has_4.rows.grades
+    well_formed.grades
 
 pub returns-in_default-6-clause-first : goal.returns-in_default-6-clause-first
 returns-in_default-6-clause-first g c clean tables has well_formed =
@@ -100,7 +105,8 @@ returns-in_default-6-clause-first g c clean tables has well_formed =
     let has_3 = still_first c.args.layout two three tables c.read_two-3.ensures.reads at_3 has_2 in
     let has_4 = still_first c.args.layout three four tables c.read_two-4.ensures.reads at_4 has_3 in
     let has_5 = still_first c.args.layout four five tables c.records_if_there.ensures.reads at_5 has_4 in
-    rw c.in_default-6.is at c.in_ok-going.ensures.found clean has_5.schema tables.going has_5.rows.going well_formed.going
+    rw c.in_default-6.is at c.in_ok-going.ensures.found clean has_5.schema tables.going has_5.rows.going
+    well_formed.going
 
 pub returns-clause-first : goal.returns-clause-first
 returns-clause-first g c clean tables has well_formed =
@@ -126,41 +132,71 @@ returns-clause-first g c clean tables has well_formed =
     let has_3 = still_first c.args.layout two three tables c.read_two-3.ensures.reads at_3 has_2 in
     let has_4 = still_first c.args.layout three four tables c.read_two-4.ensures.reads at_4 has_3 in
     let has_5 = still_first c.args.layout four five tables c.records_if_there.ensures.reads at_5 has_4 in
-    let first = rw c.in-Some.is at c.in_ok-rooms.ensures.found clean_1 has.schema tables.rooms tables.people has.rows.rooms has.rows.people well_formed.rooms well_formed.people in
-    let second = rw c.in-Some-2.is at c.in_ok-rounds.ensures.found clean_2 has_1.schema tables.rounds tables.choices has_1.rows.rounds has_1.rows.choices well_formed.rounds well_formed.choices in
-    let third = rw c.in-Some-3.is at c.in_ok-words.ensures.found clean_3 has_2.schema tables.words tables.results has_2.rows.words has_2.rows.results well_formed.words well_formed.results in
-    let fourth = rw c.in-Some-4.is at c.in_ok-moves.ensures.found clean_4 has_3.schema tables.moves tables.lists has_3.rows.moves has_3.rows.lists well_formed.moves well_formed.lists in
-    let fifth = rw c.in-Some-5.is at c.in_ok-grades.ensures.found clean_5 has_4.schema tables.grades has_4.rows.grades well_formed.grades in
-    let sixth = rw c.in-Some-6.is at c.in_ok-going.ensures.found clean has_5.schema tables.going has_5.rows.going well_formed.going in
-    record { rooms = first.0; people = first.1; rounds = second.0; choices = second.1; words = third.0; results = third.1; moves = fourth.0; lists = fourth.1; grades = fifth; going = sixth }
+    let first =
+    rw c.in-Some.is at c.in_ok-rooms.ensures.found clean_1 has.schema tables.rooms tables.people has.rows.rooms
+    has.rows.people well_formed.rooms well_formed.people in
+    let second =
+    rw c.in-Some-2.is at c.in_ok-rounds.ensures.found clean_2 has_1.schema tables.rounds tables.choices
+    has_1.rows.rounds has_1.rows.choices well_formed.rounds well_formed.choices in
+    let third =
+    rw c.in-Some-3.is at c.in_ok-words.ensures.found clean_3 has_2.schema tables.words tables.results
+    has_2.rows.words has_2.rows.results well_formed.words well_formed.results in
+    let fourth =
+    rw c.in-Some-4.is at c.in_ok-moves.ensures.found clean_4 has_3.schema tables.moves tables.lists has_3.rows.moves
+    has_3.rows.lists well_formed.moves well_formed.lists in
+    let fifth =
+    rw c.in-Some-5.is at c.in_ok-grades.ensures.found clean_5 has_4.schema tables.grades has_4.rows.grades
+    well_formed.grades in
+    let sixth =
+    rw c.in-Some-6.is at c.in_ok-going.ensures.found clean has_5.schema tables.going has_5.rows.going
+    well_formed.going in
+    record {
+      rooms = first.0;
+      people = first.1;
+      rounds = second.0;
+      choices = second.1;
+      words = third.0;
+      results = third.1;
+      moves = fourth.0;
+      lists = fourth.1;
+      grades = fifth;
+      going = sixth;
+    }
 
 pub returns-in_default-clause-found : goal.returns-in_default-clause-found
 returns-in_default-clause-found g c clean tables has well_formed =
-    returns-in_default-clause-first g c clean tables (first_if_has c.args.layout (state g.S.Store c.args.conn.now).now tables has) well_formed
+    returns-in_default-clause-first g c clean tables
+    (first_if_has c.args.layout (state g.S.Store c.args.conn.now).now tables has) well_formed
 
 pub returns-in_default-2-clause-found : goal.returns-in_default-2-clause-found
 returns-in_default-2-clause-found g c clean tables has well_formed =
-    returns-in_default-2-clause-first g c clean tables (first_if_has c.args.layout (state g.S.Store c.args.conn.now).now tables has) well_formed
+    returns-in_default-2-clause-first g c clean tables
+    (first_if_has c.args.layout (state g.S.Store c.args.conn.now).now tables has) well_formed
 
 pub returns-in_default-3-clause-found : goal.returns-in_default-3-clause-found
 returns-in_default-3-clause-found g c clean tables has well_formed =
-    returns-in_default-3-clause-first g c clean tables (first_if_has c.args.layout (state g.S.Store c.args.conn.now).now tables has) well_formed
+    returns-in_default-3-clause-first g c clean tables
+    (first_if_has c.args.layout (state g.S.Store c.args.conn.now).now tables has) well_formed
 
 pub returns-in_default-4-clause-found : goal.returns-in_default-4-clause-found
 returns-in_default-4-clause-found g c clean tables has well_formed =
-    returns-in_default-4-clause-first g c clean tables (first_if_has c.args.layout (state g.S.Store c.args.conn.now).now tables has) well_formed
+    returns-in_default-4-clause-first g c clean tables
+    (first_if_has c.args.layout (state g.S.Store c.args.conn.now).now tables has) well_formed
 
 pub returns-in_default-5-clause-found : goal.returns-in_default-5-clause-found
 returns-in_default-5-clause-found g c clean tables has well_formed =
-    returns-in_default-5-clause-first g c clean tables (first_if_has c.args.layout (state g.S.Store c.args.conn.now).now tables has) well_formed
+    returns-in_default-5-clause-first g c clean tables
+    (first_if_has c.args.layout (state g.S.Store c.args.conn.now).now tables has) well_formed
 
 pub returns-in_default-6-clause-found : goal.returns-in_default-6-clause-found
 returns-in_default-6-clause-found g c clean tables has well_formed =
-    returns-in_default-6-clause-first g c clean tables (first_if_has c.args.layout (state g.S.Store c.args.conn.now).now tables has) well_formed
+    returns-in_default-6-clause-first g c clean tables
+    (first_if_has c.args.layout (state g.S.Store c.args.conn.now).now tables has) well_formed
 
 pub returns-clause-found : goal.returns-clause-found
 returns-clause-found g c clean tables has well_formed =
-    returns-clause-first g c clean tables (first_if_has c.args.layout (state g.S.Store c.args.conn.now).now tables has) well_formed
+    returns-clause-first g c clean tables
+    (first_if_has c.args.layout (state g.S.Store c.args.conn.now).now tables has) well_formed
 
 pub returns-clause-shown : goal.returns-clause-shown
 returns-clause-shown g c clean has tables are =
@@ -202,13 +238,19 @@ returns-clause-shown g c clean has tables are =
       rooms = shown_permuted _ _ _ _ _ _ are.rooms first.0;
       people = shown_permuted _ _ _ _ _ _ are.people first.1;
       rounds = shown_permuted _ _ _ _ _ _ are.rounds (shown_before _ _ _ start.now one.now 6 _ same_1 second.0);
-      choices = shown_permuted _ _ _ _ _ _ are.choices (shown_before _ _ _ start.now one.now trees.choices _ same_1 second.1);
+      choices =
+          shown_permuted _ _ _ _ _ _ are.choices (shown_before _ _ _ start.now one.now trees.choices _ same_1 second.1);
       words = shown_permuted _ _ _ _ _ _ are.words (shown_before _ _ _ start.now two.now trees.words _ same_2 third.0);
-      results = shown_permuted _ _ _ _ _ _ are.results (shown_before _ _ _ start.now two.now trees.results _ same_2 third.1);
-      moves = shown_permuted _ _ _ _ _ _ are.moves (shown_before _ _ _ start.now three.now trees.moves _ same_3 fourth.0);
-      lists = shown_permuted _ _ _ _ _ _ are.lists (shown_before _ _ _ start.now three.now trees.lists _ same_3 fourth.1);
-      grades = shown_if_permuted (has_grades c.args.layout) _ _ _ _ _ _ are.grades (shown_if_before (has_grades c.args.layout) _ _ _ start.now four.now trees.grades _ same_4 fifth);
-      going = shown_if_permuted (has_leavers c.args.layout) _ _ _ _ _ _ are.going (shown_if_before (has_leavers c.args.layout) _ _ _ start.now five.now trees.going _ same_5 sixth);
+      results =
+          shown_permuted _ _ _ _ _ _ are.results (shown_before _ _ _ start.now two.now trees.results _ same_2 third.1);
+      moves = shown_permuted _ _ _ _ _ _ are.moves
+          (shown_before _ _ _ start.now three.now trees.moves _ same_3 fourth.0);
+      lists = shown_permuted _ _ _ _ _ _ are.lists
+          (shown_before _ _ _ start.now three.now trees.lists _ same_3 fourth.1);
+      grades = shown_if_permuted (has_grades c.args.layout) _ _ _ _ _ _ are.grades
+          (shown_if_before (has_grades c.args.layout) _ _ _ start.now four.now trees.grades _ same_4 fifth);
+      going = shown_if_permuted (has_leavers c.args.layout) _ _ _ _ _ _ are.going
+          (shown_if_before (has_leavers c.args.layout) _ _ _ start.now five.now trees.going _ same_5 sixth);
     }
 
 pub returns-clause-is_open : goal.returns-clause-is_open

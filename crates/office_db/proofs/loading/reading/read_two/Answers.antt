@@ -13,25 +13,37 @@ returns-in_default-clause-found g c clean has first second here there well_forme
 
 pub returns-in_default-2-clause-found : goal.returns-in_default-2-clause-found
 returns-in_default-2-clause-found g c clean has first second here there well_formed more =
-    let before = intact_before (state g.S.Store c.table_records.new.conn) (state g.S.Store c.table_records-2.new.conn) c.table_records-2.ensures.reads.keeps.follows (clean, c.in_ok-second.ensures.is_open clean) in
+    let before =
+    intact_before (state g.S.Store c.table_records.new.conn) (state g.S.Store c.table_records-2.new.conn)
+    c.table_records-2.ensures.reads.keeps.follows (clean, c.in_ok-second.ensures.is_open clean) in
     let same = c.table_records.ensures.reads.keeps.same before in
-    let still = subst (λ (d : Database). Holds g.B.Listed.kept (d.trees (g.B.Listed.tree c.args.layout)) second) (sym same) there in
-    rw c.in_default-2.is at c.in_ok-second.ensures.found clean (subst (λ (d : Database). Begins c.args.layout d.schema) (sym same) has) second still more
+    let still = subst (λ (d : Database). Holds g.B.Listed.kept (d.trees (g.B.Listed.tree c.args.layout)) second)
+    (sym same) there in
+    rw c.in_default-2.is at c.in_ok-second.ensures.found clean
+    (subst (λ (d : Database). Begins c.args.layout d.schema) (sym same) has) second still more
 
 pub returns-clause-found : goal.returns-clause-found
 returns-clause-found g c clean has first second here there well_formed more =
-    let before = intact_before (state g.S.Store c.table_records.new.conn) (state g.S.Store c.table_records-2.new.conn) c.table_records-2.ensures.reads.keeps.follows (clean, c.in_ok-second.ensures.is_open clean) in
+    let before =
+    intact_before (state g.S.Store c.table_records.new.conn) (state g.S.Store c.table_records-2.new.conn)
+    c.table_records-2.ensures.reads.keeps.follows (clean, c.in_ok-second.ensures.is_open clean) in
     let same = c.table_records.ensures.reads.keeps.same before in
-    let still = subst (λ (d : Database). Holds g.B.Listed.kept (d.trees (g.B.Listed.tree c.args.layout)) second) (sym same) there in (
+    let still = subst (λ (d : Database). Holds g.B.Listed.kept (d.trees (g.B.Listed.tree c.args.layout)) second)
+    (sym same) there in (
       rw c.in-Some.is at c.in_ok-first.ensures.found before.0 has first here well_formed,
-      rw c.in-Some-2.is at c.in_ok-second.ensures.found clean (subst (λ (d : Database). Begins c.args.layout d.schema) (sym same) has) second still more,
+      rw c.in-Some-2.is at c.in_ok-second.ensures.found clean
+          (subst (λ (d : Database). Begins c.args.layout d.schema) (sym same) has) second still more,
     )
 
 pub returns-clause-shown : goal.returns-clause-shown
 returns-clause-shown g c clean has =
-    let before = intact_before (state g.S.Store c.table_records.new.conn) (state g.S.Store c.table_records-2.new.conn) c.table_records-2.ensures.reads.keeps.follows (clean, c.in_ok-second.ensures.is_open clean) in
+    let before =
+    intact_before (state g.S.Store c.table_records.new.conn) (state g.S.Store c.table_records-2.new.conn)
+    c.table_records-2.ensures.reads.keeps.follows (clean, c.in_ok-second.ensures.is_open clean) in
     let same = c.table_records.ensures.reads.keeps.same before in (
       rw c.in-Some.is at c.in_ok-first.ensures.shown before.0 has,
-      subst (λ (d : Database). ShowRecords g.B.Record.columns g.B.Record.is_form g.B.Listed.project (d.trees (g.B.Listed.tree c.args.layout)) c.in-Some-2.second.items) same
-          (rw c.in-Some-2.is at c.in_ok-second.ensures.shown clean (subst (λ (d : Database). Begins c.args.layout d.schema) (sym same) has)),
+      subst (λ (d : Database). ShowRecords g.B.Record.columns g.B.Record.is_form g.B.Listed.project
+          (d.trees (g.B.Listed.tree c.args.layout)) c.in-Some-2.second.items) same
+          (rw c.in-Some-2.is at c.in_ok-second.ensures.shown clean
+          (subst (λ (d : Database). Begins c.args.layout d.schema) (sym same) has)),
     )

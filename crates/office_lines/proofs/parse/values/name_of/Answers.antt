@@ -5,5 +5,6 @@ use Rattle.office_lines.proofs.parse.values.name_of.Goals as goal
 
 pub returns : goal.returns
 returns c =
-    let same : joined (map (λ word. word.now) c.args.words.now) ≡ c.as_str.result.now = joined-texts c.args.words.now ∙ sym (c.as_str.ensures.value ∙ c.in_ok-name.ensures.ok) in
+    let same : joined (map (λ word. word.now) c.args.words.now) ≡ c.as_str.result.now =
+    joined-texts c.args.words.now ∙ sym (c.as_str.ensures.value ∙ c.in_ok-name.ensures.ok) in
     rw same c.value_of.ensures.understands

@@ -5,7 +5,8 @@ use Rattle.office_lines.proofs.session.Session.answer_line.Goals as goal
 
 pub returns-in-Ok-send-clause-answered : goal.returns-in-Ok-send-clause-answered
 returns-in-Ok-send-clause-answered g c =
-    let text : c.as_bytes.result.now ≡ text_of c.handle_line-response.result = c.as_bytes.ensures.value ∙ c.deref-in-Ok.ensures.value ∙ c.in-Ok.ensures.text in
+    let text : c.as_bytes.result.now ≡ text_of c.handle_line-response.result =
+    c.as_bytes.ensures.value ∙ c.deref-in-Ok.ensures.value ∙ c.in-Ok.ensures.text in
     record {
       response = c.handle_line-response.result;
       step = rw c.deref.ensures.value at c.handle_line-response.ensures.step;
@@ -20,7 +21,8 @@ returns-in-Ok-send-clause-answered g c =
 pub returns-in-Ok-clause-broken : goal.returns-in-Ok-clause-broken
 returns-in-Ok-clause-broken g c =
     let step = rw c.deref.ensures.value at c.handle_line-response.ensures.step in
-    let text : c.as_bytes.result.now ≡ text_of c.handle_line-response.result = c.as_bytes.ensures.value ∙ c.deref-in-Ok.ensures.value ∙ c.in-Ok.ensures.text in
+    let text : c.as_bytes.result.now ≡ text_of c.handle_line-response.result =
+    c.as_bytes.ensures.value ∙ c.deref-in-Ok.ensures.value ∙ c.in-Ok.ensures.text in
     let short = c.in-Err-send.ensures.short in
     record {
       response = c.handle_line-response.result;

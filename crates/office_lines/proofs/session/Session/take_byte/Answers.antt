@@ -20,7 +20,8 @@ pub returns-then-len-ge-LINE_LIMIT-clause-halted : goal.returns-then-len-ge-LINE
 returns-then-len-ge-LINE_LIMIT-clause-halted g c =
     let other : eqb c.args.byte 10 ≡ false = search (rules, tests) in
     let line = c.args.self.now.partial_line in
-    let long : length line.items ≡ line_limit = omega (arith, line.ok.0, c.len.ensures, c.if-len-ge-LINE_LIMIT.true, c.args.self.now.short) in
+    let long : length line.items ≡ line_limit =
+    omega (arith, line.ok.0, c.len.ensures, c.if-len-ge-LINE_LIMIT.true, c.args.self.now.short) in
     search (rules, too_long, other, long)
 
 pub returns-in-Ok-clause-handled : goal.returns-in-Ok-clause-handled
@@ -31,5 +32,6 @@ returns-in-Ok-clause-handled g c =
 pub returns-in-Err-clause-halted : goal.returns-in-Err-clause-halted
 returns-in-Err-clause-halted g c =
     let other : eqb c.args.byte 10 ≡ false = search (rules, tests) in
-    let room : length c.args.self.now.partial_line.items < line_limit = omega (arith, c.args.self.now.partial_line.ok.0, c.len.ensures, c.if-len-ge-LINE_LIMIT.false) in
+    let room : length c.args.self.now.partial_line.items < line_limit =
+    omega (arith, c.args.self.now.partial_line.ok.0, c.len.ensures, c.if-len-ge-LINE_LIMIT.false) in
     search (rules, no_memory, other, room)

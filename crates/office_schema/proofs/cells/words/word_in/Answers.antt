@@ -15,4 +15,5 @@ pub returns-then-ne-clause-returned : goal.returns-then-ne-clause-returned
 returns-then-ne-clause-returned c w =
     let cell = (rw c.in-Some.is at c.str_in.ensures).0 in
     let text = same_bytes _ _ _ cell w.1 in
-    shown_same c.as_str.result.now c.in-Some.text.now w.0 c.in-Ok.word w.2 text c.in-Ok.ensures (c.as_str.ensures.value ∙ c.in-Ok-format.ensures.ok) c.if-ne.ensures
+    shown_same c.as_str.result.now c.in-Some.text.now w.0 c.in-Ok.word w.2 text c.in-Ok.ensures
+    (c.as_str.ensures.value ∙ c.in-Ok-format.ensures.ok) c.if-ne.ensures

@@ -9,14 +9,18 @@ use Rattle.office_schema.proofs.rows.choices.read_choices.Goals as goal
 
 pub returns-in_default-clause-reads : goal.returns-in_default-clause-reads
 returns-in_default-clause-reads c =
-    reads-none c.args.rows.items c.sort_choice_rows.new.rows.items c.sort_choice_rows.ensures.moved c.sort_choice_rows.ensures.ascending
+    reads-none c.args.rows.items c.sort_choice_rows.new.rows.items c.sort_choice_rows.ensures.moved
+    c.sort_choice_rows.ensures.ascending
     (ap (gathered map.empty) (sym c.as_slice.ensures.value) ∙ sym c.in_ok-lists.ensures.gathers ∙ c.in_default.is)
 
 pub returns-clause-reads : goal.returns-clause-reads
 returns-clause-reads c =
-    IfOk-weaker c.all_chosen.result _ _ (λ found e. subst (λ o. Reads AreStorableLists choice_rows c.args.rows.items o) (sym e)
-    (reads-some c.args.rows.items c.sort_choice_rows.new.rows.items c.sort_choice_rows.ensures.moved c.sort_choice_rows.ensures.ascending c.in-Some.lists
-    (ap (gathered map.empty) (sym c.as_slice.ensures.value) ∙ sym c.in_ok-lists.ensures.gathers ∙ c.in-Some.is))) c.all_chosen.ensures.chooses
+    IfOk-weaker c.all_chosen.result _ _
+    (λ found e. subst (λ o. Reads AreStorableLists choice_rows c.args.rows.items o) (sym e)
+    (reads-some c.args.rows.items c.sort_choice_rows.new.rows.items c.sort_choice_rows.ensures.moved
+    c.sort_choice_rows.ensures.ascending c.in-Some.lists
+    (ap (gathered map.empty) (sym c.as_slice.ensures.value) ∙ sym c.in_ok-lists.ensures.gathers ∙ c.in-Some.is)))
+    c.all_chosen.ensures.chooses
 
 pub returns-in_err-lists-clause-memory : goal.returns-in_err-lists-clause-memory
 returns-in_err-lists-clause-memory c =

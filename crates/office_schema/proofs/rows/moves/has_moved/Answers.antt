@@ -9,5 +9,7 @@ use Rattle.office_schema.proofs.rows.moves.has_moved.Goals as goal
 
 pub returns-in-None : goal.returns-in-None
 returns-in-None c =
-    let none : map.get c.args.moves.now c.args.row.now.round ≡ None = cc (c.get.ensures, c.in-None.is, c.in-None.ensures) in
-    sym (ap (λ o. map.contains_key (kept_moves o) c.args.row.now.person) none ∙ ap is_some (get-empty {X = Moved} text_cmp c.args.row.now.person))
+    let none : map.get c.args.moves.now c.args.row.now.round ≡ None =
+    cc (c.get.ensures, c.in-None.is, c.in-None.ensures) in
+    sym (ap (λ o. map.contains_key (kept_moves o) c.args.row.now.person) none
+    ∙ ap is_some (get-empty {X = Moved} text_cmp c.args.row.now.person))

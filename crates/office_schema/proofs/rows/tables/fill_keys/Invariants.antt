@@ -5,7 +5,8 @@ use Rattle.office_schema.proofs.rows.tables.fill_keys.Given as goal
 
 abbrev pub invariant-loop-key : goal.invariant-loop-key
 invariant-loop-key g l = record {
-  left : filled map.empty (reverse (map_list key_entry l.fn.rows.items)) ≡ filled l.set (reverse (map_list key_entry l.rows.items));
+  left : filled map.empty (reverse (map_list key_entry l.fn.rows.items)) ≡ filled l.set
+      (reverse (map_list key_entry l.rows.items));
   fewer : length l.rows.items ≤ length l.fn.rows.items;
 }
 

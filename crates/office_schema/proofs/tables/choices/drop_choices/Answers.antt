@@ -5,4 +5,7 @@ use Rattle.office_schema.proofs.tables.choices.drop_choices.Goals as goal
 
 pub returns-clause-made : goal.returns-clause-made
 returns-clause-made g c =
-    on_ok_weaker _ (λ ran. makes_no_choices_of (state g.S.Store c.args.tx.now.conn.now) (state g.S.Store c.run.new.tx.conn.now) c.args.person.now (λ clean. rw (c.params-to_sql.ensures, c.as_str.ensures.text) at (ran clean))) c.run.ensures.ran
+    on_ok_weaker _
+    (λ ran. makes_no_choices_of (state g.S.Store c.args.tx.now.conn.now) (state g.S.Store c.run.new.tx.conn.now)
+    c.args.person.now (λ clean. rw (c.params-to_sql.ensures, c.as_str.ensures.text) at (ran clean)))
+    c.run.ensures.ran

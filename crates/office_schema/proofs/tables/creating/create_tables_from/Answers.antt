@@ -13,7 +13,8 @@ loop-place-init g c =
     let n = c.args.first in
     record {
       same_reference = refl;
-      change = schema_unchanged (first_tables n) (take n office_schema.tables) _ start (λ trees. none_past _ n office_schema.tables);
+      change = schema_unchanged (first_tables n) (take n office_schema.tables) _ start
+          (λ trees. none_past _ n office_schema.tables);
       inside = inside_none start;
     }
 
@@ -26,7 +27,9 @@ loop-place-preserved g c =
     let early : HasCleanDisk new → HasCleanDisk mid = λ clean. omega (arith, c.run.ensures.inside.survives.clean) in
     record {
       same_reference = c.in_ok-run.ensures.same_reference ∙ c.loop-place.invariant.same_reference;
-      change = one_more_made old mid new early (first_tables n) n n c.loop-place.place (omega arith) (omega arith) (omega arith) (λ clean. rw c.table_text.ensures at (c.in_ok-run.ensures.ran clean)) c.loop-place.invariant.change;
+      change = one_more_made old mid new early (first_tables n) n n c.loop-place.place (omega arith) (omega arith)
+          (omega arith) (λ clean. rw c.table_text.ensures at (c.in_ok-run.ensures.ran clean))
+          c.loop-place.invariant.change;
       inside = inside_then _ _ _ c.loop-place.invariant.inside c.run.ensures.inside;
     }
 
@@ -39,7 +42,10 @@ returns-in_err-run-clause-undone g c =
     let place = c.loop-place.place in
     let early : HasCleanDisk new → HasCleanDisk mid = λ clean. omega (arith, c.run.ensures.inside.survives.clean) in
     let p = err_from_is_err_and c.from_residual.result c.from_residual.ensures.1 in
-    rw (p.1) (λ intact. elim (cut_short old mid new early (first_tables n) (first_tables place) (take n office_schema.tables) (drop n (take place office_schema.tables)) c.loop-place.invariant.inside c.run.ensures.inside c.loop-place.invariant.change c.in_err-run.ensures.undone intact) [
+    rw (p.1) (λ intact. elim
+    (cut_short old mid new early (first_tables n) (first_tables place) (take n office_schema.tables)
+    (drop n (take place office_schema.tables)) c.loop-place.invariant.inside c.run.ensures.inside
+    c.loop-place.invariant.change c.in_err-run.ensures.undone intact) [
       | inl cut ↦ inl (place, omega arith, omega arith, cut)
       | inr rolled ↦ inr rolled
     ])

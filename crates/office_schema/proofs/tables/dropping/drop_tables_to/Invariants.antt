@@ -9,6 +9,7 @@ use Rattle.office_schema.proofs.tables.dropping.drop_tables_to.Given as goal
 abbrev pub invariant-loop-step : goal.invariant-loop-step
 invariant-loop-step g l = record {
   same_reference : l.tx.conn.ghost_name ≡ l.fn.tx.conn.ghost_name;
-  change : LeavesFirst l.layout (table_count l.layout - l.step) (state g.S.Store l.fn.tx.conn.now) (state g.S.Store l.tx.conn.now);
+  change : LeavesFirst l.layout (table_count l.layout - l.step) (state g.S.Store l.fn.tx.conn.now)
+      (state g.S.Store l.tx.conn.now);
   inside : StaysInside (state g.S.Store l.fn.tx.conn.now) (state g.S.Store l.tx.conn.now);
 }

@@ -5,4 +5,18 @@ use Rattle.office_schema.proofs.tables.moves.add_move.Goals as goal
 
 pub returns-clause-made : goal.returns-clause-made
 returns-clause-made g c =
-    on_ok_weaker _ (λ ran. makes_move (state g.S.Store c.args.tx.now.conn.now) (state g.S.Store c.run.new.tx.conn.now) c.args.row.now (λ clean. rw (c.params-to_sql.ensures, c.params-to_sql-2.ensures, c.params-to_sql-3.ensures, c.params-to_sql-4.ensures, c.params-to_sql-5.ensures, c.as_str.ensures.text, c.code_or_null.ensures, c.code_or_null-2.ensures, c.number_or_null.ensures, c.from.ensures) at (ran clean))) c.run.ensures.ran
+    on_ok_weaker _
+    (λ ran. makes_move (state g.S.Store c.args.tx.now.conn.now) (state g.S.Store c.run.new.tx.conn.now)
+    c.args.row.now
+    (λ clean. rw (
+      c.params-to_sql.ensures,
+      c.params-to_sql-2.ensures,
+      c.params-to_sql-3.ensures,
+      c.params-to_sql-4.ensures,
+      c.params-to_sql-5.ensures,
+      c.as_str.ensures.text,
+      c.code_or_null.ensures,
+      c.code_or_null-2.ensures,
+      c.number_or_null.ensures,
+      c.from.ensures,
+    ) at (ran clean))) c.run.ensures.ran

@@ -12,5 +12,9 @@ returns-clause-made g c =
     let mid = state g.S.Store c.drop_tables_to.new.tx.conn.now in
     let new = state g.S.Store c.create_tables_from.new.tx.conn.now in
     let dropped = first_three c.args.layout old mid c.in_ok-drop_tables_to.ensures.made in
-    on_ok_weaker _ (λ made. rebuilds c.args.layout old new (and_then old mid new (λ clean. omega (arith, c.create_tables_from.ensures.inside.survives.clean)) (schema_of c.args.layout) (first_tables 3) (first_tables 10) (take 3 office_schema.tables) (take 3 office_schema.tables) [] (drop 3 (take 10 office_schema.tables))
+    on_ok_weaker _
+    (λ made. rebuilds c.args.layout old new
+    (and_then old mid new (λ clean. omega (arith, c.create_tables_from.ensures.inside.survives.clean))
+    (schema_of c.args.layout) (first_tables 3) (first_tables 10) (take 3 office_schema.tables)
+    (take 3 office_schema.tables) [] (drop 3 (take 10 office_schema.tables))
     (λ x y h. h) dropped made)) c.create_tables_from.ensures.made

@@ -27,7 +27,8 @@ loop-row-preserved g c =
           let m = c.loop-row.invariant.made tables (omega (arith, c.add_again.ensures.inside.survives.clean)) was in
           let shown = c.in_ok-add_again.ensures.made.shown m.0 clean m.1 in
           (g.R.Refilled.with_row row m.0, shown, rw here at m.2);
-      mode = λ clean. c.in_ok-add_again.ensures.made.mode clean ∙ c.loop-row.invariant.mode (omega (arith, c.add_again.ensures.inside.survives.clean));
+      mode = λ clean. c.in_ok-add_again.ensures.made.mode clean
+          ∙ c.loop-row.invariant.mode (omega (arith, c.add_again.ensures.inside.survives.clean));
       inside = inside_then _ _ _ c.loop-row.invariant.inside c.add_again.ensures.inside;
     }
 

@@ -10,7 +10,11 @@ returns-clause-made g c =
     let old = state g.S.Store c.args.tx.now.conn.now in
     let mid = state g.S.Store c.drop_tables_to.new.tx.conn.now in
     let new = state g.S.Store c.create_tables_from.new.tx.conn.now in
-    on_ok_weaker _ (λ made. clears old new (and_then old mid new (λ clean. omega (arith, c.create_tables_from.ensures.inside.survives.clean)) (first_tables 10) (first_tables 6) (first_tables 10) (take 6 office_schema.tables) (take 6 office_schema.tables) [] (drop 6 (take 10 office_schema.tables))
+    on_ok_weaker _
+    (λ made. clears old new
+    (and_then old mid new (λ clean. omega (arith, c.create_tables_from.ensures.inside.survives.clean))
+    (first_tables 10) (first_tables 6) (first_tables 10) (take 6 office_schema.tables) (take 6 office_schema.tables)
+    [] (drop 6 (take 10 office_schema.tables))
     (λ x y h. h) c.in_ok-drop_tables_to.ensures.made made)) c.create_tables_from.ensures.made
 
 pub returns-clause-undone : goal.returns-clause-undone
@@ -18,4 +22,6 @@ returns-clause-undone g c =
     let old = state g.S.Store c.args.tx.now.conn.now in
     let mid = state g.S.Store c.drop_tables_to.new.tx.conn.now in
     let new = state g.S.Store c.create_tables_from.new.tx.conn.now in
-    on_err_weaker c.create_tables_from.result (λ undone. made_too_few old mid new c.drop_tables_to.ensures.inside c.create_tables_from.ensures.inside c.in_ok-drop_tables_to.ensures.made undone) c.create_tables_from.ensures.undone
+    on_err_weaker c.create_tables_from.result
+    (λ undone. made_too_few old mid new c.drop_tables_to.ensures.inside c.create_tables_from.ensures.inside
+    c.in_ok-drop_tables_to.ensures.made undone) c.create_tables_from.ensures.undone

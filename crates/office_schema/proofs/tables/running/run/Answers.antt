@@ -22,7 +22,8 @@ returns-in_err-execute-clause-undone g c =
     let new = state g.S.Store c.execute.new.self.conn.now in
     rw (p.1) (λ intact. elim (cases_Bool c.args.tx.now.conn.now.in_transaction) [
       | inl inside ↦ undone_by 0 _ _ _ old new (c.in_err-execute.ensures.runs intact.0 inside) intact
-      | inr ended ↦ subst (λ s. IsUndone old (state g.S.Store s)) (sym (c.execute.ensures.ended ended).1) (undone_none old) intact
+      | inr ended ↦ subst (λ s. IsUndone old (state g.S.Store s)) (sym (c.execute.ensures.ended ended).1)
+          (undone_none old) intact
     ])
 
 pub returns-clause-was_open : goal.returns-clause-was_open

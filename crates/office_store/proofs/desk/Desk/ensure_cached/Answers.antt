@@ -11,7 +11,9 @@ returns-clause-represents g c clean office represented =
     let same = c.load-loaded.ensures.same (clean, open_) in
     let inside = subst (λ desk. Represents g.S.Store desk office) (sym c.self.view_is) represented in
     let held = inside.tables (c.load-loaded.ensures.follows.was_open clean open_) in
-    let found = (rw c.in-Ok-Some.field-0-is at c.in-Ok-Some.ensures.found) clean office represented.lawful represented.well_formed held in
+    let found =
+    (rw c.in-Ok-Some.field-0-is at c.in-Ok-Some.ensures.found) clean office represented.lawful
+    represented.well_formed held in
     record {
       tables = λ is_open. subst (λ (d : Database). HoldsOffice d office) (sym same) held;
       well_formed = represented.well_formed;

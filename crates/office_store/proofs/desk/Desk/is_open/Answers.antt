@@ -11,14 +11,23 @@ returns g c =
     let old = c.self.inside.conn in
     let new = c.prepare.new.self in
     let cached = c.self.inside.cached in
-    let settled = c.is_autocommit-before.ensures.settled (c.is_autocommit-before.ensures.value ∙ ap not c.self.invariant.outside) in
+    let settled =
+    c.is_autocommit-before.ensures.settled
+    (c.is_autocommit-before.ensures.value ∙ ap not c.self.invariant.outside) in
     let committed : ShowsCommitted (state g.S.Store new) = search rules in
     record {
-      tells = subst (λ desk. TellsIfOpen g.S.Store desk c.match-prepare.answer (record { conn = new; cached = cached })) c.self.view_is
+      tells = subst (λ desk. TellsIfOpen g.S.Store desk c.match-prepare.answer (record { conn = new; cached = cached }))
+          c.self.view_is
           (elim c.match-prepare.branch [
-            | in-Ok w ↦ subst (λ answer. TellsIfOpen g.S.Store (record { conn = old; cached = cached }) answer (record { conn = new; cached = cached })) (sym w.answer-is)
-                (tells_open g.S.Store old new cached c.prepare.ensures.survives committed (λ clean. (w.in-Ok.ensures.ok clean).1))
-            | in-Err w ↦ subst (λ answer. TellsIfOpen g.S.Store (record { conn = old; cached = cached }) answer (record { conn = new; cached = cached })) (sym w.answer-is)
-                (tells_failed g.S.Store old new cached c.prepare.ensures.survives committed settled w.in-Err.error w.in-Err.ensures.err w.openness_after-answer.result w.openness_after-answer.ensures.closed)
+            | in-Ok w ↦ subst
+                (λ answer. TellsIfOpen g.S.Store (record { conn = old; cached = cached }) answer
+                (record { conn = new; cached = cached })) (sym w.answer-is)
+                (tells_open g.S.Store old new cached c.prepare.ensures.survives committed
+                (λ clean. (w.in-Ok.ensures.ok clean).1))
+            | in-Err w ↦ subst
+                (λ answer. TellsIfOpen g.S.Store (record { conn = old; cached = cached }) answer
+                (record { conn = new; cached = cached })) (sym w.answer-is)
+                (tells_failed g.S.Store old new cached c.prepare.ensures.survives committed settled w.in-Err.error
+                w.in-Err.ensures.err w.openness_after-answer.result w.openness_after-answer.ensures.closed)
           ]);
     }

@@ -8,14 +8,20 @@ use Rattle.office_store.proofs.desk.Desk.migrate.Goals as goal
 
 pub returns-in-Ok-clause-shows : goal.returns-in-Ok-clause-shows
 returns-in-Ok-clause-shows g c clean layout laid wide =
-    let made = c.in-Ok.ensures.migrated clean layout laid wide in
-    (c.in-Ok.office, made.0, made.1, shows_migrated g.S.Store c.migrate.new.conn (version_of layout) c.in-Ok.office (clean, c.in-Ok.ensures.is_open clean) c.in-Ok.ensures.lawful made.2 made.3)
+    let made = c.in-Ok.ensures.migrated clean layout laid wide in (
+      c.in-Ok.office,
+      made.0,
+      made.1,
+      shows_migrated g.S.Store c.migrate.new.conn (version_of layout) c.in-Ok.office
+          (clean, c.in-Ok.ensures.is_open clean) c.in-Ok.ensures.lawful made.2 made.3,
+    )
 
 pub returns-in-Ok-clause-accepts : goal.returns-in-Ok-clause-accepts
 returns-in-Ok-clause-accepts g c layout office earlier clean =
     let made = c.in-Ok.ensures.accepts clean layout office earlier in
     subst (λ cached. Shows g.S.Store (record { conn = c.migrate.new.conn; cached = Some cached }) office) (sym made.0)
-    (shows_migrated g.S.Store c.migrate.new.conn (version_of layout) office (clean, c.in-Ok.ensures.is_open clean) earlier.lawful earlier.well_formed made.1)
+    (shows_migrated g.S.Store c.migrate.new.conn (version_of layout) office (clean, c.in-Ok.ensures.is_open clean)
+    earlier.lawful earlier.well_formed made.1)
 
 pub returns-in-Ok-clause-other : goal.returns-in-Ok-clause-other
 returns-in-Ok-clause-other g c version says other clean = c.in-Ok.ensures.other clean version says other
@@ -46,4 +52,5 @@ returns-in-Err-clause-rows g c there clean =
 pub returns-in-Err-clause-cause : goal.returns-in-Err-clause-cause
 returns-in-Err-clause-cause g c clean =
     let old = state g.S.Store c.args.connection in
-    subst (MayNotMigrate old.now) (sym c.migrating_fault.ensures) (may_not_migrate old.now c.in-Err.fault (c.in-Err.ensures.cause clean))
+    subst (MayNotMigrate old.now) (sym c.migrating_fault.ensures)
+    (may_not_migrate old.now c.in-Err.fault (c.in-Err.ensures.cause clean))

@@ -14,10 +14,14 @@ returns-in_default g c = record {
   own = λ own. absurd (c.in_default.not-Own own);
   lawful = λ lawful. c.renew_office.ensures.lawful;
   stored =
-      IfOk-weaker c.renew_office.result _ _ (λ office stored clean lawful well_formed kind holds. stored clean c.args.found.office lawful well_formed kind holds) c.renew_office.ensures.stored;
+      IfOk-weaker c.renew_office.result _ _
+      (λ office stored clean lawful well_formed kind holds. stored clean c.args.found.office lawful well_formed kind
+      holds) c.renew_office.ensures.stored;
   undone = c.renew_office.ensures.undone;
   crash =
       let before = (state g.S.Store c.args.conn.now).now in
-      old_or_weaker (CommitsRenewed c.args.found.layout before) (λ after. (c.args.found.layout ≢ Own) × CommitsRenewed c.args.found.layout before after)
-      (state g.S.Store c.args.conn.now) (state g.S.Store c.renew_office.new.conn) (λ clean after holds. (c.in_default.not-Own, holds)) c.renew_office.ensures.crash;
+      old_or_weaker (CommitsRenewed c.args.found.layout before) (λ after. (c.args.found.layout ≢ Own)
+      × CommitsRenewed c.args.found.layout before after)
+      (state g.S.Store c.args.conn.now) (state g.S.Store c.renew_office.new.conn)
+      (λ clean after holds. (c.in_default.not-Own, holds)) c.renew_office.ensures.crash;
 }

@@ -18,7 +18,8 @@ invariant-loop g l =
       mode : first.in_transaction ≡ false → now.in_transaction ≡ false;
       survives : Survives (state g.S.Store first) (state g.S.Store now) (λ _. ⊥);
       keeps : HasCleanDisk (state g.S.Store now) → KeepsTables (state g.S.Store first) (state g.S.Store now);
-      sent : UnderWay g.S.Store g.E.Exported.kind g.E.Exported.text g.E.Exported.fields first now l.sent (output_of contents l.fn.output) (output_of contents l.output);
+      sent : UnderWay g.S.Store g.E.Exported.kind g.E.Exported.text g.E.Exported.fields first now l.sent
+          (output_of contents l.fn.output) (output_of contents l.output);
       room : l.sent ≤ (l.counter + 1) * 2 ^ 64;
       failed : watched_failed l.output ≡ watched_failed l.fn.output;
       flushes : watched_flushes l.output ≡ watched_flushes l.fn.output;

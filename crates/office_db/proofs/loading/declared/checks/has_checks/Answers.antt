@@ -7,4 +7,5 @@ use Rattle.office_db.proofs.loading.declared.checks.has_checks.Goals as goal
 pub returns : goal.returns
 returns c =
     subst (λ (ts : List Term). Decides c.are_checks.result (ts ≡ checks_of c.args.own))
-    (ap₂ (λ nodes roots. terms_in nodes roots) c.as_slice.ensures c.as_slice-2.ensures ∙ c.checks.view_is) c.are_checks.ensures
+    (ap₂ (λ nodes roots. terms_in nodes roots) c.as_slice.ensures c.as_slice-2.ensures ∙ c.checks.view_is)
+    c.are_checks.ensures

@@ -6,6 +6,7 @@ use Rattle.office_db.proofs.loading.declared.references.has_uniques.Given as goa
 -- The rest of the lists passes if and only if the whole lists pass.
 abbrev pub invariant-loop-place : goal.invariant-loop-place
 invariant-loop-place l = record {
-  left : pass_all are_places (drop l.place (map (λ o. o.now) l.own)) (drop l.place l.uniques) ≡ pass_all are_places (map (λ o. o.now) l.own) l.uniques;
+  left : pass_all are_places (drop l.place (map (λ o. o.now) l.own)) (drop l.place l.uniques) ≡ pass_all are_places
+      (map (λ o. o.now) l.own) l.uniques;
   even : length l.uniques ≡ length l.own;
 }
