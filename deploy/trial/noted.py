@@ -72,6 +72,11 @@ def thrown(page):
               page="/office/draw")
     text = page.get("/office/draw")[2]
     check("what witnesses saw has the hash that the page shows", seed in text and throws in text, text)
+    throws = "31662544" * 7
+    place = page.form("/office/seed", {"way": "text", "text": throws}, page="/office/draw")[1]["location"]
+    text = page.get(place)[2]
+    check("throws without a space between them give no seed, and stay in the form", "Write a space between two throws" in text
+          and f'value="{throws}"' in text and hashlib.sha256(throws.encode()).hexdigest() not in text, text)
 
 
 if __name__ == "__main__":

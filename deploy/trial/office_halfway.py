@@ -46,6 +46,9 @@ def stopped_half_way(stand, page, between, link):
         **{person: rooms.split() for person, rooms in LISTS.items()}, NEWER: ["A-109"]} and away(stand) == (set(), set()),
         (stand.recorded(), away(stand)))
     check("the page that follows keeps what the clerk has ticked", boxes(page.get(led)[2]) == LEFT, boxes(page.get(led)[2]))
+    for language in ("de", "en"):
+        place = page.post("/office/language", {**page.hidden(led, "/office/language"), "language": language})[1]["location"]
+        check(f"also in another language: {language}", place == led and boxes(page.get(place)[2]) == LEFT, (led, place))
 
 
 def try_named(page, left, link):

@@ -178,7 +178,7 @@ def show(view: str, back: str | None = None, **values: Any) -> str:
     news = memory.news(clerk(), began()) if request.get_header("Sec-Fetch-Dest", "document") == "document" else []
     values = {"office": None, **values}
     if back is None:
-        back = request.path if request.method == "GET" else ""
+        back = f"{request.path}?{request.query_string}".removesuffix("?") if request.method == "GET" else ""
     return views.render(view, back=back, token=token(), press=secrets.token_hex(8), clerk=clerk(), plain=plain, times=times,
                         unbroken=unbroken, news=news, here=request.path, **values)
 

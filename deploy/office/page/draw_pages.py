@@ -35,6 +35,12 @@ class Pending(NamedTuple):
     text: str = ""
 
 
+class Entered(NamedTuple):
+    """What the witnesses saw, which gave no seed yet: the clerk mends it, and does not enter all of it anew."""
+
+    text: str
+
+
 def seeds_of(office: Office) -> Seeds:
     """The seeds of this round, and that of its draw."""
     if office.phase == "idle":
@@ -62,8 +68,9 @@ def source_of(noted: Noted) -> str:
 @app.get("/office/draw")
 @app.get("/office/draw/<name:re:[0-9a-f]{32}>")
 def draw_page(name: str = "") -> str:
-    """The forms for a seed, or the drawn order. After a no, the form has what the clerk entered."""
-    office, entered = office_now(), pending(name).text if name else ""
+    """The forms for a seed, or the drawn order. After a no, or a text that gives no seed, the form has what the clerk entered."""
+    held = memory.held(clerk(), name) if name else None
+    office, entered = office_now(), held.text if isinstance(held, Entered) else pending(name).text if name else ""
     order = drawn_order() if office.phase in plain.DRAWN else []
     seeds = seeds_of(office)
     return show("draw", office=office, order=order, seeds=seeds.found, drawn=seeds.drawn, since=seeds.since,
@@ -126,7 +133,8 @@ def note_seed() -> None:
         seed, source = seed_of(field("way"), text_of("text"))
     except NoSeed as why:
         tell("bad", str(why))
-        go_to(BACK)
+        kept = field("way") == "text" and len(text_of("text")) <= LONGEST_TEXT
+        go_to(f"{BACK}/{memory.hold(clerk(), Entered(text_of('text')))}" if kept else BACK)
     doubt = doubt_of(source.removeprefix(OF_TEXT)) if source.startswith(OF_TEXT) else []
     if doubt:
         asked = Question(_("Note this seed?"), doubt, _("Yes: note the seed of this text"), BACK)

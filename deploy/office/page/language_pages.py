@@ -12,8 +12,8 @@ from resident_languages import residents
 
 HOME = "/office/languages"
 SET = "set-languages"
-# A page of this office, as an address may name it.
-OWN = re.compile(r"/office/(?:[A-Za-z0-9_.~%-]+/)*[A-Za-z0-9_.~%-]*")
+# A page of this office, as an address may name it, with what its form has taken out.
+OWN = re.compile(r"/office/(?:[A-Za-z0-9_.~%-]+/)*[A-Za-z0-9_.~%-]*(?:\?[a-z]+=[A-Za-z0-9_.~%+-]*)?")
 
 
 # --- clerks
