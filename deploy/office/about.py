@@ -23,6 +23,13 @@ from settings import Fault
 # The columns of an imported list that are shown; that of the key in a list of people is not.
 KEY_COLUMN = {"people": 2}
 NAME_COLUMN = 1  # of a list of people
+# What lines of the journal have that may look like an identifier, and is none: what is counted, numbers of rounds, codes of rooms,
+# labels, and behind an identifier a room or a grade. Then answers that name nobody, and a seed with what witnesses threw.
+NO_PERSON = re.compile(r"\(\d+(?: [a-z]+)?\)|--count \d+|\b\d+ (?:people|rooms|days|are deleted)\b|\bimport \S+ \S+|"
+                       r"(?:\b(?:round|room|shut|reopen|blank|picture of)|\bbegins:|\baccounts [a-z]+:) [^ ;]+")
+BEHIND = re.compile(r"\b((?:home|grade) [A-Z0-9]+) [^ ;]+")
+NAMES_NOBODY = re.compile(r"(?:refused|round|added|closed|drawn|ran|published|settled|sent|chosen) .*|\d+ lines", re.DOTALL)
+THROWN = re.compile(r"seed [0-9a-f]{64}[\W\d_]*")
 
 
 def records_in(database: sqlite3.Connection, person: str) -> list[list[Any]]:
@@ -48,16 +55,23 @@ def names_on(records: list[list[Any]]) -> set[str]:
     return {fields[NAME_COLUMN] for _label, kind, fields in records if kind == "people" and len(fields) > NAME_COLUMN}
 
 
-def traces_in(file: Path, person: str) -> tuple[bool, set[str]]:
-    """Whether a kept copy has a person, in its register or else in a kept list, and under which names. One that was damaged may
-    have everybody."""
+def traces_in(file: Path, person: str) -> tuple[bool | None, set[str]]:
+    """Whether a kept copy has a person, in its register or else in a kept list, and under which names. Of one that was damaged
+    nobody knows it."""
     try:
         with kept_copy(file) as database:
             known = {name for name, in database.execute("SELECT name FROM person WHERE id = ?", (person,))}
             records = [] if known else records_in(database, person)
             return bool(known or records), known | names_on(records)
     except sqlite3.Error:
-        return True, set()
+        return None, set()
+
+
+def may_name(entry: dict[str, Any]) -> str:
+    """What of an entry of the journal may name people."""
+    line, answer, note = (times.without(str(entry.get(part, ""))) for part in ("line", "answer", "note"))
+    return "\n".join([BEHIND.sub(r"\1", NO_PERSON.sub(" ", line)), "" if NAMES_NOBODY.fullmatch(answer) else answer,
+                      "" if THROWN.fullmatch(note) else note])
 
 
 def entries_of(journal: Path, person: str, names: Names) -> list[dict[str, Any]]:
@@ -73,8 +87,7 @@ def entries_of(journal: Path, person: str, names: Names) -> list[dict[str, Any]]
                 number = str(entry.get("n", ""))
                 if number in changes:
                     changes[number].update({name: entry[name] for name in ("line", "answer", "status") if name in entry})
-                elif (any(named.search(times.without(str(entry.get(part, "")))) for part in ("line", "note", "answer"))
-                      or names.are_in(str(entry.get("note", "")))):
+                elif named.search(may_name(entry)) or names.are_in(str(entry.get("note", ""))):
                     found.append(entry)
                     if number:
                         changes[number] = entry
@@ -95,6 +108,7 @@ def texts_with(office: Office, book: Book, names: Names) -> dict[str, Any]:
 
 def about(office: Office, book: Book, person: str) -> dict[str, Any]:
     """All that the office keeps of a person, beside the rows that are shown; and for how long backups of the machine may have it.
+    `unsure` are copies that may have the person: in free pages, or since they are damaged.
     Texts may have any name that was under the identifier: the office no longer knows whether it was somebody else's."""
     with office.copies.copied() as copy:
         kept, register = kept_in(copy, person), names_in(copy)
@@ -103,6 +117,8 @@ def about(office: Office, book: Book, person: str) -> dict[str, Any]:
     names = Names({register.get(person, ""), *names_on(kept["lists"]), *(one for _has, found in traces.values() for one in found)})
     days = backups.days()
     stays = backups.stays(days)
+    unsure = [name for name, (has, _names) in traces.items() if has is None or not has and not backups.is_whole(name)]
     return {**kept, "copies": [[name, stays[name].until] for name, (has, _names) in traces.items() if has and name in stays],
+            "unsure": [[name, stays[name].until] for name in unsure if name in stays],
             "journal": entries_of(office.settings.journal, person, names), "texts": texts_with(office, book, names),
             "backups": {"folder": str(office.settings.place.backups), "most": KEPT, "days": days}}

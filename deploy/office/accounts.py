@@ -159,8 +159,8 @@ class Accounts:
         try:
             self.erase(set(people))
         except Fault as fault:
-            raise Fault(_("the office was changed, but not the list of accounts. Bring this list in again, without those who "
-                          "have left.")) from fault
+            raise Fault(_("The accounts of those who are out of the register were not taken out of the list of accounts. Bring "
+                          "this list in again, without those who have left.")) from fault
 
     def about(self, person: str) -> dict[str, str]:
         """The account of a person, if the list has one, or why that cannot be read."""

@@ -11,11 +11,11 @@ import itertools
 import sqlite3
 from pathlib import Path
 
-from copies import make_whole
+from copies import make_whole, rewrite
 from languages import N_, _
 from office import Office
 from placing import InUse, beside, part_of, replace_file
-from settings import Fault, unwritten
+from settings import Fault, cause_of, unwritten
 
 SCHEMA = "SELECT type, name, tbl_name, sql FROM sqlite_schema ORDER BY type, name"
 TABLES = "SELECT name FROM sqlite_schema WHERE type = 'table' ORDER BY name"
@@ -65,20 +65,11 @@ class Anew:
 
 
 def reason_of(fault: Exception) -> object:
-    """Why the file could not be written anew. What such a fault says elsewhere is that nothing was changed."""
+    """Why the file could not be written anew."""
     if isinstance(fault, InUse):
         return _("another program has it open: as root, `lslocks` shows who has locked it, and `fuser -v FILE` also who only reads "
                  "it")
-    cause = fault if isinstance(fault, OSError) else fault.__context__
-    return cause.strerror if isinstance(cause, OSError) else fault
-
-
-def rewrite(file: Path, new: Path) -> None:
-    """Makes a new file with the rows of a copy. It has a log, as the file of the program has."""
-    with contextlib.closing(sqlite3.connect(file)) as database:
-        database.execute("VACUUM INTO ?", (str(new),))
-    with contextlib.closing(sqlite3.connect(new)) as database:
-        database.execute("PRAGMA journal_mode = WAL")
+    return cause_of(fault)
 
 
 def are_same(file: Path, other: Path) -> bool:

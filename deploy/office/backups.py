@@ -2,9 +2,9 @@
 taken back.
 
 Each is a folder below `backups` with the time of the copy as its name. In it are `rooms.db`, which is the whole
-office in one file, and `why`, a line of JSON that says why the copy was taken. If the office was damaged, the
-copy has file and log as they were. Beside the folders `days` says for how many days a copy stays at most, if the
-office has set that.
+office in one file, and `why`, a line of JSON that says why the copy was taken. The file has the rows of that moment, and
+nothing of what was overwritten or deleted before. If the office was damaged, the copy has file and log as they were.
+Beside the folders `days` says for how many days a copy stays at most, if the office has set that.
 """
 
 import contextlib
@@ -19,7 +19,7 @@ from pathlib import Path
 from typing import Any, NamedTuple
 
 import times
-from copies import ENDS, Copies, make_whole
+from copies import ENDS, Copies, keep_rows_alone, make_whole
 from languages import N_, _
 from placing import beside, drop_half_made, half_made, replace_file, to_disk
 from settings import Fault, Settings, unwritten
@@ -57,7 +57,7 @@ class Backups:
         """Takes the copy. Before a line, while residents wait, nobody looks: the program has just read all of it."""
         self.folder.mkdir(mode=0o700, exist_ok=True)
         with self.copies.copied(still) as copy:
-            if make_whole(copy, look=damaged or not still):
+            if make_whole(copy, look=damaged or not still) and keep_rows_alone(copy):
                 return self.store([copy], {"kind": kind, "why": why, "whole": True})
         if not damaged:
             raise Fault(_("the office's file is damaged, so nothing was done. Put a copy back: {command}",
@@ -111,6 +111,13 @@ class Backups:
             entry = json.loads((self.folder / name / WHY).read_text(encoding="utf-8"))
             return {"kind": str(entry["kind"]), "why": WISHES.sub(r"\1", str(entry["why"]))}
         return {"kind": ASKED_FOR, "why": ""}
+
+    def is_whole(self, name: str) -> bool:
+        """Whether the keeper says of a copy that it is whole, and so has rows alone. One that `rooms-restore` has kept, or that was
+        put there by hand, may have free pages with what its rows were before."""
+        with contextlib.suppress(OSError, ValueError, KeyError, TypeError):
+            return json.loads((self.folder / name / WHY).read_text(encoding="utf-8"))["whole"] is True
+        return False
 
     def listed(self) -> list[tuple[str, int, str]]:
         """The kept copies: name, bytes, and why each was taken."""

@@ -79,21 +79,24 @@ class BesideRegister:
                      sorted(name for name, who in accounts.items() if who == one)) for one in sorted(people)]
         return []
 
-    def let_go(self, gone: Iterable[str]) -> None:
+    def let_go(self, gone: Iterable[str]) -> str:
         """Erases all of people who are out of the register. If one file fails, the others are changed all the same, and the next
-        keeper tries again."""
+        keeper tries again. Says what could not be erased, and why, or nothing: that they are out of the register stands."""
         people, failed = sorted(gone), []
         erasures: list[Callable[[list[str]], None]] = [self.post.erase, self.languages.erase, self.accounts.forget]
         for erase in erasures if people else []:
             try:
                 erase(people)
-            except Fault as fault:
+            except (Fault, OSError, sqlite3.Error) as fault:
                 failed.append(str(fault))
         if failed:
-            raise Fault(" ".join(failed))
-        with self.lock, contextlib.suppress(Fault):  # the next keeper finds nothing under who stays in this file
+            with self.lock, contextlib.suppress(Fault, OSError):  # who was out of the register before is not in this file yet
+                self.write(self.leaving() | set(people))
+            return _("{what} The keeper tries it again when it starts.", what=" ".join(failed))
+        with self.lock, contextlib.suppress(Fault, OSError):  # the next keeper finds nothing under who stays in this file
             if left := self.leaving():
                 self.write(left - set(people))
+        return ""
 
     def finish(self, register: Callable[[], set[str]]) -> None:
         """Erases what a keeper has left that was ended. A person who is in the register did not leave after all, or is somebody
@@ -101,8 +104,8 @@ class BesideRegister:
         part_of(self.path).unlink(missing_ok=True)
         with contextlib.suppress(Fault, OSError, sqlite3.Error):  # of a file that is damaged: the next start tries again
             if left := self.leaving():
-                self.let_go(left - register())
-                self.path.unlink()
+                if not self.let_go(left - register()):
+                    self.path.unlink()
 
     # --- the file
 

@@ -3,6 +3,7 @@
 import contextlib
 import csv
 import io
+from collections.abc import Callable
 from typing import Any
 
 from lines import on_one_line
@@ -48,6 +49,14 @@ def lists_text(rows: dict[str, Any]) -> str:
     return "".join(["person,choices\n", *(f"{person},{' '.join(rooms)}\n" for person, rooms in lists)])
 
 
+def why_not_imported(answer: str, label: str, body: bytes) -> str:
+    """Why a list has not come in, if the answer says too little of it."""
+    if answer.split()[:2] == ["refused", "14"]:
+        return (f"another list came in under the label {label}, or the list was blanked since, so nothing came in. Give this list "
+                "another label.")
+    return row_text(answer, body)
+
+
 def row_text(answer: str, body: bytes) -> str:
     """After `BadRecord N`, with N from 1: in which row of the spreadsheet the record is, and whose it is; else nothing."""
     words = answer.split()
@@ -68,6 +77,7 @@ def about_text(kept: dict[str, Any]) -> str:
     lines = [f"move {number} {old or 'none'} {new or 'none'}" for number, old, new in kept["moves"]]
     lines += [f"list {label} {kind} {','.join(fields)}" for label, kind, fields in kept["lists"]]
     lines += [f"copy {name} until {until}" for name, until in kept["copies"]]
+    lines += [f"copy {name} until {until}, may have this person" for name, until in kept["unsure"]]
     lines += [f"backups {backups['folder']}: at most {backups['most']}, for at most {backups['days']} days"]
     lines += [" ".join(["name in", *filter(None, place)]) for place in kept["texts"]["places"]]
     lines += [f"mail address {mail['address']}"] if mail["address"] else []
@@ -99,6 +109,24 @@ def come_again_text(people: list[str]) -> str:
     """Who is in the register again since the office went back to a copy."""
     whose = "one person is" if len(people) == 1 else f"{len(people)} people are"
     return f"{whose} in the register again, with the key of the copy: {' '.join(people)}"
+
+
+def forgotten_text(people: str, command: str) -> str:
+    """Who of those who are in the register again was forgotten, and by which command they are forgotten again."""
+    return f"of these, people who were forgotten: {people}. Forget them again: {command}"
+
+
+def went_back_texts(answer: dict[str, Any], command: Callable[[str], str]) -> list[str]:
+    """What has become of people by a way back. `command` gives a command as a clerk of this office enters it."""
+    keys = [person for person in answer.get("keys", []) if person not in answer["newer_then"]]
+    come, gone, forgotten, lost = ([person for person, _ in answer.get("come", [])],
+                                   *(" ".join(answer.get(part, [])) for part in ("gone", "forgotten", "lost")))
+    return [*([keys_again_text(keys, command("rooms-office key PERSON"))] if keys else []),
+            *([f"what was kept of these identifiers may have been of other people, and was erased: {gone}"] if gone else []),
+            *([come_again_text(come)] if come else []),
+            *([forgotten_text(forgotten, command("rooms-office forget PERSON"))] if forgotten else []),
+            *([f"these people had another list, which does not count now: {lost}. Tell them so"] if lost else []),
+            *([answer["unkept"]] if answer.get("unkept") else [])]
 
 
 def change_text(entry: dict[str, Any]) -> str:

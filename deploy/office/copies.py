@@ -11,6 +11,7 @@ this one.
 """
 
 import contextlib
+import errno
 import os
 import shutil
 import sqlite3
@@ -60,6 +61,12 @@ def is_whole(database: sqlite3.Connection) -> bool:
             and not database.execute("PRAGMA foreign_key_check").fetchall())
 
 
+def raise_if_full(fault: sqlite3.Error) -> None:
+    """Where the memory for copies is full, says so: the copy is none the worse for it."""
+    if getattr(fault, "sqlite_errorcode", None) == sqlite3.SQLITE_FULL:
+        raise OSError(errno.ENOSPC, os.strerror(errno.ENOSPC)) from fault
+
+
 def make_whole(file: Path, look: bool = True) -> bool:
     """Puts the log of a copy into the copy, which then is one file. With `look`, whether that is a whole database."""
     try:
@@ -67,8 +74,30 @@ def make_whole(file: Path, look: bool = True) -> bool:
             if look and not is_whole(database):
                 return False
             return bool(database.execute("PRAGMA wal_checkpoint(TRUNCATE)").fetchone()[0] == 0)
-    except sqlite3.DatabaseError:
+    except sqlite3.DatabaseError as fault:
+        raise_if_full(fault)
         return False
+
+
+def rewrite(file: Path, new: Path) -> None:
+    """Makes a new file with the rows of a copy, and nothing of what they were before. It has a log, as that of the program has."""
+    with contextlib.closing(sqlite3.connect(file)) as database:
+        database.execute("VACUUM INTO ?", (str(new),))
+    with contextlib.closing(sqlite3.connect(new)) as database:
+        database.execute("PRAGMA journal_mode = WAL")
+
+
+def keep_rows_alone(copy: Path) -> bool:
+    """Puts a file with the same rows in the place of a copy that is one file: what a line has overwritten or deleted may stand in
+    free pages of the office's file. Whether the rows could be read."""
+    new = beside(copy, ".new")
+    try:
+        rewrite(copy, new)
+    except sqlite3.DatabaseError as fault:
+        raise_if_full(fault)
+        return False
+    new.replace(copy)
+    return True
 
 
 @contextlib.contextmanager

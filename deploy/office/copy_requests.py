@@ -8,6 +8,7 @@
 | | | date: whether that of the round is forgotten; mark: of what would be undone, as `back` takes it |
 | given-up | name of a copy, or none | rounds: copy, number, phase of each; or what that one had, and what has changed since |
 | back | name, seen, mark, newer_keys | name: of the copy of the office of before; what has become of people, if it could be read; |
+| | | forgotten: as `compare` |
 | | | unkept: faults of figures |
 """
 
@@ -18,6 +19,7 @@ from collections.abc import Callable
 from backups import ASKED_FOR, BACK, MOST_DAYS
 from beside_register import BesideRegister
 from branches import Branches, named_in
+from change import Change
 from dates import Dates
 from figures_back import Brought
 from figures_kept import Round
@@ -32,7 +34,7 @@ from rows import rows_of
 from seen import why_stale
 from settings import Fault
 from told import mark_of
-from worker import Change, Worker
+from worker import Worker
 
 CHANGED = N_("The office was changed after you looked, so the way back would undo something else than you have read. Nothing was "
              "changed by you: look again, and decide again.")
@@ -95,8 +97,7 @@ class CopyRequests:
             found = Parting(self.office, branches, name).compared(then, now)
         gone, forgotten, until = set(found["gone"]), named_in(branches.entries, "forget"), self.dates.until
         goes = until is not None and not until.is_of(then)
-        found |= {"gone": sorted(self.beside.with_something(gone)), "date": goes,
-                  "forgotten": [person for person, _name in found["come"] if person in forgotten]}
+        found |= {"gone": sorted(self.beside.with_something(gone)), "date": goes, "forgotten": come_of(found, forgotten)}
         by_hand = sum(bool(named_in([entry], "choose")) for entry in branches.entries)
         seen = {**now, "choices": by_hand}, {**found, **dict.fromkeys(OF_LISTS)}
         return {**found, "mark": f"{mark_of([*seen, self.beside.kept_of(gone), until if goes else None])}-{now['run']}"}
@@ -126,7 +127,8 @@ class CopyRequests:
             said = change.answers[-1].text.strip()
             raise Fault(_("the program does not take this copy ({said}). Nothing was changed.", said=said))
         self.dates.went_back(way.then)
-        return {"name": change.copy, **way.told(), **self.figures_back(name, change.copy)}
+        told, forgotten = way.told(), named_in(Branches(self.journal.entries(whole=True)).entries, "forget")
+        return {"name": change.copy, **told, "forgotten": come_of(told, forgotten), **self.figures_back(name, change.copy)}
 
     def figures_back(self, name: str, before: str | None) -> Job:
         """Lets the figures be those of the office after the way back to a copy. Gives what went wrong, if anything."""
@@ -134,3 +136,8 @@ class CopyRequests:
             return Brought(self.journal, self.backups, name, before or "").figures(self.worker.view.rows())
         unkept = self.office.figures.went_back(brought)
         return {"unkept": unkept} if unkept else {}
+
+
+def come_of(found: Job, people: set[str]) -> list[str]:
+    """Those of these people who come back into the register by a way back."""
+    return [person for person, _name in found.get("come", []) if person in people]

@@ -13,34 +13,36 @@ lines: what is answered stands. A blanked list keeps its label, and has seven by
 the label `refused 14 ListDiffers`, even one of the list that came in under it.
 """
 
-import contextlib
 from collections.abc import Callable
 from pathlib import Path
 
 from about import kept_in
 from beside_register import BesideRegister
+from change import Change
 from job import Job, identifier_in, saw_in, seen_in, text
-from journal import masked, masked_line
+from journal import masked, masked_line, spoken_of
 from languages import _
 from lines import IDENTIFIER, LABEL, UNAVAILABLE, gone_by, name_shows_a_key
 from office import Office
 from program import NOT_UNDERSTOOD, Answer, is_refused
 from register import homes_in
 from rows import rows_of
-from settings import Fault, NotKnown
-from worker import Change, Worker
+from settings import Fault, NotKnown, Refused
+from worker import Worker, change_followed
 
 # The parts of a correction in the order in which they are made. A key may be another person's by now; the program refuses a name
 # of nobody alone.
 PARTS = ("key", "name")
 
 
-def why_refused(line: str, answer: Answer) -> str:
-    """Why the program has not carried out a line `name`, `key` or `blank`, as a clerk reads it."""
+def why_refused(line: str, answer: Answer, reached: bool) -> str:
+    """Why the program has not carried out a line `name`, `key` or `blank`, as a clerk reads it. `reached` is whether it was to do
+    so in the office's file: what it does on a copy takes no effect."""
     verb, what = line.split(" ")[:2]
     said, number = "; ".join(answer.text.splitlines()), answer.text.split()[1:2]
     if answer.status == UNAVAILABLE:
-        return _("the disk or the memory did not serve ({why}). Look whether this took effect.", why=said)
+        return (_("the disk or the memory did not serve ({why}). Look whether this took effect.", why=said) if reached else
+                _("the disk or the memory did not serve ({why}).", why=said))
     if number == ["25"]:
         return _("no list has come in under the label {label}.", label=repr(what))
     if verb == "blank":
@@ -53,15 +55,24 @@ def why_refused(line: str, answer: Answer) -> str:
              "with an accent takes two; a key has 16 to 64 small letters and digits.", said=said)
 
 
-def unchanged(why: str) -> Fault:
-    """The fault of something that was not done at all."""
-    return Fault(_("{why} Nothing was changed.", why=why))
+def unchanged(why: str, answer: Answer = NOT_UNDERSTOOD) -> Fault:
+    """The fault of something that was not done at all, with the answer of the program to it."""
+    return Refused(_("{why} Nothing was changed.", why=why), answer)
 
 
-def refusal(lines: list[str], answers: list[Answer]) -> Fault:
-    """The fault of lines of which none was carried out: why not the last one that was answered, by a copy or by the office."""
-    why = why_refused(lines[len(answers) - 1], answers[-1])
-    return NotKnown(why) if answers[-1].status == UNAVAILABLE else unchanged(why)
+def refusal(lines: list[str], answers: list[Answer], reached: bool) -> Fault:
+    """The fault of lines of which none was carried out: why not the last one that was answered, by a copy or, if that was
+    `reached`, by the office."""
+    why = why_refused(lines[len(answers) - 1], answers[-1], reached)
+    return NotKnown(why) if reached and answers[-1].status == UNAVAILABLE else unchanged(why, answers[-1])
+
+
+def half_corrected(line: str, answer: Answer) -> Fault:
+    """The fault of the second line of a correction, after which the new key works."""
+    if answer.status == UNAVAILABLE:
+        return NotKnown(_("the new key works. Then the disk or the memory did not serve ({why}): look whether the name is another "
+                          "one, too.", why="; ".join(answer.text.splitlines())))
+    return Fault(_("{why} The new key works, and the name is as it was.", why=why_refused(line, answer, True)))
 
 
 def lines_for(person: str, values: dict[str, str]) -> list[str]:
@@ -71,7 +82,7 @@ def lines_for(person: str, values: dict[str, str]) -> list[str]:
         raise unchanged(_("nobody has the identifier {person}.", person=repr(person)))
     for line in lines:
         if not all(line.split(" ")) or line.endswith("\r"):
-            raise unchanged(why_refused(line, NOT_UNDERSTOOD))
+            raise unchanged(why_refused(line, NOT_UNDERSTOOD, False))
     return lines
 
 
@@ -94,7 +105,7 @@ class Corrections:
         change = self.worker.change(Change(job["who"], masked(lines[0]), lambda file: self.program.tell_all(lines, file),
                                            lines=lines, erases=True, seen=seen_in(job)))
         if is_refused(change.answers):
-            raise refusal(lines, change.answers)
+            raise refusal(lines, change.answers, change.reached)
         return {"blanked": label, **change.unkept}
 
     def correct(self, job: Job) -> Job:
@@ -109,10 +120,9 @@ class Corrections:
         lines = lines_for(person, values)
         change = self.worker.change(self.correction(job, lines, spoken, spoken))
         if is_refused(change.answers) and change.made:
-            raise Fault(_("{why} The new key works, and the name is as it was.",
-                          why=why_refused(lines[change.made], change.answers[-1])))
+            raise half_corrected(lines[change.made], change.answers[-1])
         if is_refused(change.answers):
-            raise refusal(lines, change.answers)
+            raise refusal(lines, change.answers, change.reached)
         return {"corrected": person, "copy": change.copy}
 
     def new_keys(self, job: Job) -> Job:
@@ -126,13 +136,13 @@ class Corrections:
         change.speak = spoken_of_keys
         try:
             if is_refused(self.worker.change(change).answers):
-                why = why_refused(lines[len(change.answers) - 1], change.answers[-1])
+                why = why_refused(lines[len(change.answers) - 1], change.answers[-1], change.reached)
         except Fault as fault:
             if not change.made:
                 raise
             why = str(fault)
         if why and not change.made:
-            raise refusal(lines, change.answers)
+            raise refusal(lines, change.answers, change.reached)
         reply = {"corrected": change.made, "copy": change.copy}
         return {**reply, "refused": [masked_line(lines[change.made]), why]} if why else reply
 
@@ -143,33 +153,38 @@ class Corrections:
 
     def forget(self, job: Job) -> Job:
         """Removes a person, and blanks each kept list that names them. What was done of it stands, and a clerk who asks for it
-        again gets the rest."""
-        person, done = identifier_in(job), False
+        again gets the rest. If nothing is left, no copy is kept before; the file is written anew all the same, since free pages may
+        have who was removed before."""
+        person = identifier_in(job)
         line = f"forget {person}"
 
         def carry_out(file: Path) -> list[Answer]:
-            lines = self.lines_to_forget(person, file)
-            if file == self.copies.file:
-                change.lines = lines
+            lines = change.lines if file == self.copies.file else lines_to_forget(person, file)
             return self.program.tell_all(lines or ["round"], file)
 
-        change = Change(job["who"], line, carry_out, kind="forget", before=line, register=self.beside.prepare, gone={person},
-                        erases=True, seen=seen_in(job), saw=saw_in(job))
-        try:
-            done = not is_refused(self.worker.change(change).answers)
-        finally:  # who is out of the register has nothing beside it, whatever has become of the lines after that
-            if done or gone_by(change.lines[:change.made]):
-                self.beside.let_go([person])
-        return change.told()
+        def follow() -> str:  # who is out of the register has nothing beside it, whatever has become of the lines after that
+            is_out = change.made >= len(change.lines) or gone_by(change.lines[:change.made])
+            return self.beside.let_go([person]) if is_out else ""
 
-    def lines_to_forget(self, person: str, file: Path) -> list[str]:
-        """The lines by which the office, or a copy of it, forgets a person: first those that may be refused."""
-        with contextlib.ExitStack() as reading:
-            copy = reading.enter_context(self.copies.copied()) if file == self.copies.file else file
-            homes = homes_in(rows_of(copy))
-            labels = sorted({record[0] for record in kept_in(copy, person)["lists"]})
-        return [*([f"leave {person}"] if homes.get(person) else []), *([f"remove {person}"] if person in homes else []),
-                *(f"blank {label}" for label in labels)]
+        change = Change(job["who"], line, carry_out, plan=lambda copy: lines_to_forget(person, copy), kind="forget", before=line,
+                        register=self.beside.prepare, gone={person}, erases=True, seen=seen_in(job), saw=saw_in(job),
+                        speak=lambda lines: spoken_of_forgotten(line, lines))
+        return change_followed(self.worker, change, follow).told()
+
+
+def lines_to_forget(person: str, copy: Path) -> list[str]:
+    """The lines by which the office forgets a person, by a copy of it: first those that may be refused."""
+    homes = homes_in(rows_of(copy))
+    labels = sorted({record[0] for record in kept_in(copy, person)["lists"]})
+    return [*([f"leave {person}"] if homes.get(person) else []), *([f"remove {person}"] if person in homes else []),
+            *(f"blank {label}" for label in labels)]
+
+
+def spoken_of_forgotten(line: str, lines: list[str]) -> str:
+    """Some of the lines by which a person is forgotten, as the journal has them. Once they begin to erase the person, it has that,
+    too: who was forgotten in part is named nowhere, and at a way back the clerk reads that the person was forgotten."""
+    said = spoken_of(lines)
+    return said if all(one.startswith("leave ") for one in lines) else f"{line}; {said}"
 
 
 def short_of_keys(lines: list[str]) -> str:

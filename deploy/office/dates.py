@@ -17,6 +17,7 @@ from pathlib import Path
 from typing import NamedTuple
 
 import times
+from change import Change
 from job import Job
 from languages import N_, Said, _, again, what_says
 from mail_why import FAILED
@@ -26,7 +27,7 @@ from program import is_refused
 from seen import Rows, stamp, stamp_of, why_stale
 from settings import Fault, unwritten
 from told import mark_of
-from worker import Change, Worker
+from worker import Worker
 
 WRITTEN = re.compile(r"[0-9]{4}-[0-9]{2}-[0-9]{2}T[0-9]{2}:[0-9]{2}(:[0-9]{2})?")
 LOCALTIME, ZONES = Path("/etc/localtime"), "zoneinfo/"

@@ -8,12 +8,14 @@ from typing import Any
 from beside_register import BesideRegister
 from branches import Branches
 from correcting import refusal
+from languages import _
 from office import Office
 from parting import Parting
 from program import Answer, is_of_earlier_version, is_refused
 from register import people_in
 from rows import keys_in, rows_of
 from seen import Rows
+from settings import Fault
 
 
 class GoingBack:
@@ -46,7 +48,7 @@ class GoingBack:
                 lines = [f"key {person} {keys[person]}" for person in stay]
                 answers = program.tell_all(lines, copy)
                 if is_refused(answers):
-                    raise refusal(lines, answers)
+                    raise not_kept(stay[len(answers) - 1], keys, copy) or refusal(lines, answers, False)
         return [answer]
 
     def compared(self, now: Rows | None) -> dict[str, Any]:
@@ -72,3 +74,12 @@ class GoingBack:
         stay = set(self.stay())
         return {name: [one for one in found if one not in stay] if name in ("keys", "newer_now") else found
                 for name, found in self.found.items()}
+
+
+def not_kept(person: str, keys: dict[str, str], copy: Path) -> Fault | None:
+    """The fault of a newer key that a person cannot keep, since it is somebody else's in the copy; or nothing."""
+    other = next((one for one, key in keys_in(copy).items() if key == keys[person] and one != person), "")
+    if not other:
+        return None
+    return Fault(_("the newer key of {person} is in the copy that of {other}, so {person} cannot keep it. Nothing was changed. Go "
+                   "back without the newer keys, and make new keys for both afterwards.", person=person, other=other))

@@ -34,7 +34,7 @@ from languages import ENGLISH, _, speak
 from keeper_requests import Requests
 from office import Office
 from register import people_in
-from settings import Fault, Settings, from_environment
+from settings import Fault, Refused, Settings, from_environment
 from worker import Worker
 
 LONGEST_REQUEST = 1 << 20  # bytes: a list of 262,145 bytes in base 64, or thousands of lines
@@ -86,7 +86,8 @@ class RequestHandler(socketserver.StreamRequestHandler):
             with self.server.answering:
                 answer = self.answer(request)
         except Fault as why:
-            answer = {"fault": str(why), **({"unknown": True} if why.unknown else {})}
+            answer = {"fault": str(why), **({"unknown": True} if why.unknown else {}),
+                      **({"refused": why.answer} if isinstance(why, Refused) else {})}
         except FileNotFoundError as why:
             answer = {"fault": _("there is no file {path}", path=why.filename)}
         except (OSError, sqlite3.Error) as why:

@@ -29,7 +29,7 @@
 
 By `seen` and `saw` the sender says what it saw of the round and of people; if that is so no more, nothing is changed
 (seen.py). An answer is a text and a status of the program. `fault` is why something cannot be done, in the language `speaks`; with
-`unknown` nobody knows whether it was done.
+`unknown` nobody knows whether it was done, and `refused` is the answer of the program, if it has refused one line.
 By `again` the sender says whose identifiers are those of the same people as before. If somebody else comes under a former
 identifier, nothing is changed, and beside the fault `former` has each such identifier, with the name that it stood for (former.py).
 """
@@ -43,6 +43,7 @@ from about import about
 from accounts import Accounts, ClerkRequests
 from beside_register import BesideRegister
 from branches import Branches
+from change import CarryOut, Change
 from copy_requests import CopyRequests
 from correcting import Corrections
 from dates import Dates
@@ -66,7 +67,7 @@ from seeds import noted_seeds
 from seen import Rows
 from settings import Fault
 from watching import watch
-from worker import CarryOut, Change, Worker
+from worker import Worker, change_followed
 
 SHORT = 60     # signs of a line that a copy keeps
 
@@ -209,20 +210,15 @@ class Requests:
         change = self.change_of(job, (short_of(lines), spoken_of(lines)), kind,
                                 lambda file: self.told(job, lines, file, look))
         change.lines, change.come, change.gone, change.erases = lines, named(lines, "person"), gone_by(lines), erases(lines)
-        try:
-            self.worker.change(change)
-        finally:  # what stands is followed, whatever has become of the lines after it
-            if stands := lines[:change.made]:
-                self.follow(stands, before, change)
-                self.beside.let_go(gone_by(stands))
-        return change.told()
+        return change_followed(self.worker, change, lambda: self.follow(lines[:change.made], before)).told()
 
-    def follow(self, lines: list[str], before: Before, change: Change) -> None:
-        """Brings figures and receipts up to lines that a change has carried out."""
+    def follow(self, lines: list[str], before: Before) -> str:
+        """Brings figures, receipts, and what is beside the register up to lines that a change has carried out. Says what went
+        wrong, if anything: the lines stand."""
         if "open" in map(verb_of, lines):
             self.post.opened()
         unkept = self.office.figures.follow(lines, before, self.worker.view.rows)
-        change.left = " ".join(filter(None, (change.left, unkept)))
+        return " ".join(filter(None, (unkept, self.beside.let_go(gone_by(lines)))))
 
     def draw(self, job: Job) -> Job:
         """The draw by a seed."""

@@ -22,7 +22,7 @@ from languages import ENGLISH, N_, _, languages
 from placing import replace_file
 from register import people_in
 from rows import View
-from settings import Fault, unwritten
+from settings import Fault, cause_of, unwritten
 
 OTHER = N_("the language was changed after you looked. Nothing was changed by you: decide again.")
 MOST_CLERKS = 1000  # more is no office; the file stays small whichever clerk asks
@@ -111,8 +111,8 @@ class Languages:
         try:
             self.set_residents({person: "" for person in people})
         except Fault as fault:
-            raise Fault(_("Only a part was done: the languages of those who are out of the register were not erased, since {why}",
-                          why=fault)) from fault
+            raise Fault(_("The languages of those who are out of the register were not erased ({why}).", why=cause_of(fault))
+                        ) from fault
 
     def about(self, person: str) -> Job:
         """What is kept of a person here, or why that cannot be read."""

@@ -41,6 +41,7 @@ LASTING = {
 }
 # The steps of a round.
 STEPS = frozenset({"open", "close", "cancel", "draw", "run", "publish", "settle"})
+NAME_BEGINS = {"person": 3, "name": 2}  # with which word, counted from 0, the name of a person begins in a line
 REPLACED = "the list that it replaces is nowhere else"
 MANY = "a list or a bundle of lines is not taken back as a whole"
 
@@ -92,6 +93,12 @@ def shows_a_key(line: str) -> bool:
 def name_shows_a_key(name: str) -> bool:
     """Whether a name has a word that may be a key. Long words of letters alone are names."""
     return any(re.search("[0-9]", found) for found in LIKE_A_KEY.findall(name))
+
+
+def has_name_like_a_key(line: str) -> bool:
+    """Whether a line has a person's name with a word that may be a key: the program does not get it."""
+    begins = NAME_BEGINS.get(verb_of(line))
+    return begins is not None and name_shows_a_key(" ".join(line.split()[begins:]))
 
 
 def reason_to_copy(lines: list[str], choices: dict[str, Any]) -> str:

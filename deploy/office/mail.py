@@ -140,8 +140,8 @@ class Post:  # pylint: disable=too-many-instance-attributes  # the parts of the 
             self.book.erase(people)
         except Fault as fault:
             who = people[0] if len(people) == 1 else ngettext("{count} person", "{count} people", len(people))
-            raise Fault(_("Only a part was done: {who}: out of the register, but no mail address was erased, since {why}",
-                          who=who, why=fault)) from fault
+            raise Fault(_("The mail address, and which messages were sent, were not erased of {who}: {why}", who=who,
+                          why=fault)) from fault
 
     def set_addresses(self, job: Job) -> Job:
         """Sets addresses of people in the register, all or none."""

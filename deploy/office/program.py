@@ -15,7 +15,7 @@ from typing import NamedTuple
 
 from languages import _
 from line_run import Ended, LineRun, is_skipped, status_of
-from lines import SEED, UNAVAILABLE, name_shows_a_key, shows_a_key, verb_of
+from lines import SEED, UNAVAILABLE, has_name_like_a_key, shows_a_key
 from settings import Fault, NotKnown, Settings
 
 FURTHER, MOST = 0.02, 2_000  # seconds for each further line of a bundle, and for how many of them at most
@@ -30,7 +30,6 @@ class Answer(NamedTuple):
     status: int
 
 
-NAME_BEGINS = {"person": 3, "name": 2}  # with which word, counted from 0, the name of a person begins in a line
 NOT_UNDERSTOOD = Answer("not understood\n", 2)
 EARLIER = ("refused 22 OtherVersion 1", "refused 22 OtherVersion 2")  # of files that it can migrate
 
@@ -70,8 +69,7 @@ def is_taken(line: str) -> bool:
         line.encode("utf-8", "surrogateescape")
     except UnicodeEncodeError:
         return False
-    begins = NAME_BEGINS.get(verb_of(line))
-    return "\n" not in line and not (begins and name_shows_a_key(" ".join(line.split()[begins:])))
+    return "\n" not in line and not has_name_like_a_key(line)
 
 
 class Program:

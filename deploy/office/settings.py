@@ -23,6 +23,20 @@ class NotKnown(Fault):
     unknown = True
 
 
+class Refused(Fault):
+    """The program, or the keeper in its place, has refused a line. `answer` is what the program says: its text, and its status."""
+
+    def __init__(self, why: str, answer: tuple[str, int]) -> None:
+        super().__init__(why)
+        self.answer = answer
+
+
+def cause_of(fault: Exception) -> object:
+    """Why something that has a fault of its own could not be written. What the fault says elsewhere is that nothing was changed."""
+    cause = fault if isinstance(fault, OSError) else fault.__context__
+    return cause.strerror if isinstance(cause, OSError) else fault
+
+
 def unwritten(what: str, fault: OSError) -> Fault:
     """The fault of something that could not be written, before anything was changed. What that is, is translated here."""
     values = {"what": _(what), "reason": fault.strerror}

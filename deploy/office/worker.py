@@ -12,84 +12,25 @@ import subprocess
 import threading
 import time
 from collections.abc import Callable
-from dataclasses import dataclass, field
-from pathlib import Path
+from dataclasses import dataclass
 from typing import Any
 
 import times
 from anew import Anew
 from backups import BACK, Backups
-from copies import State, make_whole
-from journal import spoken_of
-from languages import _, in_english, speaking, spoken, what_says
+from change import Change, besides
+from copies import make_whole
+from languages import _, in_english, speaking, what_says
 from lines import NOT_TAKEN, reason_to_copy
 from office import Office
 from program import Answer, Unanswered, is_refused
 from register import people_in
 from rows import View
-from seen import Rows, Saw, why_stale
-from settings import Fault, NotKnown
+from seen import Rows, why_stale
+from settings import Fault
 
 FIRST_PAUSE, LONGEST_PAUSE = 0.2, 5.0  # seconds before a server is started again that has ended by itself
 LIVED = 2.0                            # a server that ran for so long has worked: the pause begins anew
-
-
-CarryOut = Callable[[Path], list[Answer]]
-Register = Callable[[set[str], set[str]], None]
-
-
-@dataclass
-class Change:  # pylint: disable=too-many-instance-attributes  # what is asked for, and what comes of it
-    """A change of the office that somebody waits for."""
-
-    who: str
-    line: str                                   # as the journal has it
-    carry_out: CarryOut                         # on a copy, or on the office's file
-    whole: bool = False                         # on a copy, which then replaces the file: a way back
-    kind: str = ""                              # the kind of the copy that is kept before, or none; lines may need none
-    before: str = ""                            # what the reason of this copy says that it was kept before
-    damaged: bool = False                       # even if the office is damaged
-    register: Register | None = None            # learns who comes into the register and who leaves, before they do
-    erases: bool = False                        # nothing of what it overwrites may stay in the office's file
-    before_put: Callable[[], None] | None = None  # done just before the copy takes the office's place, when nothing is in the way
-    lines: list[str] = field(default_factory=list)  # that it carries out one after the other
-    speak: Callable[[list[str]], str] = field(default=spoken_of)  # some of these lines, as the journal has them
-    come: set[str] = field(default_factory=set)  # who comes into the register by it; some may be there
-    gone: set[str] = field(default_factory=set)  # who is out of the register after it
-    seen: str | None = None                     # the state in which its sender saw the round
-    saw: Saw | None = None                      # what its sender saw of people
-    why_not: Callable[[], str] | None = None    # why it is not made although all this is as it was, or nothing
-    language: str = field(default_factory=spoken)  # of its sender
-    tried: State | None = None                  # of the file, when a copy of it has taken the change
-    copy: str | None = None                     # the name of the copy that was kept before; empty once that is deleted again
-    answers: list[Answer] = field(default_factory=list)
-    made: int = 0                               # how many of its lines are in effect
-    left: str = ""                              # what of it is left to be done, and why; nothing if all is done
-    took: int = 0                               # milliseconds
-    fault: str = ""
-    unknown: bool = False                       # whether nobody knows, with this fault, if it was made
-    wanted: threading.Lock = field(default_factory=threading.Lock)  # taken to make the change, or to give it up
-    done: threading.Event = field(default_factory=threading.Event)
-
-    @property
-    def why(self) -> str:
-        """Why the copy is kept. The office's page reads it (reasons.py)."""
-        return f"before {self.before}, by {self.who}"
-
-    @property
-    def unkept(self) -> dict[str, str]:
-        """What of it is left to be done, for its sender; nothing if all is done."""
-        return {"unkept": self.left} if self.left else {}
-
-    def told(self) -> dict[str, Any]:
-        """The answer to its sender."""
-        return {"answers": self.answers, "done": not is_refused(self.answers), "made": self.made, "took": self.took,
-                "copy": self.copy, **self.unkept}
-
-    def end(self, fault: str) -> None:
-        """Ends a change that is not made."""
-        self.fault = fault
-        self.done.set()
 
 
 def since(began: float) -> int:
@@ -164,8 +105,7 @@ class Worker:  # pylint: disable=too-many-instance-attributes  # the parts of th
             raise Fault(_("other changes took too long. Nothing was changed: try again."))
         change.done.wait()
         if change.fault:
-            why = _("{why} Besides: {left}", why=change.fault, left=change.left) if change.left else change.fault
-            raise (NotKnown if change.unknown else Fault)(why)
+            raise besides(change.fault, change.left, change.unknown)
         return change
 
     def rows(self, still: bool = False) -> Rows:
@@ -243,7 +183,10 @@ class Worker:  # pylint: disable=too-many-instance-attributes  # the parts of th
             except Fault as fault:
                 change.fault, change.unknown = what_says(fault), fault.unknown
             except (OSError, sqlite3.Error) as fault:
-                change.fault = _("the disk or the memory did not serve ({why}). Look whether this took effect.", why=fault)
+                change.unknown = change.begun
+                change.fault = (_("the disk or the memory did not serve ({why}). Look whether this took effect.", why=fault)
+                                if change.begun else
+                                _("the disk or the memory did not serve ({why}). Nothing was changed.", why=fault))
             finally:
                 change.done.set()
 
@@ -261,18 +204,23 @@ class Worker:  # pylint: disable=too-many-instance-attributes  # the parts of th
                 raise Fault(why)
             if change.why_not and (why := change.why_not()):
                 raise Fault(why)
+            if change.plan:
+                with self.copies.copied(still=True) as copy:
+                    change.lines = change.plan(copy)
             if self.has_to_copy(change):
                 if self.is_refused_by_now(change):
                     return
                 change.copy = self.backups.keep(change.kind, change.why, still=True, damaged=change.damaged)
                 self.back = change.copy if change.kind == BACK else self.back
             number = self.journal.begin(change.who, change.line, change.copy)
+            change.begun = True
             try:
                 if change.whole:
                     change.answers = self.replaced(change, held)
                 else:
                     self.prepare(change)
                     holding.close()
+                    change.reached = True
                     change.answers = self.in_place(change)
             except (Fault, OSError, sqlite3.Error) as fault:
                 change.answers = fault.answers if isinstance(fault, Unanswered) else []
@@ -293,6 +241,8 @@ class Worker:  # pylint: disable=too-many-instance-attributes  # the parts of th
 
     def has_to_copy(self, change: Change) -> bool:
         """Whether the office is copied before a change. A list that a line would replace may have come while the line waited."""
+        if change.plan:
+            return bool(change.lines)
         lists = self.view.rows(still=True)["choices"] if change.kind == "choose" else {}
         return bool(change.kind) and (not change.lines or bool(reason_to_copy(change.lines, lists)))
 
@@ -384,3 +334,17 @@ class Worker:  # pylint: disable=too-many-instance-attributes  # the parts of th
             self.pause = FIRST_PAUSE
         if ended.status not in NOT_TAKEN:
             self.start_later()
+
+
+def change_followed(worker: Worker, change: Change, follow: Callable[[], str]) -> Change:
+    """Makes a change, and then what follows on those of its lines that stand, whatever has become of the others. What `follow` says
+    is left to be done, and hides neither answers nor a fault."""
+    try:
+        worker.change(change)
+    except Fault as fault:
+        if change.made and (left := follow()):
+            raise besides(fault, left, fault.unknown) from fault
+        raise
+    if change.made:
+        change.left = " ".join(filter(None, (change.left, follow())))
+    return change

@@ -26,9 +26,12 @@ from parts import an_office, fault_of, rooms_of
 from stand import Stand, check, key_of, until
 
 # pylint: disable=wrong-import-order  # they are in the folder that the import of `beside` has added
-from anew import Anew, are_same, rewrite
+from anew import Anew, are_same
+from change import Change
+from copies import rewrite
 from office import Office
 from program import Answer
+from worker import Worker
 
 MARK = "rooms.db.anew"
 PEOPLE = 100  # on each list: more than a page of the file has room for
@@ -57,6 +60,12 @@ def remove(stand, *labels):
     """Removes the people of these lists from the register. The lists stay."""
     lines = [f"remove {label.upper()}{number}" for label in labels for number in range(PEOPLE)]
     check("they are removed", stand.ask(ask="do", lines=lines).get("made") == len(lines))
+
+
+def copies_with(stand, *labels):
+    """The kept copies that have the name of one of these lists."""
+    return [one.parent.name for one in sorted(stand.data.glob("backups/*/rooms.db*"))
+            if any(secret_of(label).encode() in one.read_bytes() for label in labels)]
 
 
 def blanked_in(stand):
@@ -90,8 +99,8 @@ def try_lines(stand):
     check("a label of no list is refused", told[:2] == (1, "refused 25 UnknownLabel\n"), told)
     for label in ("none", "No Label", "a\nb", ""):
         answer = stand.ask(ask="blank", label=label)
-        check(f"and {label!r} by the command", answer == {"fault": f"no list has come in under the label {label!r}. Nothing was "
-                                                                   "changed."}, answer)
+        check(f"and {label!r} by the command", answer["fault"] == f"no list has come in under the label {label!r}. Nothing was "
+              "changed.", answer)
 
 
 def alarms(stand):
@@ -120,10 +129,18 @@ def try_open(stand, between, page):
         shown = flat(page.get("/office/lists")[2])
         check("and the page", "The list b1 is blank." in shown and "What was erased may still be in free pages" in shown, shown)
         check("which is so", holds(stand, "b1") and holds(stand, "b3") and not is_written_anew(stand))
+        before, made = copies_with(stand, "b1", "b3"), stand.ask(ask="backup")["name"]
+        answer = stand.ask(ask="do", lines=["room B-3", "room B-4"])
+        check("a copy that is asked for meanwhile, and one before lines, have nothing of it", answer["copy"] > made > before[-1] and
+              copies_with(stand, "b1", "b3") == before, (before, made, answer, copies_with(stand, "b1", "b3")))
         stand.stop_keeper()
         stand.start()
         check("the watch says so, also after another start of the keeper", alarms(stand) == 1)
         check("residents have their server", stand.until_listening(stand.server_port) is None and stand.server())
+    status, fields, _ = page.get("/office/blank/none")
+    shown = flat(page.get("/office/lists")[2])
+    check("of a label that there is not, the page asks nothing", (status, fields.get("location")) == (303, "/office/lists") and
+          "Nothing was changed. No list has come in under this label." in shown, (status, fields, shown[:1000]))
     check("another line changes nothing of that", stand.office("room B-2") == "ok\n" and not is_written_anew(stand))
     check("the next list that is blanked takes it along", "unkept" not in stand.ask(ask="blank", label="b2") and
           not any(holds(stand, label) for label in ("b1", "b2", "b3")) and is_written_anew(stand) and not alarms(stand))
@@ -158,19 +175,28 @@ def try_forget(stand, between):
     person = "D10"
     body = base64.b64encode(f"person,grade\n{person},2\n".encode()).decode()
     check("another list names somebody", stand.ask(ask="import", kind="grades", label="d9", body=body).get("done"))
+    before = stand.ask(ask="backup")["name"]
     copies = len(stand.ask(ask="backups")["backups"])
     between.before_next("kill -9 $REAL", after=2)
     answer = stand.ask(ask="forget", person=person)
     check("if the program dies in the middle, the answer says how far it came", "2 of 3 lines were carried out" in answer["fault"],
           answer)
-    check("and so does the journal", [one[0] for one in noted(stand, 2)] == [f"remove {person}; blank d1", "blank d9"],
-          noted(stand, 2))
+    check("and so does the journal", [one[0] for one in noted(stand, 2)] ==
+          [f"forget {person}; remove {person}; blank d1", f"forget {person}; blank d9"], noted(stand, 2))
+    found = stand.ask(ask="compare", name=before)
+    check("at a way back the clerk reads who was forgotten in part", found["forgotten"] == [person], found)
     check("which is so, and what is blanked is in no file", "d1" in blanked_in(stand) and "d9" not in blanked_in(stand) and
           person not in [row[0] for row in stand.ask(ask="view")["people"]] and not holds_list(stand), blanked_in(stand))
     answer = stand.ask(ask="forget", person=person)
     check("asked again, the keeper does the rest", answer["done"] and "d9" in blanked_in(stand) and answer["copy"], answer)
     check("with a copy before each", len(stand.ask(ask="backups")["backups"]) == copies + 2)
-    check("and once more, with nothing left", stand.ask(ask="forget", person=person).get("done"))
+    answer = stand.ask(ask="forget", person=person)
+    check("and once more, with nothing left, without a copy", answer["done"] and answer["copy"] is None and
+          len(stand.ask(ask="backups")["backups"]) == copies + 2, answer)
+    told = stand.command("back", before)
+    check("who goes back by a command reads who was forgotten, and comes back by it", told[0] == 0 and
+          f"who were forgotten: {person}. Forget them again: rooms-office forget PERSON" in told[2], told)
+    check("and forth again", stand.command("back", told[1].strip())[0] == 0)
     between.before_next(between.by_hand("open"))
     answer = stand.ask(ask="forget", person="D11")
     check("what the office refuses meanwhile is not done", not answer.get("done") and answer["made"] == 0 and
@@ -224,6 +250,28 @@ def try_faults():
                   and rooms_of(settings.file) == ["OLD"])
 
 
+def try_full_memory():
+    """The memory for copies is full. Nobody reads that the office is damaged, or that a change may have taken effect before it was
+    begun."""
+    full = sqlite3.OperationalError("database or disk is full")
+    full.sqlite_errorcode = sqlite3.SQLITE_FULL
+    with an_office() as settings:
+        office = Office(settings)
+        with mock.patch("copies.rewrite", side_effect=full):
+            said = fault_of(lambda: office.backups.keep("close", "before close"))
+        check("a copy that has no room is none of a damaged office", "No space left on device" in said and "damaged" not in said
+              and not office.backups.names(), said)
+        with mock.patch("copies.rewrite", side_effect=sqlite3.DatabaseError("malformed")):
+            said = fault_of(lambda: office.backups.keep("close", "before close"))
+        check("and one whose rows cannot be read is", "damaged" in said and not office.backups.names(), said)
+        worker = Worker(office)
+        for begun, text in ((False, "Nothing was changed."), (True, "Look whether this took effect.")):
+            change = Change("anna", "room A", lambda _: [], begun=begun)
+            with mock.patch.object(worker, "make", side_effect=OSError(errno.ENOSPC, "full")):
+                worker.carry_out(change)
+            check(f"a disk that fails: {text}", text in change.fault and change.unknown == begun, change)
+
+
 def try_full(program):
     """The disk is full in the middle of lines: the clerk reads how far they came, and nothing else."""
     with small_disk() as disk:
@@ -272,6 +320,7 @@ def try_full_between(stand, between, page, filler):
 def try_erased(program):
     """All of it."""
     try_faults()
+    try_full_memory()
     try_full(program)
     with Stand(program) as stand:
         between = Between(stand)

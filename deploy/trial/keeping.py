@@ -98,6 +98,8 @@ def hidden_keys(stand):
         for line in slips:
             told = stand.command("do", "-", given=f"{line}\n")
             check("a line with a slip is not understood", told[:2] == (2, "not understood\n"), told)
+        told = stand.command("do", "-", given=f"person R8 {OTHER} Bea {KEY}\n")
+        check("and of a name that may be a key the clerk reads why", "a word of the name may be a key" in told[2], told)
         told = stand.command("do", "-", given=f"person R8 {OTHER} Bea Ma\nperson R7 {'c' * 16} Cy Lo\n")
         check("of several lines none is taken for the only one", told[:2] == (2, "") and "rooms-office lines" in told[2]
               and "Bea" not in stand.office("people"), told)
@@ -196,6 +198,9 @@ def corrected(stand, is_program):
     check("a name has one space in place of many, as on the page", told[:2] == (0, "Anna Maria Lí\n"), told)
     told = stand.command("name", "R9", " ")
     check("a name of spaces is none, and changes nothing", told[0] == 2 and not told[1], told)
+    for words in (("name", "NOBODY", "No", "One"), ("key", "NOBODY")):
+        told = stand.command(*words)
+        check(f"{words[0]} of nobody is refused as the line is", told[:2] == (1, "refused 2 UnknownPerson\n"), told)
     stand.command("name", "R9", "Anna", "Lí")
     told = stand.command("key", "R9")
     check("a new key is made", told[0] == 0 and re.fullmatch("[0-9a-f]{32}\n", told[1]), told)
@@ -269,10 +274,12 @@ def blanked(stand):
     )
     for body in ("room\nH2\nH3\n", "", "room\nH77\n"):
         told = stand.command("import", "rooms", "rooms-1", "-", given=body)
-        check(f"{body!r} under its label is another list", told[:2] == (1, "refused 14 ListDiffers\n"), told)
+        is_told = told[:2] == (1, "refused 14 ListDiffers\n") and "another label" in told[2]
+        check(f"{body!r} under its label is another list", is_told, told)
     check("the rooms are as before", stand.office("rooms") == rooms)
     told = stand.command("blank", "no-such")
-    check("a label that nobody gave is named", told[0] == 3 and "no list has come in" in told[2], told)
+    is_told = told[:2] == (1, "refused 25 UnknownLabel\n") and "no list has come in" in told[2]
+    check("a label that nobody gave is named", is_told, told)
 
 
 def erased(stand):

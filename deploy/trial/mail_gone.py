@@ -16,7 +16,8 @@ from mail_server import MailServer
 from office_forms import flat
 from office_mail import FORM, PEOPLE, holds, logs_of, mail_of, press, rest, settle_mail
 from office_requests import Page
-from stand import Stand, check
+from office_sheets import bring_in
+from stand import Stand, check, key_of
 
 NOTHING = {"address": "", "sent": [], "fault": ""}
 
@@ -113,11 +114,45 @@ def try_damaged(stand, page):
     check("its steps can be asked for", "mails wait to be sent is not known" in page.get("/office/step/open")[2])
     check("and so do the pages of people", page.get("/office/person/T11")[0] == 200
           and "is damaged" in page.get("/office/about/T11")[2])
-    status, printed, said = stand.command("do", "remove", "T11")
-    told = status == 3 and "T11: out of the register, but no mail address was erased" in said
-    check("who removes a person reads that the address is not erased", told, (printed, said))
+    told = stand.command("do", "remove", "T11")
+    left = "were not erased of T11: the file of the mail, "
+    check("who removes a person reads that this is done, and that the address is not erased", told[:2] == (0, "ok\n")
+          and left in told[2] and "The keeper tries it again when it starts." in told[2], told)
     check("and the person is out of the register", "T11" not in {row[0] for row in stand.ask(ask="view")["people"]})
     check("and has no account any more, which somebody else could get", stand.ask(ask="accounts")["count"] == 0)
+    told = stand.command("lines", given="room A-8\nremove T12\n")
+    check("of several lines each answer is there", told[:2] == (0, "ok\nok\n") and "were not erased of T12" in told[2], told)
+    page.form("/office/forget/T13", page="/office/forget/T13")
+    shown = flat(page.get("/office/about/T13")[2])
+    check("who forgets a person reads on the page that this is done, and what is not erased", "T13 is forgotten" in shown
+          and "were not erased of T13" in shown and "could not be done" not in shown, shown[:1500])
+    shown = page.form("/office/many", {"act": "remove", "text": "T08 T09"}, page="/office/many")[2]
+    page.post("/office/many/do", dict(re.findall(r'type="hidden" name="(token|seen|held)" value="([^"]*)"', shown)))
+    shown = flat(page.get("/office/register")[2])
+    check("and who removes many people", "Done for 2 people." in shown and "were not erased of 2 people" in shown, shown[:1500])
+    stand.stop_keeper()
+    (stand.data / "mail.db").unlink()
+    stand.start()
+    files = [one.name for one in stand.data.glob("rooms.db.*")]
+    check("the next keeper does it", not files, files)
+    try_later(stand, page)
+
+
+def try_later(stand, page):
+    """A list is in, and the languages of its people cannot be written. The clerk reads how they come in later."""
+    header = ["person", "name", "key", "email", "language"]
+    rows = [["N1", "Newcomer One", key_of("N1"), mail_of("N1"), "de"]]
+    in_the_way = stand.data / "languages.part"
+    in_the_way.mkdir()
+    bring_in(page, "people", "people-mail", header, rows)
+    shown = flat(page.get("/office/lists")[2])
+    check("of new people whose language does not come in the clerk reads how it can come later", "The list is in" in shown
+          and "Not all of the mail addresses and languages came in" in shown and "under another label" in shown, shown[:1500])
+    in_the_way.rmdir()
+    shown = bring_in(page, "people", "people-again", header, rows)
+    place = re.search(r'href="(/office/mail/addresses/[0-9a-f]+)"', shown)
+    shown = flat(page.get(place[1])[2]) if place else ""
+    check("which is so", "1 person gets another language." in shown, shown[:1500])
 
 
 def try_mail_gone(program):

@@ -10,6 +10,7 @@ import sqlite3
 import sys
 import threading
 from pathlib import Path
+from unittest import mock
 
 from beside import copies_of
 from between import Between
@@ -20,6 +21,12 @@ from office_keys import asked, slips_in, works, yes
 from office_requests import Page
 from stand import Stand, check, key_of, until
 from watcher import Watcher
+
+# pylint: disable=wrong-import-order  # they are in the folder that the import of `beside` has added
+from change import Change
+from correcting import Corrections
+from program import Answer
+from settings import Fault
 
 PEOPLE = [f"T{number:03}" for number in range(1, 61)]
 NAME, KEY = "Papadimitrakopoulos Maria", "fedcba9876543210fedcba98"
@@ -85,7 +92,8 @@ def try_between(stand, between, page):
     check("if nobody got one, nothing was changed", "obody has the identifier 'T015'. Nothing was changed." in shown, shown[:3000])
     between.before_next(between.by_hand("remove T016"))
     answer = stand.ask(ask="keys", keys={"T016": KEY})
-    check("and the keeper says so", answer == {"fault": "nobody has the identifier 'T016'. Nothing was changed."}, answer)
+    check("and the keeper says so", answer == {"fault": "nobody has the identifier 'T016'. Nothing was changed.",
+                                               "refused": ["refused 2 UnknownPerson\n", 1]}, answer)
     between.before_next(between.by_hand("name T017 By Hand"))
     check("a name that comes by hand meanwhile stays", stand.ask(ask="keys", keys={"T017": KEY})["corrected"] == 1 and
           ["T017", "By Hand"] in [row[:2] for row in stand.ask(ask="view")["people"]] and keys_of(stand)["T017"] == KEY)
@@ -163,9 +171,36 @@ def try_way_back(stand):
     before = content(stand)
     answer = stand.ask(ask="back", name=copy, newer_keys=True)
     check("a newer key that is another person's in the copy is refused", content(stand) == before and
-          answer == {"fault": "another person has this key. Nothing was changed."}, answer)
+          "the newer key of T051 is in the copy that of T052, so T051 cannot keep it." in answer["fault"], answer)
     check("without the newer keys the office goes back", "name" in stand.ask(ask="back", name=copy) and
           keys_of(stand)["T051"] == key_of("T051"))
+
+
+def fault_of(answers, reached, **values):
+    """The fault of a correction whose lines are so answered by a copy, or by the office if that is reached."""
+    worker = mock.Mock()
+    worker.change.side_effect = lambda change: Change(
+        "anna", "", change.carry_out, answers=answers, reached=reached, made=sum(answer.status == 0 for answer in answers))
+    try:
+        Corrections(mock.Mock(), worker, mock.Mock()).correct({"who": "anna", "person": "T041", **values})
+    except Fault as fault:
+        return str(fault), fault.unknown
+    return "", False
+
+
+def try_unavailable():
+    """The disk or the memory fails: whether something may have taken effect all the same depends on whose it was."""
+    failed, done = Answer("unavailable\n", 3), Answer("ok\n", 0)
+    said = fault_of([failed], False, name="Ann Li")
+    check("of a copy nothing takes effect", said == ("the disk or the memory did not serve (unavailable). Nothing was changed.",
+                                                     False), said)
+    said = fault_of([failed], True, name="Ann Li")
+    check("of the office it may have", "Look whether this took effect." in said[0] and said[1], said)
+    said = fault_of([done, failed], True, name="Ann Li", key=KEY)
+    check("of name and key the text says one thing", "the new key works" in said[0] and "look whether the name" in said[0] and
+          "as it was" not in said[0] and said[1], said)
+    said = fault_of([done, Answer("refused 2 UnknownPerson\n", 1)], True, name="Ann Li", key=KEY)
+    check("and so it does if the name is refused", "The new key works, and the name is as it was." in said[0] and not said[1], said)
 
 
 def try_correct(stand, between):
@@ -190,6 +225,7 @@ def try_correct(stand, between):
 
 def try_new_keys(program):
     """All of it."""
+    try_unavailable()
     with Stand(program) as stand:
         stand.fill(["A-1", "A-2"], PEOPLE)
         between = Between(stand)

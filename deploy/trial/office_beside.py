@@ -246,6 +246,13 @@ def try_in_part(stand, between):
     reply = stand.ask(ask="do", lines=["remove Q5", "room X2", f"person Q5 {key_of('new')} Quinn New"], again=["Q5"])
     check("and who was removed before it has nothing", reply["made"] == 1 and "Q5" not in people(stand)
           and not any(has(stand, "Q5")), (reply, has(stand, "Q5")))
+    stand.ask(ask="do", lines=[f"person Q6 {key_of('Q6')} Quinn Six"])
+    (stand.data / "languages").write_text("no languages", encoding="ascii")
+    between.before_next("kill -9 $REAL", after=1)
+    said = stand.ask(ask="do", lines=["remove Q6", "room X3"])["fault"]
+    check("if the program dies then, and what was kept cannot be erased, the clerk reads both", "1 of 2 lines were carried" in said
+          and "Besides: The languages of those who are out of the register were not erased" in said, said)
+    (stand.data / "languages").unlink()
 
 
 def try_in_the_way(stand):

@@ -113,6 +113,14 @@ def try_about(stand, page):
         stand.ask(ask="note", line=line)
     noted = {one: [entry["note"][:6] for entry in stand.ask(ask="about", person=one)["journal"]] for one in ("12", "01", "02")}
     check("a part of a time in the journal is nobody's identifier", noted == {"12": ["a slip"], "01": [], "02": []}, noted)
+    stand.ask(ask="note", line=f"seed {'0' * 64} 3 1 2 2")
+    counted = {one: stand.ask(ask="about", person=one)["journal"] for one in ("1", "2", "3")}
+    check("nor is what the journal counts, the number of a round, or a throw", not any(counted.values()), counted)
+    stand.office("room 12")
+    stand.ask(ask="do", lines=[f"person 12 {key_of('12')} Tom Twelve", "home 12 12"])
+    found = [entry.get("line", entry.get("note"))[:9] for entry in stand.ask(ask="about", person="12")["journal"]]
+    check("nor a room, but what names the person is", found == ["a slip fo", "person 12"], found)
+    stand.ask(ask="do", lines=["leave 12", "remove 12"])
     shown = page.form("/office/about", {"about": "z1"}, page="/office/register")[2]
     check("an identifier is found by a form", "All about Zoe Zander (Z1)" in shown, shown)
     fields = page.form("/office/about", {"about": "Zoe Zander"}, page="/office/register")[1]
@@ -146,6 +154,17 @@ def try_forget(stand, page):
     journal = (stand.data / "journal").read_text(encoding="utf-8")
     check("the journal has no name", NAME not in journal and KEY not in journal)
     check("the keeper finds each copy that has the person", left_in_copies(stand) > 0)
+    name = copies(stand)[-1]
+    why = stand.data / "backups" / name / "why"
+    said = why.read_text(encoding="utf-8")
+    check("and is sure of its own", not stand.ask(ask="about", person="X9")["unsure"])
+    why.unlink()
+    found = [stand.ask(ask="about", person=one) for one in ("Z1", "X9")]
+    check("one that somebody has put there by hand may have others, too", [one[0] for one in found[1]["unsure"]] == [name]
+          and not found[0]["unsure"] and not found[1]["copies"], found)
+    shown = seen_at(page, "/office/about/X9")
+    check("and the page says so", "1 copy may have this person" in shown, shown)
+    why.write_text(said, encoding="utf-8")
 
 
 def left_in_copies(stand):

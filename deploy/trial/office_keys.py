@@ -232,6 +232,7 @@ def try_back(stand, page):
     fields = page.form(place, page=place)[1]
     shown = page.get(fields["location"])[2]
     check("afterwards the page says that an old key works again", "One person has the key of the copy again" in shown, shown)
+    check("and who was forgotten, and comes back", "and are in the register again: T016. Forget them again." in shown, shown)
     check("which is so", works(stand, key_of("T010")) and not works(stand, key))
     check("and proposes a new key for them", re.search(r"<textarea[^>]*>T010</textarea>", shown) and "checked" in shown, shown)
     keys = slips_in(page.get(yes(page, *asked(page, {"text": "T010"}))[1]["location"])[2])

@@ -25,13 +25,14 @@ sys.path.append(str(OFFICE))
 # pylint: disable=wrong-import-position,wrong-import-order  # they are in the folder of the line above
 from accounts import Accounts, ClerkRequests
 from backups import ASKED_FOR, Backups
+from change import Change
 from copies import Copies, make_whole
 from journal import NOT_NOTED, Journal, masked_line, masked_note, spoken_of, without_names
 from lines import gone_by, only_reads, reason_to_copy, shows_a_key
 from office import Office
 from program import Answer
 from settings import Fault, Settings, unwritten
-from worker import Change, Worker
+from worker import Worker
 
 KEY = "0123456789abcdef0123456789abcdef"
 

@@ -188,7 +188,7 @@ def old_keys(stand):
     stand.start()
     copy = stand.ask(ask="backup")["name"]
     stand.ask(ask="keys", keys={"T01": key_of("new1"), "T02": key_of("new2")})
-    stand.ask(ask="do", lines=["remove T03"])
+    stand.ask(ask="forget", person="T03")
     stand.stop_keeper()
     told = restore(stand, stand.data / "backups" / copy)
     said = told[1].partition("in place: ")[2]
@@ -196,6 +196,7 @@ def old_keys(stand):
           "2 people have the key of the copy again, and the key of before does not work: T01 T02." in said
           and said.count("rooms-office key PERSON") == 1, told)
     check("and who is in the register again", "one person is in the register again, with the key of the copy: T03\n" in said, told)
+    check("also that this one was forgotten", "who were forgotten: T03. Forget them again: rooms-office forget" in said, told)
     check("which is so", {key_of("T01"), key_of("T02"), key_of("T03")} == keys_in_file(stand))
     told = restore(stand, stand.data / "backups" / copy)
     check("nothing is said of keys if none changes", told[1].rstrip().endswith(f"in place: {stand.file}"), told)

@@ -29,6 +29,7 @@ class Kept(NamedTuple):
     records: list[Any]
     moves: list[Any]
     copies: list[Any]
+    unsure: list[Any]
     entries: list[Any]
     mail: dict[str, Any]
     language: dict[str, Any]
@@ -43,8 +44,8 @@ class Kept(NamedTuple):
 
     @property
     def last(self) -> str:
-        """The day on which the last copy that has the person goes, at the latest; or nothing."""
-        return max((until for _, until in self.copies), default="")
+        """The day on which the last copy that has the person, or may have, goes at the latest; or nothing."""
+        return max((until for _, until in self.copies + self.unsure), default="")
 
     def texts_named(self) -> list[tuple[str, str]]:
         """The texts that have the person's name, and the page on which each is changed."""
@@ -88,8 +89,8 @@ def kept_of(ident: str) -> Kept:
         tell("bad", f"{_('{word} is no identifier.', word=masked(ident)[:12])} {_(plain.IDENTIFIER)}")
         go_to("/office/register")
     found = ask("about", person=ident)
-    return Kept(found["lists"], found["moves"], found["copies"], found["journal"], found["mail"], found["language"],
-                found["account"], found["texts"], found["backups"])
+    return Kept(found["lists"], found["moves"], found["copies"], found["unsure"], found["journal"], found["mail"],
+                found["language"], found["account"], found["texts"], found["backups"])
 
 
 def place_of(office: Office, ident: str) -> str:
@@ -138,7 +139,8 @@ def question_of(office: Office, ident: str, kept: Kept) -> Question:
     if texts := kept.texts_named():
         says.append(_("A name that the office has had under this identifier is in these texts: {texts}. This does not change them: "
                       "take it out yourself.", texts=", ".join(text for text, _page in texts)))
-    says += [said_of_copies(len(kept.copies)), kept.said_of_backups(),
+    says += [said_of_copies(len(kept.copies))] if person or kept.labels else []
+    says += [kept.said_of_backups(),
              _("The moves and the journal stay. They have the identifier, and no name but one that a clerk has noted.")]
     return Question(_("Forget {person}?", person=who), says, _("Yes: forget this person"), place, saw=office.saw("all", ident).mark)
 

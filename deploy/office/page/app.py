@@ -250,12 +250,12 @@ def change(question: str, **fields: Any) -> bool:
         return False
     answers = keeper_client.answers_of(reply)
     last = answers[-1]
-    if not reply["done"]:
+    if reply["done"]:
+        tell("good", plain.done(last.text))
+    else:
         tell("bad", plain.not_done(reply.get("made", 0), *last))
-        return False
-    tell("good", plain.done(last.text))
     tell_unkept(reply)
-    return True
+    return bool(reply["done"])
 
 
 def tell_unkept(reply: dict[str, Any]) -> None:

@@ -270,6 +270,9 @@ def back(name: str) -> None:
     if gone := found.get("gone"):
         tell("bad", _("What was kept of these identifiers may have been of other people than those of the copy, and was erased: "
                       "{people}.", people=", ".join(gone)))
+    if forgotten := found.get("forgotten"):
+        tell("bad", _("These people were forgotten, and are in the register again: {people}. Forget them again.",
+                      people=", ".join(forgotten)))
     if lost := found.get("lost"):
         tell("bad", _(LOST[found["round"][1] == "open"], people=", ".join(lost)))
     if unkept := found.get("unkept"):

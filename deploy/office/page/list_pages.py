@@ -294,10 +294,11 @@ def come_in(name: str, job: Job, is_told: bool = False) -> NoReturn:
     """What follows once a list is in. The clerk reads so now if nobody said it before: the keeper's answer may be lost. Or the list
     may be in for long, as by another clerk, and its addresses be changed since: then none comes in without a yes."""
     memory.replace(clerk(), name, Brought(job.label, job.made))
-    if is_told:
-        mail_lists.bring(job.mail_of_new())
-    else:
+    if not is_told:
         tell("good", list_slips.once_in(job.label, None)[0])
+    elif not mail_lists.bring(job.mail_of_new()):
+        tell("bad", _("To bring them in later, send the list again under another label: nobody on it changes, and the page then "
+                      "asks for the addresses and languages that are not in yet."))
     for kind, text in list_slips.which_work(job.people(), job.made) if job.kind == "people" else ():
         tell(kind, text)
     known = job.mail_of_known() if is_told else job.mail_of_same(office_now())
@@ -368,11 +369,15 @@ def departed(name: str) -> str:
 @app.get("/office/blank/<label>")
 def ask_blank(label: str) -> str:
     """Asks before the bytes of a kept list are deleted."""
+    office = office_now()
+    if not office.has_label(label):
+        tell("bad", _("Nothing was changed. {why}", why=plain.REFUSALS[25].translated()))
+        go_to("/office/lists")
     says = [_("The office keeps the list {label} as it was imported, with names, keys, homes or wishes. Blanking "
               "deletes what is in it. The register does not change, and the label stays taken.", label=label),
             _("You cannot take it back. Older copies still hold the list until they are deleted.")]
     title = _("Blank the list {label}?", label=label)
-    return put_question(office_now(), Question(title, says, _("Yes: blank it"), "/office/lists"))
+    return put_question(office, Question(title, says, _("Yes: blank it"), "/office/lists"))
 
 
 @app.post("/office/blank/<label>")

@@ -11,7 +11,7 @@ from seen import Saw
 
 import keys_made
 import plain
-from app import app, ask, attempt, clerk, field, go_to, memory, not_done, office_now, show, tell, text_of, ticked
+from app import app, ask, attempt, clerk, field, go_to, memory, not_done, office_now, show, tell, tell_unkept, text_of, ticked
 from keeper_client import Answer, KeeperFault, Unsure, answers_of
 from office_view import Office
 from questions import must_be_sure
@@ -259,6 +259,7 @@ def carry_out(bundle: Bundle) -> Came:
         reply = ask("do", lines=bundle.lines, seen=field("seen"), saw=bundle.saw)
     except KeeperFault as fault:
         return Came(0, 0, not_done(fault), isinstance(fault, Unsure))
+    tell_unkept(reply)
     answers, count = answers_of(reply), reply["made"]
     made, left = ({line.split()[1] for line in part} for part in (bundle.lines[:count], bundle.lines[count:]))
     return Came(len(made - left), count, "" if reply["done"] else refused_at(bundle.lines[len(answers) - 1], answers[-1]))
