@@ -58,18 +58,19 @@ class Backups:
         self.folder.mkdir(mode=0o700, exist_ok=True)
         with self.copies.copied(still) as copy:
             if make_whole(copy, look=damaged or not still) and keep_rows_alone(copy):
-                return self.store([copy], {"kind": kind, "why": why, "whole": True})
+                return self.store([copy], {"kind": kind, "why": why, "whole": True}, drops=not still)
         if not damaged:
             raise Fault(_("the office's file is damaged, so nothing was done. Put a copy back: {command}",
                           command=self.settings.place.command("rooms-office back NAME")))
         with self.copies.copied(still) as copy:  # anew: to look at the first one may have changed it
             return self.store([one for end in ENDS if (one := beside(copy, end)).exists()],
-                              {"kind": kind, "why": why, "whole": False})
+                              {"kind": kind, "why": why, "whole": False}, drops=not still)
 
-    def store(self, files: list[Path], entry: dict[str, Any]) -> str:
-        """Writes a copy to the disk, and deletes those that are too old."""
+    def store(self, files: list[Path], entry: dict[str, Any], drops: bool) -> str:
+        """Writes a copy to the disk, and then `drops` those that are too old. Before a line the worker does that once the line has
+        taken effect: the copy that is about to be put back may be the oldest one, and a copy before nothing replaces none."""
         name = put_down(self.folder, files, entry, self.free_name)
-        if entry["kind"] != BACK:  # the copy that is about to be put back may be the oldest one
+        if drops and entry["kind"] != BACK:
             with contextlib.suppress(OSError):
                 self.drop_old()
         return name

@@ -228,6 +228,9 @@ class Worker:  # pylint: disable=too-many-instance-attributes  # the parts of th
                               isinstance(fault, Unanswered))
                 raise
         drop_copy(self.backups, change)
+        if change.copy and change.kind != BACK:
+            with contextlib.suppress(OSError):
+                self.backups.drop_old()
         self.note_end(change, number, began, change.answers[-1])
 
     def is_refused_by_now(self, change: Change) -> bool:

@@ -5,7 +5,9 @@ This run alone: /usr/bin/python3 deploy/trial/new_keys.py PROGRAM
 """
 
 import contextlib
+import datetime
 import re
+import shutil
 import sqlite3
 import sys
 import threading
@@ -68,6 +70,20 @@ def try_lines(stand):
     check("the copy from before brings the old key back", works(stand, key_of("T001")))
 
 
+def copies_of_kind(stand):
+    """The kept copies that were taken before new names and keys."""
+    return sorted(one.parent.name for one in stand.data.glob("backups/*/why") if '"kind": "correct"' in one.read_text("utf-8"))
+
+
+def fill_copies(stand):
+    """Puts older copies there, until there are as many of this kind as are kept, and gives their names."""
+    had = copies_of_kind(stand)
+    for number in range(20 - len(had)):
+        made = datetime.datetime.now(datetime.timezone.utc) - datetime.timedelta(days=30, seconds=number)
+        shutil.copytree(stand.data / "backups" / had[0], stand.data / "backups" / f"{made:%Y%m%dT%H%M%SZ}")
+    return copies_of_kind(stand)
+
+
 def try_between(stand, between, page):
     """Somebody is removed by hand while many people get new keys: those before have slips, and the page names the line."""
     before, copies = keys_of(stand), len(stand.ask(ask="backups")["backups"])
@@ -90,8 +106,10 @@ def try_between(stand, between, page):
     page.form("/office/person/T015/key", page="/office/person/T015/key")
     shown = flat(page.get("/office/register")[2])
     check("if nobody got one, nothing was changed", "obody has the identifier 'T015'. Nothing was changed." in shown, shown[:3000])
+    full = fill_copies(stand)
     between.before_next(between.by_hand("remove T016"))
     answer = stand.ask(ask="keys", keys={"T016": KEY})
+    check("a copy before nothing pushes no older one out", copies_of_kind(stand) == full, (full, copies_of_kind(stand)))
     check("and the keeper says so", answer == {"fault": "nobody has the identifier 'T016'. Nothing was changed.",
                                                "refused": ["refused 2 UnknownPerson\n", 1]}, answer)
     between.before_next(between.by_hand("name T017 By Hand"))
