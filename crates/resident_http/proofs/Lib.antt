@@ -1,4 +1,4 @@
 mod connections
 mod own_replies
-mod prepared_responses
+mod responses
 pub mod served_connections

@@ -11,11 +11,7 @@ use Rattle.office_core.specs.declared.requests.Answer.{Answer as DeskAnswer}
 use Rattle.office_core.specs.declared.requests.Answer.TheVariants as desk
 use Rattle.resident_requests.specs.Answers.{Answer}
 use Rattle.resident_requests.specs.Bodies.{rooms_data, standing_data}
-use Rattle.resident_requests.specs.Faults.{fault_answer, fault_name, success_answer}
-
--- the error response for a status that has exactly one error name
-abbrev pub status_fault : ℕ → Answer
-status_fault status = fault_answer status (fault_name status)
+use Rattle.resident_requests.specs.Faults.{fault_answer, status_fault, success_answer}
 
 -- the response if an allocation failed or the desk was unavailable
 abbrev pub unavailable_answer : Answer

@@ -1,2 +1,2 @@
 -- Definitions that only inner contracts, invariants and proofs use.
-pub mod Prepared
+pub mod Responses

@@ -17,15 +17,19 @@ use Rattle.office_core.specs.declared.requests.Request.TheVariants as request
 use Rattle.resident_requests.specs.Answers.{Answer}
 use Rattle.resident_requests.specs.Asks.{Asked, Asks, ask, fault, more}
 use Rattle.resident_requests.specs.Bodies.{choices_data, choices_of_body, withdrawn_data}
-use Rattle.resident_requests.specs.Faults.{wrong_method_answer}
+use Rattle.resident_requests.specs.Faults.{status_fault, wrong_method_answer}
 use Rattle.resident_requests.specs.Routes.{Wanted, forbidden, unknown, wanted, wanted_of, wrong_method}
 use Rattle.resident_requests.specs.declared.routes.Route.{Route}
 use Rattle.resident_requests.specs.declared.routes.Route.TheVariants as route
-use Rattle.resident_http.specs.DueResponses.{command_answer, list_fault, status_fault, rooms_answer, standing_answer, unavailable_answer}
+use Rattle.resident_http.specs.DueResponses.{command_answer, list_fault, rooms_answer, standing_answer, unavailable_answer}
 
 -- The response is `due`, or it is 503 because an allocation failed.
 abbrev pub IsDue : Answer → Answer → Type 0
 IsDue due answer = (answer ≡ due) ⊎ (answer ≡ unavailable_answer)
+
+-- The response is `due`, which needs no allocation, and the desk stays as it was.
+abbrev pub RespondsAlways : {H : Type 0} → Answer → H → Answer → H → Type 0
+RespondsAlways due old answer new = (answer ≡ due) × (new ≡ old)
 
 -- The response is `due`, or 503 if an allocation failed. The desk stays as it was.
 abbrev pub RespondsDirectly : {H : Type 0} → Answer → H → Answer → H → Type 0
@@ -89,11 +93,11 @@ module _ {H : Type 0} (handles : H → Request → DeskAnswer → H → Type 0) 
   AnswersWanted (wanted route key) body = Authenticates route key body
 
   -- The response to the parsed bytes, after which no more bytes come. The response due to an incomplete request is
-  -- therefore 400.
+  -- therefore 400. The response to an incomplete request or to a fault needs no allocation.
   abbrev pub Answers : Asked → H → Answer → H → Type 0
-  Answers more = RespondsDirectly (status_fault 400)
+  Answers more = RespondsAlways (status_fault 400)
   Answers (ask method path key body used) = AnswersWanted (wanted_of method path key) body
-  Answers (fault status) = RespondsDirectly (status_fault status)
+  Answers (fault status) = RespondsAlways (status_fault status)
 
   -- the response to the bytes of a connection, after which no more bytes come
   abbrev pub Serves : List ℕ → H → Answer → H → Type 0

@@ -1,41 +1,37 @@
 //! Finds the response to a request: routes it, authenticates the resident, and asks the desk.
-ghost use Rattle.std.specs.Prelude.{◌≡◌, option_map};
+ghost use Rattle.std.specs.Prelude.{◌≡◌, IfOk};
+ghost use Rattle.resident_requests.specs.Answers.{bytes_of};
 ghost use Rattle.resident_requests.specs.Asks.{HasEarlyStatus, seen};
-ghost use Rattle.resident_requests.specs.Bodies.{choices_of_body};
-ghost use Rattle.resident_requests.specs.Routes.{seen_wanted, wanted_of};
-ghost use Rattle.resident_http.specs.DueResponses.{list_fault, rooms_answer, standing_answer};
-ghost use Rattle.resident_http.specs.Inner.Prepared.{WithAnswer};
-ghost use Rattle.resident_http.specs.Serving.{Authenticates, Answers, AnswersWanted, Executes, Dispatches, Authorizes, IsDue};
-ghost use Rattle.resident_http.specs.Serving.{ListsRooms, Records, Withdraws};
+ghost use Rattle.resident_requests.specs.Faults.{error_answer, success_answer};
+ghost use Rattle.resident_http.specs.DueResponses.{list_fault, refusal_answer};
+ghost use Rattle.resident_http.specs.Inner.Responses.{WithAnswer};
+ghost use Rattle.resident_http.specs.Serving.{Answers, Authenticates, Dispatches, Executes};
 
-use crate::prepared::{
-    PreparedResponse, ResponseUnavailable, prepare_fault, prepare_success, prepare_wrong_method,
-    status_fault,
-};
-use crate::responses::CommandResponses;
-use http::StatusCode;
 use office_core::{Command, Query, Refusal, Reply, Standing};
 use office_store::{Answer, Handler, Request};
 use resident_requests::{
-    AskState, Route, Routed, choices_body, choices_of_body, rooms_body, route_request,
-    standing_body, withdrawn_body,
+    AskState, ErrorResponse, HttpAnswer, Route, Routed, answer_bytes, choices_body,
+    choices_of_body, rooms_body, route_request, standing_body, withdrawn_body,
 };
-use room_types::{Key, Listing, PersonId, RoomRow, TypeFault};
+use room_types::{Key, Listing, OutOfMemory, TypeFault};
 use std::alloc::Global;
 
-/// Returns the response to `asked`, the parsed bytes of a connection. Asks the handler only for a complete request
-/// with a known path, the right method and a key. An incomplete request gets status 400, because no more bytes will
-/// come.
+/// Returns the bytes of the success response to `asked`, the parsed bytes of a connection, or the error response. Asks
+/// the handler only for a complete request with a known path, the right method and a key. Looks for errors in this
+/// order: an unknown path, a wrong method, a missing key, an unknown key, a bad list.
+///
+/// An incomplete request gets status 400, because no more bytes will come. This response, and that to a fault, needs
+/// no allocation.
 ///
 /// # Errors
 ///
-/// `ResponseUnavailable` if an allocation fails, if the handler's answer is `Unavailable`, if the handler answers a
-/// query with a reply of another kind, or if it gives a refusal that the request never gets.
+/// `Unavailable` if an allocation fails, if the handler's answer is `Unavailable`, if the handler answers a query with
+/// a reply of another kind, or if it gives a refusal that the request never gets.
 pub fn answer_ask<H: Handler>(
     alloc: Global,
     handler: &mut H,
     asked: &AskState<'_>,
-) -> Result<PreparedResponse, ResponseUnavailable>
+) -> Result<Listing<u8>, ErrorResponse>
     requires ready { H.is_ready handler.old }
     requires early { HasEarlyStatus (seen asked.now) }
     ensures answers { WithAnswer result (λ answer.
@@ -43,66 +39,32 @@ pub fn answer_ask<H: Handler>(
     ensures ready { H.is_ready handler.new }
 {
     match asked {
-        AskState::More => status_fault(alloc, StatusCode::BAD_REQUEST),
-        AskState::Fault(status) => status_fault(alloc, *status),
+        AskState::More => Err(ErrorResponse::BadRequest),
+        AskState::Fault(status) => Err(ErrorResponse::of_fault(*status)),
         AskState::Ask {
             method,
             path,
             key,
             body,
             ..
-        } => answer_request(alloc, handler, method, path, *key, body),
+        } => match route_request(alloc, method, path, *key)? {
+            Routed::Unknown => Err(ErrorResponse::NotFound),
+            Routed::WrongMethod { allow } => Err(ErrorResponse::WrongMethod(allow)),
+            Routed::Forbidden => Err(ErrorResponse::Forbidden),
+            Routed::To { route, key } => authenticate(alloc, handler, route, key, body),
+        },
     }
 }
 
-// Returns the response to a request. Reports an unknown path before a wrong method, and a wrong method before a
-// missing key.
-fn answer_request<H: Handler>(
-    alloc: Global,
-    handler: &mut H,
-    method: &[u8],
-    path: &str,
-    key: Option<&str>,
-    body: &[u8],
-) -> Result<PreparedResponse, ResponseUnavailable>
-    requires ready { H.is_ready handler.old }
-    ensures answers { WithAnswer result (λ answer. AnswersWanted H.handles
-        (wanted_of method.now path.now (option_map (λ k. k.now) key.entry)) body.now
-        handler.old answer handler.new) }
-    ensures ready { H.is_ready handler.new }
-{
-    let routed = route_request(alloc, method, path, key)?;
-    answer_routed(alloc, handler, routed, body)
-}
-
-// Returns the response to a routed request.
-fn answer_routed<H: Handler>(
-    alloc: Global,
-    handler: &mut H,
-    routed: Routed<'_>,
-    body: &[u8],
-) -> Result<PreparedResponse, ResponseUnavailable>
-    requires ready { H.is_ready handler.old }
-    ensures answers { WithAnswer result (λ answer. AnswersWanted H.handles
-        (seen_wanted routed.entry) body.now handler.old answer handler.new) }
-    ensures ready { H.is_ready handler.new }
-{
-    match routed {
-        Routed::Unknown => status_fault(alloc, StatusCode::NOT_FOUND),
-        Routed::WrongMethod { allow } => prepare_wrong_method(alloc, allow),
-        Routed::Forbidden => status_fault(alloc, StatusCode::FORBIDDEN),
-        Routed::To { route, key } => authenticate(alloc, handler, route, key, body),
-    }
-}
-
-// Returns the response to a request with a key. First asks the desk who owns the key.
+// Returns the response to a request with a key. Asks the desk who owns the key, and lets the owner's request be carried
+// out. The response is 403 if nobody owns the key.
 fn authenticate<H: Handler>(
     alloc: Global,
     handler: &mut H,
     route: Route,
     key: &str,
     body: &[u8],
-) -> Result<PreparedResponse, ResponseUnavailable>
+) -> Result<Listing<u8>, ErrorResponse>
     requires ready { H.is_ready handler.old }
     ensures answers { WithAnswer result (λ answer.
         Authenticates H.handles route key.now body.now handler.old answer handler.new) }
@@ -110,163 +72,109 @@ fn authenticate<H: Handler>(
 {
     // The key was checked against the grammar of keys before, so `Key::read` fails only if an allocation fails.
     let Ok(key) = Key::read(alloc, key) else {
-        return Err(ResponseUnavailable);
+        return Err(ErrorResponse::Unavailable);
     };
-    let me = handler.handle(alloc, &Request::Ask(Query::Me(key)));
-    authorize(alloc, handler, route, &me, body)
-}
-
-// Returns the response to a request, given `me`, the desk's answer to the question who owns the key. The response is
-// 403 if nobody owns the key.
-fn authorize<H: Handler>(
-    alloc: Global,
-    handler: &mut H,
-    route: Route,
-    me: &Answer,
-    body: &[u8],
-) -> Result<PreparedResponse, ResponseUnavailable>
-    requires ready { H.is_ready handler.old }
-    ensures answers { WithAnswer result (λ answer.
-        Authorizes H.handles route body.now me.now handler.old answer handler.new) }
-    ensures ready { H.is_ready handler.new }
-{
-    match me {
-        Answer::Reply(Reply::Me(standing)) => dispatch(alloc, handler, route, standing, body),
-        Answer::Refused(Refusal::UnknownPerson) => status_fault(alloc, StatusCode::FORBIDDEN),
-        _ => Err(ResponseUnavailable),
+    match handler.handle(alloc, &Request::Ask(Query::Me(key))) {
+        Answer::Reply(Reply::Me(standing)) => act(alloc, handler, route, &standing, body),
+        Answer::Refused(Refusal::UnknownPerson) => Err(ErrorResponse::Forbidden),
+        _ => Err(ErrorResponse::Unavailable),
     }
 }
 
-// Returns the response to a request by the owner of the key, according to the route.
-fn dispatch<H: Handler>(
+// Carries out the request of the owner of the key, according to the route, and returns the response.
+fn act<H: Handler>(
     alloc: Global,
     handler: &mut H,
     route: Route,
     standing: &Standing,
     body: &[u8],
-) -> Result<PreparedResponse, ResponseUnavailable>
+) -> Result<Listing<u8>, ErrorResponse>
     requires ready { H.is_ready handler.old }
     ensures answers { WithAnswer result (λ answer.
         Dispatches H.handles route standing.now body.now handler.old answer handler.new) }
     ensures ready { H.is_ready handler.new }
 {
     match route {
-        Route::Standing => answer_standing(alloc, standing),
-        Route::Rooms => answer_rooms(alloc, handler),
-        Route::Withdrawal => withdraw(alloc, handler, &standing.person),
-        Route::Choices => record_choices(alloc, handler, &standing.person, body),
-    }
-}
-
-// Returns the response with the person's own record.
-fn answer_standing(
-    alloc: Global,
-    standing: &Standing,
-) -> Result<PreparedResponse, ResponseUnavailable>
-    ensures { WithAnswer result (IsDue (standing_answer standing.now)) }
-{
-    prepare_success(alloc, standing_body(alloc, standing)?)
-}
-
-// Asks the desk for the rooms, and returns the response that lists them.
-fn answer_rooms<H: Handler>(
-    alloc: Global,
-    handler: &mut H,
-) -> Result<PreparedResponse, ResponseUnavailable>
-    requires ready { H.is_ready handler.old }
-    ensures answers { WithAnswer result (λ answer.
-        ListsRooms H.handles handler.old answer handler.new) }
-    ensures ready { H.is_ready handler.new }
-{
-    match handler.handle(alloc, &Request::Ask(Query::Rooms)) {
-        Answer::Reply(Reply::Rooms(rows)) => prepare_rooms(alloc, rows.as_slice()),
-        _ => Err(ResponseUnavailable),
-    }
-}
-
-// Prepares the response that lists these rooms.
-fn prepare_rooms(alloc: Global, rows: &[RoomRow]) -> Result<PreparedResponse, ResponseUnavailable>
-    ensures { WithAnswer result (IsDue (rooms_answer rows.now)) }
-{
-    prepare_success(alloc, rooms_body(alloc, rows)?)
-}
-
-// Lets the desk withdraw the person from the round, and returns the response.
-fn withdraw<H: Handler>(
-    alloc: Global,
-    handler: &mut H,
-    person: &PersonId,
-) -> Result<PreparedResponse, ResponseUnavailable>
-    requires ready { H.is_ready handler.old }
-    ensures answers { WithAnswer result (λ answer.
-        Withdraws H.handles person.now handler.old answer handler.new) }
-    ensures ready { H.is_ready handler.new }
-{
-    let body = withdrawn_body(alloc)?;
-    let person = person.copy()?;
-    execute(alloc, handler, Command::Withdraw { person }, body)
-}
-
-// Parses a preference list, lets the desk record it, and returns the response.
-fn record_choices<H: Handler>(
-    alloc: Global,
-    handler: &mut H,
-    person: &PersonId,
-    body: &[u8],
-) -> Result<PreparedResponse, ResponseUnavailable>
-    requires ready { H.is_ready handler.old }
-    ensures answers { WithAnswer result (λ answer. Records H.handles person.now
-        (choices_of_body body.now) handler.old answer handler.new) }
-    ensures ready { H.is_ready handler.new }
-{
-    match choices_of_body(alloc, body) {
-        Ok(choices) => {
-            let returned = choices_body(alloc, choices.as_slice())?;
-            let person = person.copy()?;
-            execute(
-                alloc,
-                handler,
-                Command::SetChoices { person, choices },
-                returned,
-            )
+        Route::Standing => Ok(success_bytes(alloc, standing_body(alloc, standing)?)?),
+        Route::Rooms => match handler.handle(alloc, &Request::Ask(Query::Rooms)) {
+            Answer::Reply(Reply::Rooms(rows)) => {
+                Ok(success_bytes(alloc, rooms_body(alloc, rows.as_slice())?)?)
+            }
+            _ => Err(ErrorResponse::Unavailable),
+        },
+        Route::Withdrawal => {
+            let returned = withdrawn_body(alloc)?;
+            let person = standing.person.copy()?;
+            execute(alloc, handler, Command::Withdraw { person }, returned)
         }
-        Err(fault) => prepare_list_fault(alloc, &fault),
+        Route::Choices => match choices_of_body(alloc, body) {
+            Ok(choices) => {
+                let returned = choices_body(alloc, choices.as_slice())?;
+                let person = standing.person.copy()?;
+                execute(
+                    alloc,
+                    handler,
+                    Command::SetChoices { person, choices },
+                    returned,
+                )
+            }
+            Err(fault) => Err(list_error(&fault)),
+        },
     }
 }
 
-// Returns the response to a body that is not a preference list.
-fn prepare_list_fault(
-    alloc: Global,
-    fault: &TypeFault,
-) -> Result<PreparedResponse, ResponseUnavailable>
-    ensures { WithAnswer result (IsDue (list_fault fault.now)) }
-{
-    match fault {
-        TypeFault::BadValue => status_fault(alloc, StatusCode::BAD_REQUEST),
-        TypeFault::OutOfMemory => Err(ResponseUnavailable),
-        TypeFault::TooManyChoices => {
-            prepare_fault(alloc, StatusCode::UNPROCESSABLE_ENTITY, "TooManyChoices")
-        }
-        TypeFault::RoomRepeated(_) => {
-            prepare_fault(alloc, StatusCode::UNPROCESSABLE_ENTITY, "RoomRepeated")
-        }
-    }
-}
-
-// Prepares a response for each answer that the command can get, except `Unavailable`. Then lets the desk handle the
-// command, and returns the response for the desk's answer.
+// Lets the desk handle the command, and returns the response for the desk's answer. Builds the bytes of the success
+// response before, so the response to a command that has taken effect needs no allocation.
 fn execute<H: Handler>(
     alloc: Global,
     handler: &mut H,
     command: Command,
-    success: Listing<u8>,
-) -> Result<PreparedResponse, ResponseUnavailable>
+    body: Listing<u8>,
+) -> Result<Listing<u8>, ErrorResponse>
     requires ready { H.is_ready handler.old }
     ensures answers { WithAnswer result (λ answer.
-        Executes H.handles command success handler.old answer handler.new) }
+        Executes H.handles command body handler.old answer handler.new) }
     ensures ready { H.is_ready handler.new }
 {
-    let responses = CommandResponses::new(alloc, success)?;
-    let answer = handler.handle(alloc, &Request::Office(command));
-    responses.response_to(&answer)
+    let done = success_bytes(alloc, body)?;
+    match handler.handle(alloc, &Request::Office(command)) {
+        Answer::Reply(_) => Ok(done),
+        Answer::Refused(refusal) => Err(refusal_error(&refusal)),
+        Answer::Unavailable => Err(ErrorResponse::Unavailable),
+    }
+}
+
+// Returns the bytes of the success response with this body.
+fn success_bytes(alloc: Global, body: Listing<u8>) -> Result<Listing<u8>, OutOfMemory>
+    ensures { IfOk result (λ bytes. bytes ≡ bytes_of (success_answer body)) }
+{
+    let bytes = answer_bytes(alloc, &HttpAnswer::success(body))?;
+    Ok(Listing::new(bytes))
+}
+
+// Returns the response to a body that is not a preference list.
+fn list_error(fault: &TypeFault) -> ErrorResponse
+    ensures { error_answer result ≡ list_fault fault.now }
+{
+    match fault {
+        TypeFault::BadValue => ErrorResponse::BadRequest,
+        TypeFault::OutOfMemory => ErrorResponse::Unavailable,
+        TypeFault::TooManyChoices => ErrorResponse::TooManyChoices,
+        TypeFault::RoomRepeated(_) => ErrorResponse::RoomRepeated,
+    }
+}
+
+// Returns the response to a command that the office refuses. It is `Unavailable` for a refusal that a resident's
+// command never gets.
+fn refusal_error(refusal: &Refusal) -> ErrorResponse
+    ensures { error_answer result ≡ refusal_answer refusal.now }
+{
+    match refusal {
+        Refusal::BadPhase(_) => ErrorResponse::BadPhase,
+        Refusal::Withdrawn => ErrorResponse::Withdrawn,
+        Refusal::Going => ErrorResponse::Going,
+        Refusal::UnknownRoom(_) => ErrorResponse::UnknownRoom,
+        Refusal::RoomShut(_) => ErrorResponse::RoomShut,
+        _ => ErrorResponse::Unavailable,
+    }
 }

@@ -12,8 +12,7 @@ use crate::delivery::deliver;
 use crate::served::Served;
 use http::StatusCode;
 use office_store::Handler;
-use resident_requests::laws::unavailable_is_an_answer;
-use resident_requests::{AskState, UNAVAILABLE_RESPONSE, read_ask};
+use resident_requests::{AskState, read_ask};
 use room_types::{Stream, Watched};
 use std::alloc::Global;
 
@@ -24,8 +23,8 @@ pub const CONNECTION_LIMIT: usize = 9_216;
 /// flushes once. Returns how serving the connection ended.
 ///
 /// Reads until the request is complete or refused, or until the stream ends. The reads fill a fixed buffer and need
-/// no allocation. If an allocation for the response fails, the response is 503, and the handler has handled no
-/// command.
+/// no allocation. An incomplete or refused request gets its response, 400, 413, 417 or 501, without any allocation. If
+/// an allocation for another response fails, the response is 503, and the handler has handled no command.
 ///
 /// Makes no calls on the stream except the reads, the writes and the flush. After a call fails, makes no further call
 /// on the stream. After the end of the stream is found, makes no further read.
@@ -85,14 +84,7 @@ fn respond<H: Handler, T: Stream>(
     ensures ready { H.is_ready handler.new }
 {
     match answer_ask(alloc, handler, asked) {
-        Ok(response) => deliver(stream, response.status, &response.bytes),
-        Err(_) => {
-            unavailable_is_an_answer();
-            deliver(
-                stream,
-                StatusCode::SERVICE_UNAVAILABLE,
-                UNAVAILABLE_RESPONSE,
-            )
-        }
+        Ok(bytes) => deliver(stream, StatusCode::OK, bytes.as_slice()),
+        Err(error) => deliver(stream, error.status(), error.bytes()),
     }
 }

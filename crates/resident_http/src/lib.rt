@@ -6,8 +6,6 @@ mod answering;
 pub mod connection;
 mod delivery;
 pub mod laws;
-mod prepared;
-mod responses;
 pub mod served;
 pub mod server;
 pub mod serving;

@@ -1,18 +1,14 @@
 -- Success responses and error responses.
-use Rattle.std.specs.Prelude.{ℕ, Bool, List, [], ◌∷◌, codes, if◌then◌else◌, ◌==◌, None, Some}
-use Rattle.std.specs.List.{list_any}
+use Rattle.std.specs.Prelude.{ℕ, List, codes, if◌then◌else◌, ◌==◌, None, Some}
 use Rattle.serde_json.specs.Written.{compact_text}
-use Rattle.room_types.specs.Texts.{Text, text_eq}
+use Rattle.room_types.specs.Texts.{Text}
 use Rattle.resident_requests.specs.Answers.{Answer}
 use Rattle.resident_requests.specs.Bodies.{fault_data}
+use Rattle.resident_requests.specs.declared.error_response.ErrorResponse.{ErrorResponse}
+use Rattle.resident_requests.specs.declared.error_response.ErrorResponse.TheVariants as error
 use Rattle.resident_requests.specs.declared.method.Method.{Method}
 
--- the status has exactly one error name
-abbrev pub has_one_name : ℕ → Bool
-has_one_name status =
-    list_any (λ known. known == status) (400 ∷ 403 ∷ 404 ∷ 405 ∷ 413 ∷ 417 ∷ 501 ∷ 503 ∷ [])
-
--- the error name of a status for which `has_one_name` holds
+-- the error name of a status that has exactly one: 400, 403, 404, 405, 413, 417, 501 or 503
 abbrev pub fault_name : ℕ → Text
 fault_name status =
     if status == 400 then codes "BadRequest"
@@ -24,26 +20,33 @@ fault_name status =
     else if status == 501 then codes "NotImplemented"
     else codes "Unavailable"
 
--- The error names that an error response with this status may have. There are none for 405, because the response to a
--- wrong method also names a method: see `wrong_method_answer`.
-abbrev pub fault_names : ℕ → List Text
-fault_names status =
-    if status == 405 then []
-    else if status == 409 then codes "BadPhase" ∷ codes "Withdrawn" ∷ codes "Going" ∷ []
-    else if status == 422 then codes "TooManyChoices" ∷ codes "RoomRepeated" ∷ codes "UnknownRoom" ∷ codes "RoomShut" ∷ []
-    else if has_one_name status then fault_name status ∷ []
-    else []
-
--- the name is one of the `fault_names` of the status
-abbrev pub names_fault : ℕ → Text → Bool
-names_fault status name = list_any (text_eq name) (fault_names status)
-
 abbrev pub success_answer : List ℕ → Answer
 success_answer body = record { status = 200; allow = None; body = body }
 
 abbrev pub fault_answer : ℕ → Text → Answer
 fault_answer status name = record { status = status; allow = None; body = compact_text (fault_data name) }
 
+-- the error response for a status that has exactly one error name
+abbrev pub status_fault : ℕ → Answer
+status_fault status = fault_answer status (fault_name status)
+
 abbrev pub wrong_method_answer : Method → Answer
 wrong_method_answer allow =
     record { status = 405; allow = Some allow; body = compact_text (fault_data (fault_name 405)) }
+
+abbrev pub error_answer : ErrorResponse → Answer
+error_answer error.BadRequest = status_fault 400
+error_answer error.Forbidden = status_fault 403
+error_answer error.NotFound = status_fault 404
+error_answer (error.WrongMethod allow) = wrong_method_answer allow
+error_answer error.BadPhase = fault_answer 409 (codes "BadPhase")
+error_answer error.Withdrawn = fault_answer 409 (codes "Withdrawn")
+error_answer error.Going = fault_answer 409 (codes "Going")
+error_answer error.ContentTooLarge = status_fault 413
+error_answer error.ExpectationFailed = status_fault 417
+error_answer error.TooManyChoices = fault_answer 422 (codes "TooManyChoices")
+error_answer error.RoomRepeated = fault_answer 422 (codes "RoomRepeated")
+error_answer error.UnknownRoom = fault_answer 422 (codes "UnknownRoom")
+error_answer error.RoomShut = fault_answer 422 (codes "RoomShut")
+error_answer error.NotImplemented = status_fault 501
+error_answer error.Unavailable = status_fault 503

@@ -1,6 +1,7 @@
 //! HTTP responses and their bytes.
 ghost use Rattle.std.specs.Prelude.{◌≡◌, ◌++◌, IfOk, OnOk, string_bytes, true};
 ghost use Rattle.resident_requests.specs.Answers.{allow_line, bytes_of, head_text, is_response_status, reason};
+ghost use Rattle.resident_requests.specs.Faults.{success_answer};
 
 use crate::method::Method;
 use http::StatusCode;
@@ -32,14 +33,18 @@ impl Model for HttpAnswer {
         IsAnswer (record { status = a.status; allow = a.allow; body = a.body }) };
 }
 
-/// The bytes of the response with status 503. They are a constant, because the response is also needed when an
-/// allocation fails.
-pub const UNAVAILABLE_RESPONSE: &[u8] = b"HTTP/1.1 503 Service Unavailable\r\n\
-    Content-Type: application/json\r\n\
-    Content-Length: 23\r\n\
-    Connection: close\r\n\
-    \r\n\
-    {\"error\":\"Unavailable\"}";
+impl HttpAnswer {
+    /// Returns the response with status 200 and this body.
+    pub fn success(body: Listing<u8>) -> Self
+        ensures { result ≡ success_answer body }
+    {
+        HttpAnswer {
+            status: StatusCode::OK,
+            allow: None,
+            body,
+        }
+    }
+}
 
 /// Returns the bytes of a response: its head, with the fields in a fixed order, and its body.
 ///

@@ -3,7 +3,7 @@ ghost use Rattle.std.specs.Prelude.{◌≡◌, IfOk, false};
 ghost use Rattle.serde_json.specs.Data.{string};
 ghost use Rattle.serde_json.specs.View.{view};
 ghost use Rattle.serde_json.specs.Written.{compact_text, has_float};
-ghost use Rattle.resident_requests.specs.Bodies.{choices_data, fault_data, room_data, rooms_data, standing_data};
+ghost use Rattle.resident_requests.specs.Bodies.{choices_data, room_data, rooms_data, standing_data};
 ghost use Rattle.resident_requests.specs.Bodies.{text_array, text_or_null, withdrawn_data};
 
 use office_core::Standing;
@@ -57,18 +57,6 @@ pub fn withdrawn_body(alloc: Global) -> Result<Listing<u8>, OutOfMemory>
     ensures { IfOk result (λ body. body ≡ compact_text withdrawn_data) }
 {
     let value = withdrawn_data(alloc)?;
-    written_json(alloc, &value)
-}
-
-/// Returns the JSON body of an error response, which contains the name of the error: `{"error":".."}`.
-///
-/// # Errors
-///
-/// `OutOfMemory` if an allocation fails.
-pub fn fault_body(alloc: Global, name: &str) -> Result<Listing<u8>, OutOfMemory>
-    ensures { IfOk result (λ body. body ≡ compact_text (fault_data name.now)) }
-{
-    let value = fault_data(alloc, name)?;
     written_json(alloc, &value)
 }
 
@@ -137,12 +125,6 @@ fn withdrawn_data(alloc: Global) -> Result<Value, AllocError>
     ensures { IfOk result (λ value. view value ≡ withdrawn_data) }
 {
     json!(in alloc; {"withdrawn": true})
-}
-
-fn fault_data(alloc: Global, name: &str) -> Result<Value, AllocError>
-    ensures { IfOk result (λ value. view value ≡ fault_data name.now) }
-{
-    json!(in alloc; {"error": name})
 }
 
 fn text_array(alloc: Global, codes: &[RoomCode]) -> Result<Value, AllocError>

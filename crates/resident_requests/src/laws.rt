@@ -1,17 +1,7 @@
 //! Theorems about the definitions: each is the contract of a function that does nothing.
-ghost use Rattle.std.specs.Prelude.{◌≡◌, ◌++◌, List, ℕ, codes, true, false};
+ghost use Rattle.std.specs.Prelude.{◌≡◌, ◌++◌, List, ℕ, true, false};
 ghost use Rattle.httparse.specs.Grammar.{EndsInTarget};
-ghost use Rattle.resident_requests.specs.Answers.{bytes_of};
-ghost use Rattle.resident_requests.specs.Faults.{fault_answer};
 ghost use Rattle.resident_requests.specs.Asks.{Asked, Asks, BeginsTooManyFields, fault, is_more, is_request};
-
-use crate::answer::UNAVAILABLE_RESPONSE;
-
-/// Theorem: the constant `UNAVAILABLE_RESPONSE` consists of the bytes of the error response with status 503 and the
-/// error name `Unavailable`.
-pub fn unavailable_is_an_answer()
-    ensures { UNAVAILABLE_RESPONSE.now ≡ bytes_of (fault_answer 503 (codes "Unavailable")) }
-{}
 
 /// Theorem: how the bytes of a connection are split into chunks does not change which request they give.
 ///

@@ -1,17 +1,12 @@
 //! Tests of the bytes of responses, and of the bodies of requests.
-ghost use Rattle.std.specs.Prelude.{◌≡◌, true};
-ghost use Rattle.resident_requests.specs.Faults.{names_fault};
 
 use crate::asserting::{assert_same, same};
 use http::StatusCode;
 use office_core::Standing;
 use resident_http::{HttpAnswer, answer_bytes};
-use resident_requests::UNAVAILABLE_RESPONSE;
-use resident_requests::bodies::{
-    choices_body, fault_body, rooms_body, standing_body, withdrawn_body,
-};
+use resident_requests::bodies::{choices_body, rooms_body, standing_body, withdrawn_body};
 use resident_requests::choices::choices_of_body;
-use resident_requests::faults::fault_name;
+use resident_requests::error_response::ErrorResponse;
 use resident_requests::method::Method;
 use room_types::{
     Choices, Grammar, Listing, OutOfMemory, Phase, RoomCode, RoomRow, State, Text, TypeFault,
@@ -19,55 +14,51 @@ use room_types::{
 use std::alloc::Global;
 use std::process::Abort;
 
-// The statuses that have several error names. Each entry has a status, its line, and one of the names.
-const NAMED_FAULTS: [(StatusCode, &str, &str); 7] = [
-    (StatusCode::CONFLICT, "409 Conflict", "BadPhase"),
-    (StatusCode::CONFLICT, "409 Conflict", "Withdrawn"),
-    (StatusCode::CONFLICT, "409 Conflict", "Going"),
+// The error responses, each with its status line and its error name. Status 405 has a test of its own.
+const ERRORS: [(ErrorResponse, &str, &str); 14] = [
+    (ErrorResponse::BadRequest, "400 Bad Request", "BadRequest"),
+    (ErrorResponse::Forbidden, "403 Forbidden", "Forbidden"),
+    (ErrorResponse::NotFound, "404 Not Found", "NotFound"),
+    (ErrorResponse::BadPhase, "409 Conflict", "BadPhase"),
+    (ErrorResponse::Withdrawn, "409 Conflict", "Withdrawn"),
+    (ErrorResponse::Going, "409 Conflict", "Going"),
     (
-        StatusCode::UNPROCESSABLE_ENTITY,
-        "422 Unprocessable Entity",
-        "TooManyChoices",
-    ),
-    (
-        StatusCode::UNPROCESSABLE_ENTITY,
-        "422 Unprocessable Entity",
-        "RoomRepeated",
-    ),
-    (
-        StatusCode::UNPROCESSABLE_ENTITY,
-        "422 Unprocessable Entity",
-        "UnknownRoom",
-    ),
-    (
-        StatusCode::UNPROCESSABLE_ENTITY,
-        "422 Unprocessable Entity",
-        "RoomShut",
-    ),
-];
-
-// The statuses that have a single error name, each with its line and that name. Status 405 has a test of its own.
-const FAULTS: [(StatusCode, &str, &str); 7] = [
-    (StatusCode::BAD_REQUEST, "400 Bad Request", "BadRequest"),
-    (StatusCode::FORBIDDEN, "403 Forbidden", "Forbidden"),
-    (StatusCode::NOT_FOUND, "404 Not Found", "NotFound"),
-    (
-        StatusCode::PAYLOAD_TOO_LARGE,
+        ErrorResponse::ContentTooLarge,
         "413 Payload Too Large",
         "ContentTooLarge",
     ),
     (
-        StatusCode::EXPECTATION_FAILED,
+        ErrorResponse::ExpectationFailed,
         "417 Expectation Failed",
         "ExpectationFailed",
     ),
     (
-        StatusCode::NOT_IMPLEMENTED,
+        ErrorResponse::TooManyChoices,
+        "422 Unprocessable Entity",
+        "TooManyChoices",
+    ),
+    (
+        ErrorResponse::RoomRepeated,
+        "422 Unprocessable Entity",
+        "RoomRepeated",
+    ),
+    (
+        ErrorResponse::UnknownRoom,
+        "422 Unprocessable Entity",
+        "UnknownRoom",
+    ),
+    (
+        ErrorResponse::RoomShut,
+        "422 Unprocessable Entity",
+        "RoomShut",
+    ),
+    (
+        ErrorResponse::NotImplemented,
         "501 Not Implemented",
         "NotImplemented",
     ),
     (
-        StatusCode::SERVICE_UNAVAILABLE,
+        ErrorResponse::Unavailable,
         "503 Service Unavailable",
         "Unavailable",
     ),
@@ -132,37 +123,25 @@ fn writes_a_success_to_the_byte(rt: HostRuntime) {
 #[test]
 fn writes_a_wrong_method_to_the_byte(rt: HostRuntime) {
     let alloc = rt.alloc();
-    let answer = HttpAnswer::wrong_method(alloc, Method::Put).expect(&rt, "memory");
+    assert_same!(rt; ErrorResponse::WrongMethod(Method::Put).bytes(), WRONG_METHOD);
+    let body = b"{\"error\":\"MethodNotAllowed\"}".as_slice();
+    let answer = HttpAnswer {
+        status: StatusCode::METHOD_NOT_ALLOWED,
+        allow: Some(Method::Put),
+        body: Listing::new(Vec::from_slice(alloc, body).expect(&rt, "memory")),
+    };
     is_written(&rt, alloc, &answer, WRONG_METHOD);
 }
 
 #[test]
-fn writes_faults_with_their_reasons_and_names(rt: HostRuntime) {
+fn writes_errors_with_their_statuses_and_names(rt: HostRuntime) {
     let alloc = rt.alloc();
-    for (status, line, name) in FAULTS {
-        let printed = fault_name(status);
-        assert_same!(rt; printed, name);
-        is_fault(&rt, alloc, status, line, printed);
+    for (error, line, name) in ERRORS {
+        let wanted = fault_text(&rt, alloc, line, name);
+        assert_same!(rt; error.bytes(), wanted.as_bytes());
+        let status = format!(in alloc; "{} ", error.status().as_u16()).expect(&rt, "memory");
+        assert_same!(rt; line.starts_with(status.as_str()), true);
     }
-}
-
-#[test]
-fn writes_that_the_desk_is_unavailable(rt: HostRuntime) {
-    let alloc = rt.alloc();
-    let status = StatusCode::SERVICE_UNAVAILABLE;
-    let unavailable = HttpAnswer::fault(alloc, status, "Unavailable").expect(&rt, "memory");
-    is_written(&rt, alloc, &unavailable, UNAVAILABLE_RESPONSE);
-    let body = fault_body(alloc, "Unavailable").expect(&rt, "memory");
-    assert_same!(rt; body.as_slice(), b"{\"error\":\"Unavailable\"}".as_slice());
-}
-
-// Asserts that the error response of this status has this status line, and has this name in its body.
-fn is_fault(rt: &impl Abort, alloc: Global, status: StatusCode, line: &str, name: &str)
-    requires { names_fault status name.now ≡ true }
-{
-    let answer = HttpAnswer::fault(alloc, status, name).expect(rt, "memory");
-    let wanted = fault_text(rt, alloc, line, name);
-    is_written(rt, alloc, &answer, wanted.as_bytes());
 }
 
 /// The text of an error response without the field `Allow`.
@@ -171,14 +150,6 @@ pub fn fault_text(rt: &impl Abort, alloc: Global, line: &str, name: &str) -> Str
     format!(in alloc;
         "HTTP/1.1 {line}\r\nContent-Type: application/json\r\nContent-Length: {length}\r\nConnection: close\r\n\r\n{{\"error\":\"{name}\"}}"
     ).expect(rt, "memory")
-}
-
-#[test]
-fn writes_faults_of_statuses_with_several_names(rt: HostRuntime) {
-    let alloc = rt.alloc();
-    for (status, line, name) in NAMED_FAULTS {
-        is_fault(&rt, alloc, status, line, name);
-    }
 }
 
 // The body with Tim Tan's standing after the run.

@@ -12,13 +12,13 @@ use Rattle.office_core.specs.declared.requests.Request.{Request}
 use Rattle.resident_requests.specs.Answers.{Answer}
 use Rattle.resident_requests.specs.Asks.{Asked, ask, fault, more}
 use Rattle.resident_requests.specs.Bodies.{choices_data, choices_of_body, withdrawn_data}
-use Rattle.resident_requests.specs.Faults.{wrong_method_answer}
+use Rattle.resident_requests.specs.Faults.{status_fault, wrong_method_answer}
 use Rattle.resident_requests.specs.Routes.{Wanted, forbidden, unknown, wanted, wanted_of, wrong_method}
 use Rattle.resident_requests.specs.declared.routes.Route.{Route}
 use Rattle.resident_requests.specs.declared.routes.Route.TheVariants as route
 use Rattle.resident_http.specs.Connections.{Connection, ServesConnection, Replies}
-use Rattle.resident_http.specs.DueResponses.{list_fault, status_fault, standing_answer}
-use Rattle.resident_http.specs.Serving.{Authenticates, Answers, AnswersWanted, Executes, Dispatches, Authorizes, ListsRooms, Records, RespondsDirectly}
+use Rattle.resident_http.specs.DueResponses.{list_fault, standing_answer}
+use Rattle.resident_http.specs.Serving.{Authenticates, Answers, AnswersWanted, Executes, Dispatches, Authorizes, ListsRooms, Records, RespondsAlways, RespondsDirectly}
 use Rattle.resident_http.specs.declared.served.Served.{Served}
 use Rattle.resident_http.specs.declared.served.Served.TheVariants.{Answered, ReadFault, Silent, WriteFault}
 
@@ -54,6 +54,9 @@ module _ {H K : Type 0} (handles : H → Request → DeskAnswer → H → Type 0
 
   RespondsDirectly-simulates : (due answer : Answer) (old new : H) → RespondsDirectly due old answer new → Carried old new (λ k n. RespondsDirectly due k answer n)
   RespondsDirectly-simulates due answer old new h = Simulates-same old new _ h.1 (λ k. (h.0, refl))
+
+  RespondsAlways-simulates : (due answer : Answer) (old new : H) → RespondsAlways due old answer new → Carried old new (λ k n. RespondsAlways due k answer n)
+  RespondsAlways-simulates due answer old new h = Simulates-same old new _ h.1 (λ k. (h.0, refl))
 
   Executes-simulates : (command : Command) (success : List ℕ) (answer : Answer) (old new : H) → Executes handles command success old answer new
       → Carried old new (λ k n. Executes does command success k answer n)
@@ -99,9 +102,9 @@ module _ {H K : Type 0} (handles : H → Request → DeskAnswer → H → Type 0
   -- the response to parsed bytes
   pub Answers-simulates : (asked : Asked) (answer : Answer) (old new : H) → Answers handles asked old answer new
       → Carried old new (λ k n. Answers does asked k answer n)
-  Answers-simulates more answer old new h = RespondsDirectly-simulates (status_fault 400) answer old new h
+  Answers-simulates more answer old new h = RespondsAlways-simulates (status_fault 400) answer old new h
   Answers-simulates (ask method path key body used) answer old new h = AnswersWanted-simulates (wanted_of method path key) body answer old new h
-  Answers-simulates (fault status) answer old new h = RespondsDirectly-simulates (status_fault status) answer old new h
+  Answers-simulates (fault status) answer old new h = RespondsAlways-simulates (status_fault status) answer old new h
 
   Replies-simulates : {T : Type 0} (calls : Calls T) (served : Served) (old new : H) (before after : Connection T) → Replies calls handles old new served before after
       → Carried old new (λ k n. Replies calls does k n served before after)

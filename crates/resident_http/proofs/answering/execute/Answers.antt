@@ -1,10 +1,8 @@
-use Rattle.std.proofs.Common.{◌≡◌, inl}
+use Rattle.std.proofs.Common.{ap, inl, sym}
 use Rattle.resident_http.specs.DueResponses.{command_answer}
-use Rattle.resident_http.proofs.prepared_responses.Prepared.{WithAnswer-weaker}
 use Rattle.resident_http.proofs.answering.execute.Goals as goal
 
-pub returns-clause-answers : goal.returns-clause-answers
-returns-clause-answers g c =
-    WithAnswer-weaker c.response_to.result (λ due. due ≡ command_answer c.args.success c.handle-answer.result) _
-    (λ due e. inl (c.handle-answer.result, c.handle-answer.ensures.handles, e))
-    (c.response_to.ensures c.args.success c.in_ok-responses.ensures)
+pub returns-in-Reply-clause-answers : goal.returns-in-Reply-clause-answers
+returns-in-Reply-clause-answers g c =
+    let success = ap (command_answer c.args.body) (sym c.in-Reply.is) in
+    (c.args.body, c.in_ok-done.ensures, inl (c.handle.result, c.handle.ensures.handles, success))

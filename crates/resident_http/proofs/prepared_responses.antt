@@ -1,2 +1,0 @@
--- Lemmas about prepared responses.
-pub mod Prepared

@@ -1,0 +1,2 @@
+-- Lemmas about the response to a request.
+pub mod Responses
