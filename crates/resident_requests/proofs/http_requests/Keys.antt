@@ -1,5 +1,6 @@
 -- Keys are valid UTF-8.
-use Rattle.std.proofs.Common.{◌≡◌, ℕ, ◌<◌, Bool, true, false, cond, ◌&&◌, List, length, get_or, Some, None, refl, sym, arith, lit<, inl, inr, IsUtf8}
+use Rattle.std.proofs.Common.{◌≡◌, ℕ, ◌<◌, Bool, true, false, cond, ◌&&◌, List, length, get_or, Some, None, refl, sym}
+use Rattle.std.proofs.Common.{arith, lit<, inl, inr, IsUtf8}
 use Rattle.std.proofs.lemmas.Bool.{cases_lt}
 use Rattle.std.proofs.lemmas.Bool.Decides.{nat_tests}
 use Rattle.std.proofs.lemmas.List.{get_or_past}
@@ -20,7 +21,8 @@ bytes_are_text text h =
       | inr le ↦ rw (get_or_past text i 0 le) (lit< tt)
     ])
 
-not_of_key : (text : List ℕ) (fits bytes : Bool) → bytes ≡ list_all is_key_byte text → ¬ (IsUtf8 text) → None ≡ cond (fits && bytes) (Some text) None
+not_of_key : (text : List ℕ) (fits bytes : Bool) → bytes ≡ list_all is_key_byte text → ¬ (IsUtf8 text)
+    → None ≡ cond (fits && bytes) (Some text) None
 not_of_key text true true e h = absurd (h (bytes_are_text text (sym e)))
 not_of_key text true false e h = refl
 not_of_key text false bytes e h = refl

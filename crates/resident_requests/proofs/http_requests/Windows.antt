@@ -20,7 +20,8 @@ window-is xs = refl
 cut : (n : ℕ) (xs : List ℕ) → n ≤ length xs → xs ≡ take n xs ++ drop (length (take n xs)) xs
 cut n xs h = sym (take-append-drop n xs) ∙ ap (λ k. take n xs ++ drop k xs) (sym (length-take-le n xs h))
 
-pub first_cut : (xs : List ℕ) → head_limit ≤ length xs → xs ≡ take head_limit xs ++ drop (length (take head_limit xs)) xs
+pub first_cut : (xs : List ℕ) → head_limit ≤ length xs → xs ≡ take head_limit xs
+    ++ drop (length (take head_limit xs)) xs
 first_cut xs h = cut head_limit xs h
 
 -- the window and the bytes after it are all bytes
@@ -29,9 +30,13 @@ unfolding window
 window-rest xs = take-append-drop head_limit xs
 
 take-append-rest : (n : ℕ) (p q : List ℕ) → length p ≤ n → take n (p ++ q) ≡ p ++ take (n - length p) q
-take-append-rest n p q h = let e : n ≡ length p + (n - length p) = omega arith in ap (λ k. take k (p ++ q)) e ∙ take-append-add p q (n - length p)
+take-append-rest n p q h = let e : n ≡ length p + (n - length p) = omega arith in
+    ap (λ k. take k (p ++ q)) e ∙ take-append-add p q (n - length p)
 
 -- a head within the limit is a head of the window
-pub in_window : (bytes rest : List ℕ) (h : RequestHead) → ReadsRequest bytes h rest → length (print_request h) ≤ head_limit → ReadsRequest (window bytes) h (take (head_limit - length (print_request h)) rest)
+pub in_window : (bytes rest : List ℕ) (h : RequestHead) → ReadsRequest bytes h rest
+    → length (print_request h) ≤ head_limit
+    → ReadsRequest (window bytes) h (take (head_limit - length (print_request h)) rest)
 unfolding window
-in_window bytes rest h r fits = (r.0, ap (take head_limit) r.1 ∙ take-append-rest head_limit (print_request h) rest fits)
+in_window bytes rest h r fits =
+    (r.0, ap (take head_limit) r.1 ∙ take-append-rest head_limit (print_request h) rest fits)

@@ -1,5 +1,6 @@
 -- A router without parameters finds the route whose pattern equals the path.
-use Rattle.std.proofs.Common.{◌≡◌, ℕ, ◌-◌, ◌<◌, ◌≤◌, ◌==◌, zero, suc, Bool, true, false, cond, ◌&&◌, List, [], ◌∷◌, length, Option, Some, None, refl, ap, ◌∙◌, arith, lit≤}
+use Rattle.std.proofs.Common.{◌≡◌, ℕ, ◌-◌, ◌<◌, ◌≤◌, ◌==◌, zero, suc, Bool, true, false, cond, ◌&&◌, List, [], ◌∷◌}
+use Rattle.std.proofs.Common.{length, Option, Some, None, refl, ap, ◌∙◌, arith, lit≤}
 use Rattle.std.proofs.lemmas.Bool.Decides.{nat_tests}
 use Rattle.matchit.specs.Rows.{RowsOf, param_token, catch_all_token}
 use Rattle.matchit.specs.Order.{lookup}
@@ -24,7 +25,8 @@ module _ {K : Type 0} where
       let differs : (x == token) ≡ false = grind (arith, nat_tests) in
       rw differs (step_none token rest h l.1)
 
-  kept : (same : Bool) (t : List ℕ) (key : K) (rows : RowsOf K) → IsLiteral t → AreLiteral rows → AreLiteral (cond same ((t, key) ∷ rows) rows)
+  kept : (same : Bool) (t : List ℕ) (key : K) (rows : RowsOf K) → IsLiteral t → AreLiteral rows
+      → AreLiteral (cond same ((t, key) ∷ rows) rows)
   kept true t key rows a b = (a, b)
   kept false t key rows a b = b
 
@@ -48,7 +50,8 @@ module _ {K : Type 0} where
   seek_none (suc n) (b ∷ path) = seek_none n path
   seek_none zero (b ∷ path) =
       let p = param_step {K = K} [] (b ∷ path) in
-      let e : seek (p.0 - 1) p.1 path ≡ None = ap (λ rows. seek (p.0 - 1) rows path) (param_none (b ∷ path)) ∙ seek_none (p.0 - 1) path in
+      let e : seek (p.0 - 1) p.1 path ≡ None = ap (λ rows. seek (p.0 - 1) rows path) (param_none (b ∷ path))
+      ∙ seek_none (p.0 - 1) path in
       rw (seek_none 0 path, e) refl
 
   or_none : (found : Option K) → or_else found None ≡ found
@@ -60,7 +63,8 @@ module _ {K : Type 0} where
   own_row (([], key) ∷ rest) = refl
   own_row ((x ∷ t, key) ∷ rest) = own_row rest
 
-  lookup_cond : (same : Bool) (path t : List ℕ) (key : K) (rows : RowsOf K) (found : Option K) → lookup path rows ≡ found
+  lookup_cond : (same : Bool) (path t : List ℕ) (key : K) (rows : RowsOf K) (found : Option K)
+      → lookup path rows ≡ found
       → lookup path (cond same ((t, key) ∷ rows) rows) ≡ cond (same && same_text t path) (Some key) found
   lookup_cond true path t key rows found e = ap (cond (same_text t path) (Some key)) e
   lookup_cond false path t key rows found e = e
@@ -68,7 +72,8 @@ module _ {K : Type 0} where
   lookup_step : (b : ℕ) (path : List ℕ) (rows : RowsOf K) → lookup path (step b rows) ≡ lookup (b ∷ path) rows
   lookup_step b path [] = refl
   lookup_step b path (([], key) ∷ rest) = lookup_step b path rest
-  lookup_step b path ((x ∷ t, key) ∷ rest) = lookup_cond (x == b) path t key (step b rest) (lookup (b ∷ path) rest) (lookup_step b path rest)
+  lookup_step b path ((x ∷ t, key) ∷ rest) =
+      lookup_cond (x == b) path t key (step b rest) (lookup (b ∷ path) rest) (lookup_step b path rest)
 
   -- seeking among literal rows is looking up
   pub seek_literal : (path : List ℕ) (rows : RowsOf K) → AreLiteral rows → seek 0 rows path ≡ lookup path rows
@@ -76,8 +81,11 @@ module _ {K : Type 0} where
   seek_literal [] rows l = own_row rows
   seek_literal (b ∷ path) rows l =
       let p = param_step (step param_token rows) (b ∷ path) in
-      let none : p.1 ≡ [] = ap (λ rs. (param_step rs (b ∷ path)).1) (step_none param_token rows (lit≤ tt) l) ∙ param_none (b ∷ path) in
-      let by_param : seek (p.0 - 1) p.1 path ≡ None = ap (λ rs. seek (p.0 - 1) rs path) none ∙ seek_none (p.0 - 1) path in
+      let none : p.1 ≡ [] = ap (λ rs. (param_step rs (b ∷ path)).1) (step_none param_token rows (lit≤ tt) l)
+      ∙ param_none (b ∷ path) in
+      let by_param : seek (p.0 - 1) p.1 path ≡ None = ap (λ rs. seek (p.0 - 1) rs path) none
+      ∙ seek_none (p.0 - 1) path in
       let by_rest : own (step catch_all_token rows) ≡ None = ap own (step_none catch_all_token rows (lit≤ tt) l) in
-      let by_byte : seek 0 (step b rows) path ≡ lookup (b ∷ path) rows = seek_literal path (step b rows) (step_literal b rows l) ∙ lookup_step b path rows in
+      let by_byte : seek 0 (step b rows) path ≡ lookup (b ∷ path) rows =
+      seek_literal path (step b rows) (step_literal b rows l) ∙ lookup_step b path rows in
       rw (by_param, by_rest, by_byte) (or_none (lookup (b ∷ path) rows))

@@ -1,4 +1,5 @@
-use Rattle.std.proofs.Common.{◌≡◌, ◌<◌, ◌-◌, zero, suc, false, [], ap, length, take, drop, rules, tests, arith, ◌∙◌, refl, true≢false}
+use Rattle.std.proofs.Common.{◌≡◌, ◌<◌, ◌-◌, zero, suc, false, [], ap, length, take, drop, rules, tests, arith, ◌∙◌}
+use Rattle.std.proofs.Common.{refl, true≢false}
 use Rattle.std.proofs.KnownBytes.{Consumes-kept, Consumes-nil}
 use Rattle.std.proofs.Math.Bool.{or-false}
 use Rattle.std.proofs.lemmas.List.{length-take-le, length-take, length-drop}
@@ -6,7 +7,10 @@ use Rattle.room_types.specs.Watched.{is_empty_buffer, watched_inner}
 use Rattle.room_types.proofs.watched_bytes.Streams.{kept_by_write, nonempty_buffer}
 use Rattle.resident_requests.specs.Asks.{more, seen}
 use Rattle.resident_http.specs.Connections.{connection_of}
-use Rattle.resident_http.proofs.connections.Streams.{ServesConnection-responded, counted_last, counted_within, ended_after_none, Reads-FindsEnd, length-put_mid, not_more, not_wasted, take-put_mid, read_into, Reads-all, Reads-none, read_none, IsUntouched-more, IsUntouched-refl}
+use Rattle.resident_http.proofs.connections.Streams.{ServesConnection-responded, counted_last, counted_within}
+use Rattle.resident_http.proofs.connections.Streams.{ended_after_none, Reads-FindsEnd, length-put_mid, not_more}
+use Rattle.resident_http.proofs.connections.Streams.{not_wasted, take-put_mid, read_into, Reads-all, Reads-none}
+use Rattle.resident_http.proofs.connections.Streams.{read_none, IsUntouched-more, IsUntouched-refl}
 use Rattle.resident_http.proofs.connection.serve_connection.Goals as goal
 
 pub returns-then-filled-eq0-clause-few : goal.returns-then-filled-eq0-clause-few
@@ -27,7 +31,8 @@ returns-then-filled-eq0-clause-serves_connection g c =
     let same = Reads-none g.T.Stream _ _ _ i.called none in
     record {
       called = Reads-FindsEnd g.T.Stream _ c.read_some.new.buf c.in-Ok-eq0.field-0 (watched_inner c.args.stream.now)
-          (watched_inner c.reads.stream) (watched_inner c.read_some.new.self) c.in-Ok-eq0.field-0-test room same h.called;
+          (watched_inner c.reads.stream) (watched_inner c.read_some.new.self) c.in-Ok-eq0.field-0-test room
+          same h.called;
       read = read_none _ _ _ _ _ _ c.in-Ok-eq0.field-0-test (rw c.if-filled-eq0.true at i.read) h.bytes.0;
       each = rw h.reads (omega (arith, i.reads, c.if-filled-eq0.true));
       at_end = h.bytes.1 c.in-Ok-eq0.field-0-test room;
@@ -62,11 +67,14 @@ returns-in-Ok-eq0-clause-serves_connection g c =
     let end = h.bytes.1 c.in-Ok-eq0.field-0-test room in
     let once = h.reads in
     let then_none = c.respond.ensures.reads in
-    let returned = ended_after_none _ _ c.read_some.new.buf c.in-Ok-eq0.field-0 (c.respond.ensures.ended ∙ h.ended) c.in-Ok-eq0.field-0-test room in
+    let returned =
+    ended_after_none _ _ c.read_some.new.buf c.in-Ok-eq0.field-0 (c.respond.ensures.ended ∙ h.ended)
+    c.in-Ok-eq0.field-0-test room in
     let found = Reads-FindsEnd g.T.Stream _ c.read_some.new.buf c.in-Ok-eq0.field-0 (watched_inner c.reads.stream)
     (watched_inner c.reads.stream) (watched_inner c.read_some.new.self) c.in-Ok-eq0.field-0-test room refl h.called in
     ServesConnection-responded g.T.Stream g.H.Handler.handles c.respond.result _ _
-    (connection_of remaining contents c.args.stream.now) (connection_of remaining contents c.read_some.new.self) (connection_of remaining contents c.respond.new.stream)
+    (connection_of remaining contents c.args.stream.now) (connection_of remaining contents c.read_some.new.self)
+    (connection_of remaining contents c.respond.new.stream)
     bytes more
     (watched_inner c.reads.stream, i.called, found)
     (read_none _ _ _ bytes _ _ c.in-Ok-eq0.field-0-test i.read h.bytes.0)
@@ -102,10 +110,17 @@ reads-preserved g c =
     let within = i.within in
     let fits = h.bound.0 in
     let filled = c.reads.filled in
-    let kept : length c.read_some.new.buf ≡ 9216 - filled = omega (arith, c.read_some.auto.buf, length-take (9216 - filled) (drop filled c.reads.buffer), length-drop filled c.reads.buffer) in
+    let kept : length c.read_some.new.buf ≡ 9216 - filled =
+    omega (
+      arith,
+      c.read_some.auto.buf,
+      length-take (9216 - filled) (drop filled c.reads.buffer),
+      length-drop filled c.reads.buffer,
+    ) in
     let some : c.in-Ok.n ≡ 0 → ⊥ = search (rules, tests) in
     let more_than_none : 0 < c.in-Ok.n = search (rules, tests) in
-    let room : is_empty_buffer c.read_some.new.buf ≡ false = nonempty_buffer c.read_some.new.buf (omega (arith, more_than_none, fits)) in
+    let room : is_empty_buffer c.read_some.new.buf ≡ false =
+    nonempty_buffer c.read_some.new.buf (omega (arith, more_than_none, fits)) in
     record {
       size = length-put_mid c.reads.buffer c.read_some.new.buf filled (9216 - filled) (omega arith) kept ∙ i.size;
       within = omega (arith, fits, kept);
@@ -161,9 +176,11 @@ returns-in_default g c =
       few = rw then_none (omega (arith, read_before, within));
       no_wasted = λ e d. c.respond-in_default.ensures.wasted ∙ i.no_wasted e d;
       serves_connection = ServesConnection-responded g.T.Stream g.H.Handler.handles c.respond-in_default.result _ _
-          (connection_of remaining contents c.args.stream.now) (connection_of remaining contents c.reads.stream) (connection_of remaining contents c.respond-in_default.new.stream)
+          (connection_of remaining contents c.args.stream.now) (connection_of remaining contents c.reads.stream)
+          (connection_of remaining contents c.respond-in_default.new.stream)
           bytes (seen c.read_ask.result)
-          (Reads-all g.T.Stream _ _ _ _ (not_more c.read_ask.result c.in_default.not-More) i.called) i.read c.respond-in_default.ensures.kept i.untouched
+          (Reads-all g.T.Stream _ _ _ _ (not_more c.read_ask.result c.in_default.not-More) i.called) i.read
+          c.respond-in_default.ensures.kept i.untouched
           (omega (arith, within, count))
           (omega (arith, then_none, read_before, count))
           c.read_ask.ensures.asks

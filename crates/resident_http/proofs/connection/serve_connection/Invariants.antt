@@ -15,7 +15,8 @@ invariant-reads g l =
       size : length l.buffer ≡ 9216;
       within : l.filled ≤ 9216;
       called : Reads g.T.Stream (take l.filled l.buffer) (watched_inner l.fn.stream) (watched_inner l.stream);
-      read : Consumes (remaining (watched_inner l.fn.stream)) (remaining (watched_inner l.stream)) (take l.filled l.buffer);
+      read : Consumes (remaining (watched_inner l.fn.stream)) (remaining (watched_inner l.stream))
+          (take l.filled l.buffer);
       untouched : IsUntouched (output_of contents l.fn.stream) (output_of contents l.stream);
       reads : watched_reads l.stream ≤ l.filled;
       failed : watched_failed l.stream ≡ false;

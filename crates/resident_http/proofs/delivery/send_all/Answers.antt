@@ -1,11 +1,13 @@
-use Rattle.std.proofs.Common.{◌≡◌, ◌≤◌, ◌<◌, ◌+◌, ◌-◌, true, zero, suc, length, take, drop, arith, refl, ap, ◌∙◌, rules, tests}
+use Rattle.std.proofs.Common.{◌≡◌, ◌≤◌, ◌<◌, ◌+◌, ◌-◌, true, zero, suc, length, take, drop, arith, refl, ap, ◌∙◌, rules}
+use Rattle.std.proofs.Common.{tests}
 use Rattle.std.proofs.KnownBytes.{Appends-trans, Keeps-refl, Keeps-trans}
 use Rattle.std.proofs.Math.Seq.{take-add}
 use Rattle.std.proofs.lemmas.List.{length-drop, length-take}
 use Rattle.std.specs.Prelude.{◌||◌, nat_lt, false}
 use Rattle.room_types.specs.Watched.{counted, is_empty_buffer, watched_inner, watched_pending}
 use Rattle.room_types.specs.Streams.{count_after}
-use Rattle.room_types.proofs.watched_bytes.Streams.{Puts-nil, Puts-none, count_after-counted, take_rest, kept_by_write, or_known, nonempty_buffer}
+use Rattle.room_types.proofs.watched_bytes.Streams.{Puts-nil, Puts-none, count_after-counted, take_rest, kept_by_write}
+use Rattle.room_types.proofs.watched_bytes.Streams.{or_known, nonempty_buffer}
 use Rattle.resident_http.proofs.delivery.send_all.Goals as goal
 
 pub loop-sent-init : goal.loop-sent-init
@@ -36,7 +38,8 @@ loop-sent-preserved g c =
     let took : nat_lt 0 n ≡ true = search (rules, tests) in
     let room : is_empty_buffer (take (length text - sent) (drop sent text)) ≡ false =
     rw rest (nonempty_buffer (drop sent text) (omega (arith, length-drop sent text))) in
-    let counts : length (take sent text) + n ≡ length (take (sent + n) text) = omega (arith, length-take sent text, length-take (sent + n) text) in
+    let counts : length (take sent text) + n ≡ length (take (sent + n) text) =
+    omega (arith, length-take sent text, length-take (sent + n) text) in
     record {
       within = all;
       written = record {
@@ -51,9 +54,18 @@ loop-sent-preserved g c =
       reads = clauses.reads ∙ i.reads;
       ended = clauses.ended ∙ i.ended;
       wasted = clauses.wasted ∙ or_known _ _ room ∙ or_known _ _ i.failed ∙ i.wasted;
-      writes = (suc i.writes.0, (sent, watched_inner c.loop-sent.stream, i.writes.1, record { count = n; called = rw rest at clauses.called; some = some; sum = refl }));
+      writes = (
+        suc i.writes.0,
+        (
+          sent,
+          watched_inner c.loop-sent.stream,
+          i.writes.1,
+          record { count = n; called = rw rest at clauses.called; some = some; sum = refl },
+        ),
+      );
     }
 
 pub returns-in-Ok-eq0-clause-prefix : goal.returns-in-Ok-eq0-clause-prefix
 returns-in-Ok-eq0-clause-prefix g c =
-    Puts-none _ _ _ _ _ _ c.loop-sent.invariant.written (omega arith) c.in-Ok-eq0.ensures.bytes c.in-Ok-eq0.ensures.taken (search (rules, tests))
+    Puts-none _ _ _ _ _ _ c.loop-sent.invariant.written (omega arith) c.in-Ok-eq0.ensures.bytes
+    c.in-Ok-eq0.ensures.taken (search (rules, tests))

@@ -1,6 +1,7 @@
 use Rattle.std.proofs.Common.{length, ◌-◌, ◌≡◌, ◌<◌, ◌≤◌, take, true, false}
 use Rattle.std.specs.Io.KnownBytes.{Keeps}
-use Rattle.room_types.specs.Watched.{watched_ended, watched_failed, watched_flushes, watched_inner, watched_wasted, watched_pending, watched_reads}
+use Rattle.room_types.specs.Watched.{watched_ended, watched_failed, watched_flushes, watched_inner, watched_wasted}
+use Rattle.room_types.specs.Watched.{watched_pending, watched_reads}
 use Rattle.room_types.specs.Streams.{Puts, output_of}
 use Rattle.resident_http.specs.Calls.{Writes}
 use Rattle.resident_http.proofs.delivery.send_all.Given as goal

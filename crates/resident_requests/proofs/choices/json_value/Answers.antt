@@ -7,4 +7,8 @@ returns-in-Ok-clause-value c = json_of_text c.args.bytes.now _ c.in-Ok.ensures.o
 
 pub returns-in-Err-2-clause-fault : goal.returns-in-Err-2-clause-fault
 returns-in-Err-2-clause-fault c =
-    inr (refl, json_of_other c.args.bytes.now (c.in-Err.ensures.err (λ m. let no : false ≡ true = c.if-is_memory.ensures.1 m in cc)))
+    inr (
+      refl,
+      json_of_other c.args.bytes.now
+          (c.in-Err.ensures.err (λ m. let no : false ≡ true = c.if-is_memory.ensures.1 m in cc)),
+    )

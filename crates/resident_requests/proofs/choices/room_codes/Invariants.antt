@@ -6,4 +6,5 @@ use Rattle.resident_requests.proofs.choices.room_codes.Given as goal
 
 -- the codes so far, followed by those of the remaining items, are all codes
 abbrev pub invariant-loop-item : goal.invariant-loop-item
-invariant-loop-item l = codes_before l.codes.items (codes_in (items_view (drop l.item-index l.items))) ≡ codes_in (items_view l.items)
+invariant-loop-item l = codes_before l.codes.items (codes_in (items_view (drop l.item-index l.items))) ≡ codes_in
+    (items_view l.items)

@@ -6,4 +6,5 @@ use Rattle.resident_requests.proofs.fields.find_fields.Given as goal
 
 -- the result for the fields so far
 abbrev pub invariant-loop-header : goal.invariant-loop-header
-invariant-loop-header l = Finds l.buf l.found (values_of l.name (map (header_bytes l.buf) (take l.header-index l.headers)))
+invariant-loop-header l =
+    Finds l.buf l.found (values_of l.name (map (header_bytes l.buf) (take l.header-index l.headers)))

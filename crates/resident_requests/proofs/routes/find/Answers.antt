@@ -8,9 +8,11 @@ use Rattle.resident_requests.proofs.routes.find.Goals as goal
 pub returns-in-Ok : goal.returns-in-Ok
 returns-in-Ok c =
     let value = option_map (λ (route : RouteOf Route). route.value) in
-    ap value (sym c.in-Ok.ensures.found) ∙ ap (λ rows. value (first rows c.args.path.now)) c.requires ∙ route_found c.args.path.now
+    ap value (sym c.in-Ok.ensures.found) ∙ ap (λ rows. value (first rows c.args.path.now)) c.requires
+    ∙ route_found c.args.path.now
 
 pub returns-in-Err : goal.returns-in-Err
 returns-in-Err c =
     let value = option_map (λ (route : RouteOf Route). route.value) in
-    ap value (sym c.in-Err.ensures.missing) ∙ ap (λ rows. value (first rows c.args.path.now)) c.requires ∙ route_found c.args.path.now
+    ap value (sym c.in-Err.ensures.missing) ∙ ap (λ rows. value (first rows c.args.path.now)) c.requires
+    ∙ route_found c.args.path.now

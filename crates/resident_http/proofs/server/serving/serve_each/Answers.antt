@@ -12,8 +12,10 @@ pub connections-preserved : goal.connections-preserved
 unfolding ServesEach
 connections-preserved g c =
     let more : c.connections.counter + 1 ≡ suc c.connections.counter = omega arith in
-    subst (λ (n : ℕ). ServesEach g.S.Store g.L.Stream.Stream g.L.Stream.Read.remaining g.L.Stream.Write.contents g.L.Listener.accepts g.L.Listener.closes
-    (output_of g.W.Write.contents c.args.printed.now) c.args.listener.now c.args.desk.now n c.serve_next.new.listener c.serve_next.new.desk)
+    subst (λ (n : ℕ). ServesEach g.S.Store g.L.Stream.Stream g.L.Stream.Read.remaining g.L.Stream.Write.contents
+    g.L.Listener.accepts g.L.Listener.closes
+    (output_of g.W.Write.contents c.args.printed.now) c.args.listener.now c.args.desk.now n c.serve_next.new.listener
+    c.serve_next.new.desk)
     (sym more) (
       c.connections.listener,
       c.connections.desk,
@@ -28,8 +30,13 @@ connections-preserved g c =
 
 pub returns-in_err-require_open-clause-stops : goal.returns-in_err-require_open-clause-stops
 returns-in_err-require_open-clause-stops g c =
-    on_error c.from_residual.result
-    (c.connections.counter, omega (arith, c.connections-test.true), c.connections.desk, c.connections.invariant, c.in_err-require_open.ensures.closed)
+    on_error c.from_residual.result (
+      c.connections.counter,
+      omega (arith, c.connections-test.true),
+      c.connections.desk,
+      c.connections.invariant,
+      c.in_err-require_open.ensures.closed,
+    )
   where
     on_error : {T E P : Type 0} (r : Result T E) → P → OnErr r P
     on_error (Ok x) p = tt
@@ -37,12 +44,15 @@ returns-in_err-require_open-clause-stops g c =
 
 pub returns-clause-serves : goal.returns-clause-serves
 returns-clause-serves g c =
-    let all : c.connections.counter ≡ c.args.count = omega (arith, c.connections-test.false, c.connections.auto.counter-end) in
+    let all : c.connections.counter ≡ c.args.count =
+    omega (arith, c.connections-test.false, c.connections.auto.counter-end) in
     on_ok_weaker c.require_open-2.result
     (λ found. (
       c.connections.desk,
-      subst (λ (n : ℕ). ServesEach g.S.Store g.L.Stream.Stream g.L.Stream.Read.remaining g.L.Stream.Write.contents g.L.Listener.accepts g.L.Listener.closes
-          (output_of g.W.Write.contents c.args.printed.now) c.args.listener.now c.args.desk.now n c.connections.listener c.connections.desk) all c.connections.invariant,
+      subst (λ (n : ℕ). ServesEach g.S.Store g.L.Stream.Stream g.L.Stream.Read.remaining g.L.Stream.Write.contents
+          g.L.Listener.accepts g.L.Listener.closes
+          (output_of g.W.Write.contents c.args.printed.now) c.args.listener.now c.args.desk.now n c.connections.listener
+          c.connections.desk) all c.connections.invariant,
       found,
     ))
     c.require_open-2.ensures.open
@@ -50,5 +60,11 @@ returns-clause-serves g c =
 pub returns-clause-stops : goal.returns-clause-stops
 returns-clause-stops g c =
     on_err_weaker c.require_open-2.result
-    (λ closed. (c.connections.counter, omega (arith, c.connections.auto.counter-end), c.connections.desk, c.connections.invariant, closed))
+    (λ closed. (
+      c.connections.counter,
+      omega (arith, c.connections.auto.counter-end),
+      c.connections.desk,
+      c.connections.invariant,
+      closed,
+    ))
     c.require_open-2.ensures.closed

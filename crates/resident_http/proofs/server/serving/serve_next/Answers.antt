@@ -11,10 +11,19 @@ returns g c =
         between = c.accept.new.self;
         before = c.in-Some.connection;
         after = talk.new.stream;
-        accepted = subst (λ connection. g.L.Listener.accepts c.args.listener.now (output_of g.W.Write.contents c.args.printed.now) (seen g.S.Store c.args.desk.now) connection c.accept.new.self)
+        accepted =
+            subst (λ connection. g.L.Listener.accepts c.args.listener.now
+            (output_of g.W.Write.contents c.args.printed.now) (seen g.S.Store c.args.desk.now) connection
+            c.accept.new.self)
             c.in-Some.is c.accept.ensures.accepts;
         begins = c.in-Some.ensures.unused;
-        service = record { served = talk.result; follows = talk.ensures.follows; at_desk = talk.ensures.serves_connection; serves = talk.ensures.serves };
+        service =
+            record {
+              served = talk.result;
+              follows = talk.ensures.follows;
+              at_desk = talk.ensures.serves_connection;
+              serves = talk.ensures.serves;
+            };
         few = talk.ensures.few;
         no_wasted = talk.ensures.no_wasted;
         closed = c.close.ensures;
