@@ -43,8 +43,8 @@ class Change:  # pylint: disable=too-many-instance-attributes  # what is asked f
     tried: State | None = None                  # of the file, when a copy of it has taken the change
     copy: str | None = None                     # the name of the copy that was kept before; empty once that is deleted again
     answers: list[Answer] = field(default_factory=list)
-    begun: bool = False                         # whether the journal has that it begins: before that nothing takes effect
-    reached: bool = False                       # whether the program was to carry it out in the office's file
+    reached: bool = False                       # whether it came as far as the office's file: before that nothing takes effect
+    untouched: bool = False                     # whether it has ended, and the office has taken nothing of it
     made: int = 0                               # how many of its lines are in effect
     left: str = ""                              # what of it is left to be done, and why; nothing if all is done
     took: int = 0                               # milliseconds

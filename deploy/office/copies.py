@@ -30,6 +30,10 @@ ENDS = ("", "-wal")
 HEAD = 32             # bytes: the head of a log, with what is drawn anew whenever the log begins anew
 COARSE = 50_000_000   # nanoseconds: two changes within one tick of the clock of files have the same time
 TRIES = 100
+# What SQLite says of the machine, and not of the file; of these, where there is no room.
+OF_MACHINE = (sqlite3.SQLITE_FULL, sqlite3.SQLITE_IOERR, sqlite3.SQLITE_CANTOPEN, sqlite3.SQLITE_BUSY, sqlite3.SQLITE_LOCKED,
+              sqlite3.SQLITE_READONLY, sqlite3.SQLITE_PERM)
+NO_ROOM = (sqlite3.SQLITE_FULL, sqlite3.SQLITE_IOERR_SHMSIZE)
 
 
 def is_recent(moment: int) -> bool:
@@ -61,10 +65,13 @@ def is_whole(database: sqlite3.Connection) -> bool:
             and not database.execute("PRAGMA foreign_key_check").fetchall())
 
 
-def raise_if_full(fault: sqlite3.Error) -> None:
-    """Where the memory for copies is full, says so: the copy is none the worse for it."""
-    if getattr(fault, "sqlite_errorcode", None) == sqlite3.SQLITE_FULL:
+def raise_if_of_machine(fault: sqlite3.Error) -> None:
+    """Where the memory for copies is full, or a file there cannot be used, says so: the copy is none the worse for it."""
+    code = getattr(fault, "sqlite_errorcode", sqlite3.SQLITE_CORRUPT)
+    if code in NO_ROOM:
         raise OSError(errno.ENOSPC, os.strerror(errno.ENOSPC)) from fault
+    if code & 0xff in OF_MACHINE:
+        raise OSError(errno.EIO, str(fault)) from fault
 
 
 def make_whole(file: Path, look: bool = True) -> bool:
@@ -75,7 +82,7 @@ def make_whole(file: Path, look: bool = True) -> bool:
                 return False
             return bool(database.execute("PRAGMA wal_checkpoint(TRUNCATE)").fetchone()[0] == 0)
     except sqlite3.DatabaseError as fault:
-        raise_if_full(fault)
+        raise_if_of_machine(fault)
         return False
 
 
@@ -94,7 +101,7 @@ def keep_rows_alone(copy: Path) -> bool:
     try:
         rewrite(copy, new)
     except sqlite3.DatabaseError as fault:
-        raise_if_full(fault)
+        raise_if_of_machine(fault)
         return False
     new.replace(copy)
     return True

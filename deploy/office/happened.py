@@ -96,7 +96,7 @@ def lines_of(entry: Entry) -> list[str]:
 def said_of(entry: Entry) -> Outcome:
     """What an entry says of its change. A way back that ended by a fault was not made: the copy was not yet in its place."""
     status = entry.get("status")
-    if "n" not in entry or status in NOT_TAKEN:
+    if "n" not in entry or status in NOT_TAKEN or entry.get("taken") is False:
         return NOT_DONE
     if status == 0:
         return DONE

@@ -5,7 +5,8 @@ Each entry is a line of JSON, and on the disk before the keeper goes on. A chang
 with `n`, `at`, `who` and `line` (and `copy`, if the office was copied first), and one after it has ended, with
 the same `n`, `answer`, `status` and `ms`. If some of several lines took effect, and not all, the second entry has these under
 `line`, and the line that did not is a change of its own. If the copy was deleted again, since the office took nothing of the
-change, the second entry has an empty `copy`. What a clerk notes is under `note`, so it is never taken for a change.
+change, the second entry has an empty `copy`. If it took nothing, and the status leaves that open, `taken` is false there. What a
+clerk notes is under `note`, so it is never taken for a change.
 """
 
 import contextlib
@@ -175,7 +176,7 @@ class Journal:
         self.note(n=number, who=who, line=line, **({"copy": copy} if copy else {}))
         return number
 
-    def end(self, number: str, answer: str, status: int, milliseconds: int, **other: str) -> None:
+    def end(self, number: str, answer: str, status: int, milliseconds: int, **other: Any) -> None:
         """Notes how a change ended, and what else is so of it than was noted before."""
         self.note_done(n=number, **other, answer=without_names(answer), status=status, ms=milliseconds)
 

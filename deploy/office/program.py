@@ -30,6 +30,10 @@ class Answer(NamedTuple):
     status: int
 
 
+class NotOpened(Answer):
+    """What the program printed that never had the file: nothing took effect."""
+
+
 NOT_UNDERSTOOD = Answer("not understood\n", 2)
 EARLIER = ("refused 22 OtherVersion 1", "refused 22 OtherVersion 2")  # of files that it can migrate
 
@@ -101,7 +105,7 @@ class Program:
         """Has a file answer lines, up to the first that is not accepted. The program opens the file once, and each line that it
         has answered stands. Before each line `look` is called, while the program has the file."""
         run, opened = self.opened(file, len(lines))
-        answers = [] if opened.status == 0 else [opened]
+        answers: list[Answer] = [] if opened.status == 0 else [NotOpened(*opened)]
         try:
             for line in [] if answers else lines:
                 if look:
@@ -120,7 +124,7 @@ class Program:
         finally:
             run.close()
         if run.said and is_refused(answers):
-            answers[-1] = Answer(answers[-1].text + run.said, answers[-1].status)
+            answers[-1] = answers[-1]._replace(text=answers[-1].text + run.said)
         return answers
 
     def opened(self, file: Path, count: int) -> tuple[LineRun, Answer]:

@@ -23,7 +23,7 @@ from copies import make_whole
 from languages import _, in_english, speaking, what_says
 from lines import NOT_TAKEN, reason_to_copy
 from office import Office
-from program import Answer, Unanswered, is_refused
+from program import Answer, NotOpened, Unanswered, is_refused
 from register import people_in
 from rows import View
 from seen import Rows, why_stale
@@ -38,9 +38,21 @@ def since(began: float) -> int:
     return round(1000 * (time.monotonic() - began))
 
 
+def is_untaken(change: Change) -> bool:
+    """Whether the office has taken nothing of a change that was answered, since it was changed by hand in between, or the program
+    never had the file."""
+    return all(answer.status in NOT_TAKEN or isinstance(answer, NotOpened) for answer in change.answers)
+
+
+def is_untouched(change: Change, fault: Exception) -> bool:
+    """Whether the office has taken nothing of a change that ended by a fault."""
+    return not change.reached or isinstance(fault, Unanswered) and not fault.unknown
+
+
 def drop_copy(backups: Backups, change: Change) -> None:
-    """Deletes the copy before a change of which the office has taken nothing, since it was changed by hand in between."""
-    if change.copy and not change.whole and all(answer.status in NOT_TAKEN for answer in change.answers):
+    """Deletes the copy before a change of which the office has taken nothing: it would make an older one go. That before a way
+    back stays, as nobody may be able to make another one."""
+    if change.copy and not change.whole:
         with contextlib.suppress(OSError):
             backups.drop(change.copy)
             change.copy = ""
@@ -183,9 +195,9 @@ class Worker:  # pylint: disable=too-many-instance-attributes  # the parts of th
             except Fault as fault:
                 change.fault, change.unknown = what_says(fault), fault.unknown
             except (OSError, sqlite3.Error) as fault:
-                change.unknown = change.begun
+                change.unknown = change.reached
                 change.fault = (_("the disk or the memory did not serve ({why}). Look whether this took effect.", why=fault)
-                                if change.begun else
+                                if change.reached else
                                 _("the disk or the memory did not serve ({why}). Nothing was changed.", why=fault))
             finally:
                 change.done.set()
@@ -212,9 +224,9 @@ class Worker:  # pylint: disable=too-many-instance-attributes  # the parts of th
                     return
                 change.copy = self.backups.keep(change.kind, change.why, still=True, damaged=change.damaged)
                 self.back = change.copy if change.kind == BACK else self.back
-            number = self.journal.begin(change.who, change.line, change.copy)
-            change.begun = True
+            number = ""
             try:
+                number = self.journal.begin(change.who, change.line, change.copy)
                 if change.whole:
                     change.answers = self.replaced(change, held)
                 else:
@@ -224,10 +236,15 @@ class Worker:  # pylint: disable=too-many-instance-attributes  # the parts of th
                     change.answers = self.in_place(change)
             except (Fault, OSError, sqlite3.Error) as fault:
                 change.answers = fault.answers if isinstance(fault, Unanswered) else []
-                self.note_end(change, number, began, Answer(f"fault: {in_english(fault)}", 3),
-                              isinstance(fault, Unanswered))
+                change.untouched = is_untouched(change, fault)
+                if change.untouched:
+                    drop_copy(self.backups, change)
+                if number:
+                    self.note_end(change, number, began, Answer(f"fault: {in_english(fault)}", 3), isinstance(fault, Unanswered))
                 raise
-        drop_copy(self.backups, change)
+        change.untouched = is_untaken(change)
+        if change.untouched:
+            drop_copy(self.backups, change)
         if change.copy and change.kind != BACK:
             with contextlib.suppress(OSError):
                 self.backups.drop_old()
@@ -271,7 +288,8 @@ class Worker:  # pylint: disable=too-many-instance-attributes  # the parts of th
         this change, and the one after them as another, if it is `known` how far they came."""
         change.took = since(began)
         change.made = 0 if change.whole else sum(answer.status == 0 for answer in change.answers)
-        other = {"copy": ""} if change.copy == "" else {}  # that it was kept is noted already
+        other: dict[str, Any] = {"copy": ""} if change.copy == "" else {}  # that it was kept is noted already
+        other |= {"taken": False} if change.untouched and last.status not in NOT_TAKEN else {}
         if known and len(change.lines) > 1 and last.status != 0:
             other |= {"who": change.who, "line": change.speak(change.lines[change.made:change.made + 1])}
             if change.made:
@@ -289,6 +307,7 @@ class Worker:  # pylint: disable=too-many-instance-attributes  # the parts of th
             looked = self.program.look(copy)
             if looked.status != 0 or not make_whole(copy):
                 raise Fault(_("the office that comes of this is none ({said}). Nothing was changed.", said=looked.text.strip()))
+            change.reached = True
             self.place.put(copy, held, change.before_put)
             return answers
 

@@ -27,11 +27,9 @@ from stand import Stand, check, key_of, until
 
 # pylint: disable=wrong-import-order  # they are in the folder that the import of `beside` has added
 from anew import Anew, are_same
-from change import Change
 from copies import rewrite
 from office import Office
 from program import Answer
-from worker import Worker
 
 MARK = "rooms.db.anew"
 PEOPLE = 100  # on each list: more than a page of the file has room for
@@ -251,25 +249,22 @@ def try_faults():
 
 
 def try_full_memory():
-    """The memory for copies is full. Nobody reads that the office is damaged, or that a change may have taken effect before it was
-    begun."""
-    full = sqlite3.OperationalError("database or disk is full")
-    full.sqlite_errorcode = sqlite3.SQLITE_FULL
+    """The memory for copies is full. Nobody reads that the office is damaged."""
     with an_office() as settings:
         office = Office(settings)
-        with mock.patch("copies.rewrite", side_effect=full):
-            said = fault_of(lambda: office.backups.keep("close", "before close"))
-        check("a copy that has no room is none of a damaged office", "No space left on device" in said and "damaged" not in said
-              and not office.backups.names(), said)
-        with mock.patch("copies.rewrite", side_effect=sqlite3.DatabaseError("malformed")):
-            said = fault_of(lambda: office.backups.keep("close", "before close"))
-        check("and one whose rows cannot be read is", "damaged" in said and not office.backups.names(), said)
-        worker = Worker(office)
-        for begun, text in ((False, "Nothing was changed."), (True, "Look whether this took effect.")):
-            change = Change("anna", "room A", lambda _: [], begun=begun)
-            with mock.patch.object(worker, "make", side_effect=OSError(errno.ENOSPC, "full")):
-                worker.carry_out(change)
-            check(f"a disk that fails: {text}", text in change.fault and change.unknown == begun, change)
+        for text, code, said, is_damaged in (
+                ("database or disk is full", sqlite3.SQLITE_FULL, "No space left on device", False),
+                ("disk I/O error", sqlite3.SQLITE_IOERR_SHMSIZE, "No space left on device", False),
+                ("unable to open database file", sqlite3.SQLITE_CANTOPEN, "unable to open", False),
+                ("database disk image is malformed", sqlite3.SQLITE_CORRUPT, "is damaged", True),
+                ("file is not a database", sqlite3.SQLITE_NOTADB, "is damaged", True),
+                ("unsupported file format", sqlite3.SQLITE_ERROR, "is damaged", True)):
+            fault = sqlite3.OperationalError(text)
+            fault.sqlite_errorcode = code
+            with mock.patch("copies.rewrite", side_effect=fault):
+                why = fault_of(lambda: office.backups.keep("close", "before close"))
+            check(f"the office is said to be {'' if is_damaged else 'not '}damaged at this fault of SQLite's: {text}", said in why
+                  and ("damaged" in why) == is_damaged and not office.backups.names(), why)
 
 
 def try_full(program):
