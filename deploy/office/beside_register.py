@@ -29,6 +29,7 @@ class BesideRegister:
     def __init__(self, file: Path, post: Post, languages: Languages, accounts: Accounts) -> None:
         self.post, self.languages, self.accounts = post, languages, accounts
         self.path, self.lock = beside(file, ".leaving"), threading.Lock()
+        self.failed: set[str] = set()  # people of whom something could not be erased
 
     def prepare(self, come: set[str], gone: set[str]) -> None:
         """Before people come into the register, and leave it. If it fails, they do not."""
@@ -61,6 +62,7 @@ class BesideRegister:
             self.post.book.erase(people)
             self.languages.set_residents(dict.fromkeys(people, ""))
             self.accounts.erase(people)
+            self.failed -= people
 
     def with_something(self, people: set[str]) -> set[str]:
         """Those of these people of whom something is kept here, or may be, if that cannot be read."""
@@ -81,7 +83,8 @@ class BesideRegister:
 
     def let_go(self, gone: Iterable[str]) -> str:
         """Erases all of people who are out of the register. If one file fails, the others are changed all the same, and the next
-        keeper tries again. Says what could not be erased, and why, or nothing: that they are out of the register stands."""
+        keeper tries again, if that can be written down. Says what could not be erased, and why, or nothing: that they are out of
+        the register stands."""
         people, failed = sorted(gone), []
         erasures: list[Callable[[list[str]], None]] = [self.post.erase, self.languages.erase, self.accounts.forget]
         for erase in erasures if people else []:
@@ -90,24 +93,43 @@ class BesideRegister:
             except (Fault, OSError, sqlite3.Error) as fault:
                 failed.append(str(fault))
         if failed:
-            with self.lock, contextlib.suppress(Fault, OSError):  # who was out of the register before is not in this file yet
-                self.write(self.leaving() | set(people))
-            return _("{what} The keeper tries it again when it starts.", what=" ".join(failed))
+            self.failed |= set(people)
+            if self.is_noted(set(people)):
+                return _("{what} The keeper tries it again when it starts.", what=" ".join(failed))
+            return _("{what} This could not be noted either, so the keeper does not try it again: forget these people once more "
+                     "({people}).", what=" ".join(failed), people=", ".join(people))
+        self.failed -= set(people)
         with self.lock, contextlib.suppress(Fault, OSError):  # the next keeper finds nothing under who stays in this file
             if left := self.leaving():
                 self.write(left - set(people))
         return ""
 
-    def finish(self, register: Callable[[], set[str]]) -> None:
+    def finish(self, register: Callable[[], set[str]]) -> str:
         """Erases what a keeper has left that was ended. A person who is in the register did not leave after all, or is somebody
-        else, before whom all was erased."""
+        else, before whom all was erased. Says what could not be erased, and why, or nothing."""
         part_of(self.path).unlink(missing_ok=True)
-        with contextlib.suppress(Fault, OSError, sqlite3.Error):  # of a file that is damaged: the next start tries again
-            if left := self.leaving():
-                if not self.let_go(left - register()):
-                    self.path.unlink()
+        left: set[str] = set()
+        try:
+            left = self.leaving()
+            why = self.let_go(left - register()) if left else ""
+            if left and not why:
+                self.path.unlink(missing_ok=True)
+            return why
+        except (Fault, OSError, sqlite3.Error) as fault:  # of a file that is damaged: the next start tries again
+            self.failed |= left or {self.path.name}
+            return _("what is kept of people who are out of the register was not erased ({why}). The keeper tries it again when it "
+                     "starts.", why=fault)
 
     # --- the file
+
+    def is_noted(self, people: set[str]) -> bool:
+        """Whether the file has these people: they are added, unless that fails. Who was out of the register before is not in it
+        yet."""
+        with self.lock, contextlib.suppress(OSError):
+            with contextlib.suppress(Fault):
+                self.write(self.leaving() | people)
+            return people <= self.leaving()
+        return False
 
     def leaving(self) -> set[str]:
         """Who leaves the register, or is out of it and not erased yet."""

@@ -120,6 +120,13 @@ class Branches:
         """The copies that were kept before the ways back, the last one first."""
         return (way.before for way in reversed(self.ways.values()) if way.before)
 
+    def forgotten_since(self, copy: str) -> set[str]:
+        """Who was forgotten after a copy was made, or may have been, on whatever branch: who has the identifier in the copy, or
+        somebody after them. That somebody has come under the identifier since changes nothing of that. Of a copy without a time
+        nobody knows what came before it."""
+        first = self.moment_of(copy).first if times.moment_of(copy) else 0
+        return named_in(self.entries[first:], "forget")
+
     def removed_since_settled(self, now: Known) -> set[str]:
         """Who was removed since the last round was settled. Who has come in again since then did not leave in that round."""
         happened = Happened(self.entries, now)

@@ -112,8 +112,8 @@ def come_again_text(people: list[str]) -> str:
 
 
 def forgotten_text(people: str, command: str) -> str:
-    """Who of those who are in the register again was forgotten, and by which command they are forgotten again."""
-    return f"of these, people who were forgotten: {people}. Forget them again: {command}"
+    """Who of the copy was forgotten since it was made, and by which command they are forgotten again."""
+    return f"people of the copy who were forgotten: {people}. Forget them again: {command}"
 
 
 def went_back_texts(answer: dict[str, Any], command: Callable[[str], str]) -> list[str]:

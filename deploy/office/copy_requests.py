@@ -4,7 +4,8 @@
 |---|---|---|
 | backup, backups | | name; backups: name, bytes and reason of each; days: how long one stays at most; stays: of each |
 | days | days, only_try; was: their number as the sender saw it | gone: how many copies are older, and are deleted |
-| compare | name | what becomes of people by going back to a copy (`compared` in parting.py); forgotten: of who comes back |
+| compare | name | what becomes of people by going back to a copy (`compared` in parting.py); forgotten: those of who comes back |
+| | | who were forgotten since |
 | | | date: whether that of the round is forgotten; mark: of what would be undone, as `back` takes it |
 | given-up | name of a copy, or none | rounds: copy, number, phase of each; or what that one had, and what has changed since |
 | back | name, seen, mark, newer_keys | name: of the copy of the office of before; what has become of people, if it could be read; |
@@ -24,7 +25,7 @@ from dates import Dates
 from figures_back import Brought
 from figures_kept import Round
 from given_up import given_up
-from going_back import GoingBack
+from going_back import GoingBack, forgotten_in
 from job import Job, is_other, seen_in, text
 from languages import N_, _
 from office import Office
@@ -95,9 +96,10 @@ class CopyRequests:
         with self.backups.taken_out(name) as copy:
             then = rows_of(copy)
             found = Parting(self.office, branches, name).compared(then, now)
-        gone, forgotten, until = set(found["gone"]), named_in(branches.entries, "forget"), self.dates.until
+        gone, until = set(found["gone"]), self.dates.until
         goes = until is not None and not until.is_of(then)
-        found |= {"gone": sorted(self.beside.with_something(gone)), "date": goes, "forgotten": come_of(found, forgotten)}
+        found |= {"gone": sorted(self.beside.with_something(gone)), "date": goes,
+                  "forgotten": forgotten_in(branches, name, found.get("come"), then)}
         by_hand = sum(bool(named_in([entry], "choose")) for entry in branches.entries)
         seen = {**now, "choices": by_hand}, {**found, **dict.fromkeys(OF_LISTS)}
         return {**found, "mark": f"{mark_of([*seen, self.beside.kept_of(gone), until if goes else None])}-{now['run']}"}
@@ -127,8 +129,9 @@ class CopyRequests:
             said = change.answers[-1].text.strip()
             raise Fault(_("the program does not take this copy ({said}). Nothing was changed.", said=said))
         self.dates.went_back(way.then)
-        told, forgotten = way.told(), named_in(Branches(self.journal.entries(whole=True)).entries, "forget")
-        return {"name": change.copy, **told, "forgotten": come_of(told, forgotten), **self.figures_back(name, change.copy)}
+        told = way.told()
+        forgotten = forgotten_in(Branches(self.journal.entries(whole=True)), name, told.get("come"), way.then)
+        return {"name": change.copy, **told, "forgotten": forgotten, **self.figures_back(name, change.copy)}
 
     def figures_back(self, name: str, before: str | None) -> Job:
         """Lets the figures be those of the office after the way back to a copy. Gives what went wrong, if anything."""
@@ -136,8 +139,3 @@ class CopyRequests:
             return Brought(self.journal, self.backups, name, before or "").figures(self.worker.view.rows())
         unkept = self.office.figures.went_back(brought)
         return {"unkept": unkept} if unkept else {}
-
-
-def come_of(found: Job, people: set[str]) -> list[str]:
-    """Those of these people who come back into the register by a way back."""
-    return [person for person, _name in found.get("come", []) if person in people]

@@ -22,7 +22,7 @@ from change import Change
 from job import Job, identifier_in, saw_in, seen_in, text
 from journal import masked, masked_line, spoken_of
 from languages import _
-from lines import IDENTIFIER, LABEL, UNAVAILABLE, gone_by, name_shows_a_key
+from lines import IDENTIFIER, LABEL, UNAVAILABLE, gone_by, name_shows_a_key, named
 from office import Office
 from program import NOT_UNDERSTOOD, Answer, is_refused
 from register import homes_in
@@ -163,7 +163,7 @@ class Corrections:
             return self.program.tell_all(lines or ["round"], file)
 
         def follow() -> str:  # who is out of the register has nothing beside it, whatever has become of the lines after that
-            is_out = change.made >= len(change.lines) or gone_by(change.lines[:change.made])
+            is_out = not named(change.lines, "remove") or gone_by(change.lines[:change.made])
             return self.beside.let_go([person]) if is_out else ""
 
         change = Change(job["who"], line, carry_out, plan=lambda copy: lines_to_forget(person, copy), kind="forget", before=line,

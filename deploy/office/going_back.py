@@ -76,6 +76,14 @@ class GoingBack:
                 for name, found in self.found.items()}
 
 
+def forgotten_in(branches: Branches, copy: str, come: list[list[str]] | None, then: Rows) -> list[str]:
+    """Those of the people who come back into the register by a copy who were forgotten since. If nobody knows who comes back, since
+    the office of before cannot be read, that may be everybody of the copy."""
+    forgotten = branches.forgotten_since(copy)
+    people = sorted(people_in(then)) if come is None else [person for person, _name in come]
+    return [person for person in people if person in forgotten]
+
+
 def not_kept(person: str, keys: dict[str, str], copy: Path) -> Fault | None:
     """The fault of a newer key that a person cannot keep, since it is somebody else's in the copy; or nothing."""
     other = next((one for one, key in keys_in(copy).items() if key == keys[person] and one != person), "")

@@ -191,7 +191,8 @@ def main() -> int:
     office.clear()
     worker = Worker(office)
     requests = Requests(office, worker)
-    requests.beside.finish(lambda: people_in(worker.view.rows()))
+    if why := requests.beside.finish(lambda: people_in(worker.view.rows())):
+        print(why, flush=True)
     requests.post.start()
     servers = servers_of(office, requests)
     for server in servers:

@@ -3,7 +3,7 @@
 | ask | fields | answer |
 |---|---|---|
 | view | | the rows (rows.py); server: whether it runs; status, ended: of those that ended by themselves; until; disk (disk.py) |
-| watch | | faults: what is wrong with the server, the disk and the copies; age: of the newest copy, in seconds |
+| watch | | faults: what is wrong with the server, the disk, the copies and erasures; age: of the newest copy, in seconds |
 | try | lines, again | answers: of a copy, which is thrown away |
 | do | lines, again, seen, saw | answers, done, took, copy; made: how many of the lines are in effect; unkept: faults of figures, |
 | | | or why something that is to be erased may still be in the file |
@@ -104,7 +104,7 @@ class Requests:
         self.post, self.accounts, self.former = Post(office, worker), Accounts(office.settings.accounts), Former(office)
         self.beside = BesideRegister(office.settings.file, self.post, office.languages, self.accounts)
         self.known: dict[str, Callable[[Job], Job]] = {
-            "view": self.view, "watch": lambda _job: watch(self.office, self.worker), "try": self.try_out,
+            "view": self.view, "watch": lambda _job: watch(self.office, self.worker, self.beside), "try": self.try_out,
             "do": self.do_lines, "draw": self.draw, "import": self.bring_in, "export": self.export,
             "record": self.record, "seeds": self.seeds, "note": self.note, "journal": self.show_journal,
             "blank-journal": self.blank_journal, "about": self.about,

@@ -6,6 +6,7 @@ import http.client
 import time
 from typing import Any
 
+from beside_register import BesideRegister
 from disk import fault_of_disk
 from office import Office
 from placing import beside
@@ -57,9 +58,14 @@ def fault_of_anew(failed: bool) -> str:
     return "what was erased may still be in the office's file, which could not be written anew" if failed else ""
 
 
-def watch(office: Office, worker: Worker) -> dict[str, Any]:
+def fault_of_leaving(failed: set[str]) -> str:
+    """What is wrong beside the register, if something of people who are out of it could not be erased. It names nobody."""
+    return "what is kept beside the register of people who are out of it could not be erased" if failed else ""
+
+
+def watch(office: Office, worker: Worker, register: BesideRegister) -> dict[str, Any]:
     """What is wrong, and the age in seconds of the newest copy that was asked for."""
     age = office.backups.age()
-    found = [fault_of_server(office.settings.port), fault_of_disk(beside(office.settings.file, ".watch")),
-             fault_of_copies(age), fault_of_past(worker.ended()), fault_of_anew(worker.anew.failed)]
+    found = [fault_of_server(office.settings.port), fault_of_disk(beside(office.settings.file, ".watch")), fault_of_copies(age),
+             fault_of_past(worker.ended()), fault_of_anew(worker.anew.failed), fault_of_leaving(register.failed)]
     return {"faults": [fault for fault in found if fault], "age": max(0.0, age or 0.0)}

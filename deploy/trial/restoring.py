@@ -206,6 +206,7 @@ def old_keys(stand):
         check(f"of an office that is {what} it says that nobody knows whose keys were changed, and what to do", told[0] == 0 and
               f"{begin}, so nobody here knows whose keys were changed after the copy was made." in told[1]
               and "keys that were made later do not" in told[1] and "rooms-office key PERSON" in told[1], told)
+        check("and it names who was forgotten since the copy, by the journal", "who were forgotten: T03. Forget" in told[1], told)
         stand.file.unlink()
     check("no key was printed", "key000000000" not in told[1] + said, told)
 
