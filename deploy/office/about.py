@@ -117,7 +117,7 @@ def about(office: Office, book: Book, person: str) -> dict[str, Any]:
     names = Names({register.get(person, ""), *names_on(kept["lists"]), *(one for _has, found in traces.values() for one in found)})
     days = backups.days()
     stays = backups.stays(days)
-    unsure = [name for name, (has, _names) in traces.items() if has is None or not has and not backups.is_whole(name)]
+    unsure = [name for name, (has, _names) in traces.items() if has is None or not has and not backups.has_rows_alone(name)]
     return {**kept, "copies": [[name, stays[name].until] for name, (has, _names) in traces.items() if has and name in stays],
             "unsure": [[name, stays[name].until] for name in unsure if name in stays],
             "journal": entries_of(office.settings.journal, person, names), "texts": texts_with(office, book, names),

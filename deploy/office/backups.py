@@ -3,7 +3,8 @@ taken back.
 
 Each is a folder below `backups` with the time of the copy as its name. In it are `rooms.db`, which is the whole
 office in one file, and `why`, a line of JSON that says why the copy was taken. The file has the rows of that moment, and
-nothing of what was overwritten or deleted before. If the office was damaged, the copy has file and log as they were.
+nothing of what was overwritten or deleted before: then `why` has `rows`. Versions up to 3.1.0 copied the file with its free pages.
+If the office was damaged, the copy has file and log as they were.
 Beside the folders `days` says for how many days a copy stays at most, if the office has set that.
 """
 
@@ -58,7 +59,7 @@ class Backups:
         self.folder.mkdir(mode=0o700, exist_ok=True)
         with self.copies.copied(still) as copy:
             if make_whole(copy, look=damaged or not still) and keep_rows_alone(copy):
-                return self.store([copy], {"kind": kind, "why": why, "whole": True}, drops=not still)
+                return self.store([copy], {"kind": kind, "why": why, "whole": True, "rows": True}, drops=not still)
         if not damaged:
             raise Fault(_("the office's file is damaged, so nothing was done. Put a copy back: {command}",
                           command=self.settings.place.command("rooms-office back NAME")))
@@ -113,11 +114,11 @@ class Backups:
             return {"kind": str(entry["kind"]), "why": WISHES.sub(r"\1", str(entry["why"]))}
         return {"kind": ASKED_FOR, "why": ""}
 
-    def is_whole(self, name: str) -> bool:
-        """Whether the keeper says of a copy that it is whole, and so has rows alone. One that `rooms-restore` has kept, or that was
-        put there by hand, may have free pages with what its rows were before."""
+    def has_rows_alone(self, name: str) -> bool:
+        """Whether the keeper says of a copy that it has rows alone. One that a version up to 3.1.0 made, though it is whole, that
+        `rooms-restore` has kept, or that was put there by hand, may have free pages with what its rows were before."""
         with contextlib.suppress(OSError, ValueError, KeyError, TypeError):
-            return json.loads((self.folder / name / WHY).read_text(encoding="utf-8"))["whole"] is True
+            return json.loads((self.folder / name / WHY).read_text(encoding="utf-8"))["rows"] is True
         return False
 
     def listed(self) -> list[tuple[str, int, str]]:

@@ -6,6 +6,7 @@ This run alone, also over standin.py: /usr/bin/python3 deploy/trial/noted.py PRO
 
 import hashlib
 import json
+import re
 import sys
 
 from office_requests import Page
@@ -77,6 +78,10 @@ def thrown(page):
     text = page.get(place)[2]
     check("throws without a space between them give no seed, and stay in the form", "Write a space between two throws" in text
           and f'value="{throws}"' in text and hashlib.sha256(throws.encode()).hexdigest() not in text, text)
+    place = page.form("/office/seed", {"way": "seed", "text": "c4" * 31}, page="/office/draw")[1]["location"]
+    text = page.get(place)[2]
+    check("so does a seed that lacks signs, in the form of a seed", "You entered 62 signs" in text
+          and re.search(f'id="seed"[^>]* value="{"c4" * 31}"', text) and text.count("c4" * 31) == 1, text)
 
 
 if __name__ == "__main__":

@@ -158,6 +158,10 @@ def try_forget(stand, page):
     why = stand.data / "backups" / name / "why"
     said = why.read_text(encoding="utf-8")
     check("and is sure of its own", not stand.ask(ask="about", person="X9")["unsure"])
+    shown = seen_at(page, "/office/forget/Z1")
+    check("of a person of whom nothing is left the question names older copies, and no new one", "older copies have the person, "
+          "until they are too old" in shown and "makes a copy" not in shown, shown)
+    try_unsure(stand, page, f"The last one goes on {last}")
     why.unlink()
     found = [stand.ask(ask="about", person=one) for one in ("Z1", "X9")]
     check("one that somebody has put there by hand may have others, too", [one[0] for one in found[1]["unsure"]] == [name]
@@ -165,6 +169,21 @@ def try_forget(stand, page):
     shown = seen_at(page, "/office/about/X9")
     check("and the page says so", "1 copy may have this person" in shown, shown)
     why.write_text(said, encoding="utf-8")
+
+
+def try_unsure(stand, page, last):
+    """A copy of an earlier version is whole, and may have people in free pages. It goes later than those that have the person."""
+    name = age(stand, stand.ask(ask="backup")["name"], -30)
+    folder = stand.data / "backups" / name
+    (folder / "why").write_text('{"kind": "backup", "why": "", "whole": true}\n', encoding="utf-8")
+    found = [[one[0] for one in stand.ask(ask="about", person=one)["unsure"]] for one in ("Z1", "X9")]
+    check("a copy of an earlier version may have people whom it has not in its register", found == [[name], [name]], found)
+    shown, asked = seen_at(page, "/office/about/Z1"), seen_at(page, "/office/forget/X9")
+    check("and the page says so", "1 copy may have this person" in shown and "version up to 3.1.0" in shown, shown)
+    check("which changes nothing of when the last one goes that has the person", last in shown, (last, shown))
+    check("the question before somebody is forgotten says so, too", "1 copy may have this person" in asked and "older" not in asked,
+          asked)
+    shutil.rmtree(folder)
 
 
 def left_in_copies(stand):

@@ -44,8 +44,16 @@ class Kept(NamedTuple):
 
     @property
     def last(self) -> str:
-        """The day on which the last copy that has the person, or may have, goes at the latest; or nothing."""
-        return max((until for _, until in self.copies + self.unsure), default="")
+        """The day on which the last copy that has the person goes at the latest; or nothing."""
+        return max((until for _, until in self.copies), default="")
+
+    def said_of_unsure(self) -> str:
+        """How many copies may have the person."""
+        return ngettext(
+            "{count} copy may have this person, and nobody can look: it is damaged, or may have what was deleted before, since "
+            "the keeper did not make it, or made it in a version up to 3.1.0.",
+            "{count} copies may have this person, and nobody can look: they are damaged, or may have what was deleted before, "
+            "since the keeper did not make them, or made them in a version up to 3.1.0.", len(self.unsure))
 
     def texts_named(self) -> list[tuple[str, str]]:
         """The texts that have the person's name, and the page on which each is changed."""
@@ -139,14 +147,30 @@ def question_of(office: Office, ident: str, kept: Kept) -> Question:
     if texts := kept.texts_named():
         says.append(_("A name that the office has had under this identifier is in these texts: {texts}. This does not change them: "
                       "take it out yourself.", texts=", ".join(text for text, _page in texts)))
-    says += [said_of_copies(len(kept.copies))] if person or kept.labels else []
+    says += said_of_copies(kept, bool(person or kept.labels))
     says += [kept.said_of_backups(),
              _("The moves and the journal stay. They have the identifier, and no name but one that a clerk has noted.")]
     return Question(_("Forget {person}?", person=who), says, _("Yes: forget this person"), place, saw=office.saw("all", ident).mark)
 
 
-def said_of_copies(older: int) -> str:
-    """What becomes of the person in copies of the office, of which so many have them."""
+def said_of_copies(kept: Kept, is_made: bool) -> list[str]:
+    """What becomes of the person in copies of the office: in that of before, if it `is_made`, and in older ones."""
+    older = len(kept.copies)
+    said = said_of_this_copy(older) if is_made else said_of_older(older) if older else ""
+    return [*filter(None, [said]), *([kept.said_of_unsure()] if kept.unsure else [])]
+
+
+def said_of_older(older: int) -> str:
+    """What becomes of the person in so many older copies, if no other one is made."""
+    return ngettext(
+        "One older copy has the person, until it is too old. The page about the person says until when. You can also keep copies "
+        "for fewer days (page Copies).",
+        "{count} older copies have the person, until they are too old. The page about the person says until when. You can also "
+        "keep copies for fewer days (page Copies).", older)
+
+
+def said_of_this_copy(older: int) -> str:
+    """What becomes of the person in the copy of before, and in so many older ones."""
     if not older:
         return _("The keeper makes a copy of the office first, so you can come back from this. This copy has the person, until it "
                  "is too old. The page about the person says until when. You can also keep copies for fewer days (page Copies).")

@@ -36,9 +36,10 @@ class Pending(NamedTuple):
 
 
 class Entered(NamedTuple):
-    """What the witnesses saw, which gave no seed yet: the clerk mends it, and does not enter all of it anew."""
+    """What the witnesses saw, or a seed, which gave no seed yet: the clerk mends it, and does not enter all of it anew."""
 
     text: str
+    way: str = "text"
 
 
 def seeds_of(office: Office) -> Seeds:
@@ -70,7 +71,7 @@ def source_of(noted: Noted) -> str:
 def draw_page(name: str = "") -> str:
     """The forms for a seed, or the drawn order. After a no, or a text that gives no seed, the form has what the clerk entered."""
     held = memory.held(clerk(), name) if name else None
-    office, entered = office_now(), held.text if isinstance(held, Entered) else pending(name).text if name else ""
+    office, entered = office_now(), held if isinstance(held, Entered) else Entered(pending(name).text if name else "")
     order = drawn_order() if office.phase in plain.DRAWN else []
     seeds = seeds_of(office)
     return show("draw", office=office, order=order, seeds=seeds.found, drawn=seeds.drawn, since=seeds.since,
@@ -133,8 +134,8 @@ def note_seed() -> None:
         seed, source = seed_of(field("way"), text_of("text"))
     except NoSeed as why:
         tell("bad", str(why))
-        kept = field("way") == "text" and len(text_of("text")) <= LONGEST_TEXT
-        go_to(f"{BACK}/{memory.hold(clerk(), Entered(text_of('text')))}" if kept else BACK)
+        kept = len(text_of("text")) <= LONGEST_TEXT
+        go_to(f"{BACK}/{memory.hold(clerk(), Entered(text_of('text'), field('way')))}" if kept else BACK)
     doubt = doubt_of(source.removeprefix(OF_TEXT)) if source.startswith(OF_TEXT) else []
     if doubt:
         asked = Question(_("Note this seed?"), doubt, _("Yes: note the seed of this text"), BACK)
