@@ -4,8 +4,8 @@ ghost use Rattle.room_types.specs.Watched.{StopsAtFailure};
 ghost use Rattle.office_lines.specs.Printing.{Prints, PrintsUnavailable};
 
 use crate::render::UNAVAILABLE;
-use office_lists::send::send;
 use room_types::Watched;
+use room_types::watched::sending::send;
 use std::io::Write;
 
 /// Writes the text and flushes. Returns `status`, or 3 if a write or the flush fails.

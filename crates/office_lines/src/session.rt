@@ -7,8 +7,8 @@ use crate::limits::LINE_LIMIT;
 use crate::line::handle_line;
 use crate::render::{exit_status, text_of};
 use office_core::Handler;
-use office_lists::send::send;
 use room_types::Watched;
+use room_types::watched::sending::send;
 use std::alloc::Global;
 use std::io::Write;
 

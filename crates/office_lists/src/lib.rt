@@ -9,7 +9,6 @@ pub mod laws;
 pub mod move_day;
 mod reading;
 pub mod schedule;
-pub mod send;
 pub mod tables;
 mod writing;
 

@@ -8,7 +8,7 @@ ghost use Rattle.office_lists.specs.Exports.{grades_export, moves_export, people
 ghost use Rattle.office_lists.specs.Writing.{StopsAfter, has_failed, sent_of};
 
 use crate::exports::{ExportKind, ExportRow, head_bytes};
-use crate::send::send;
+use room_types::watched::sending::send;
 use room_types::{GradeRow, Move, PersonRow, RoomRow, Watched};
 use std::alloc::Global;
 use std::io::Write;

@@ -1,5 +1,5 @@
 //! The small types of a college's room exchange: texts, lottery numbers (words), grades, preference lists, maps, and
-//! monitored streams.
+//! monitored readers, writers and streams. Sends texts to such writers.
 #![tactic(auto)]
 
 pub mod choices;

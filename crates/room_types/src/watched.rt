@@ -8,6 +8,8 @@ ghost use Rattle.room_types.specs.Watched.{watched_inner, watched_failed, watche
 ghost use Rattle.room_types.specs.Watched.{watched_ended, watched_flushes, watched_wasted, watched_pending};
 ghost use Rattle.room_types.specs.Watched.{counted, has_taken, is_empty_buffer, is_end, is_failure, is_failed_write, taken_after};
 
+mod recording;
+pub mod sending;
 mod streams;
 
 use crate::device::{Sink, Source};
@@ -134,19 +136,9 @@ impl<T: Source> Read for Watched<T> {
         ensures called { T.reads (watched_inner self.old) buf.old buf.new result
             (watched_inner self.new) }
     {
-        self.wasted = self.wasted || self.failed || self.ended || buf.is_empty();
-        self.reads = self.reads.saturating_add(1);
         let result = self.inner.read_once(buf);
-        match result {
-            Ok(n) => {
-                self.ended = self.ended || (n == 0 && !buf.is_empty());
-                Ok(n)
-            }
-            Err(e) => {
-                self.failed = true;
-                Err(e)
-            }
-        }
+        self.record_read(buf, &result);
+        result
     }
 }
 
@@ -168,24 +160,9 @@ impl<T: Sink> Write for Watched<T> {
             ≡ watched_wasted self.old || watched_failed self.old || is_empty_buffer buf.now }
         ensures called { T.writes (watched_inner self.old) buf.now result (watched_inner self.new) }
     {
-        self.wasted = self.wasted || self.failed || buf.is_empty();
         let result = self.inner.write_once(buf);
-        match result {
-            Ok(n) => {
-                if n == 0 && !buf.is_empty() {
-                    self.failed = true;
-                }
-                if n > 0 {
-                    self.pending = true;
-                }
-                self.taken = self.taken.saturating_add(n as u64);
-                Ok(n)
-            }
-            Err(e) => {
-                self.failed = true;
-                Err(e)
-            }
-        }
+        self.record_write(buf, &result);
+        result
     }
 
     fn flush(&mut self) -> Result<()>
@@ -200,17 +177,8 @@ impl<T: Sink> Write for Watched<T> {
         ensures wasted { watched_wasted self.new ≡ watched_wasted self.old || watched_failed self.old }
         ensures called { T.flushes (watched_inner self.old) result (watched_inner self.new) }
     {
-        self.wasted = self.wasted || self.failed;
-        self.flushes = self.flushes.saturating_add(1);
-        match self.inner.flush_once() {
-            Ok(()) => {
-                self.pending = false;
-                Ok(())
-            }
-            Err(e) => {
-                self.failed = true;
-                Err(e)
-            }
-        }
+        let result = self.inner.flush_once();
+        self.record_flush(&result);
+        result
     }
 }

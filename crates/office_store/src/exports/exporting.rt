@@ -15,8 +15,8 @@ ghost use Rattle.office_store.specs.exports.Stepping.{GivesRecord, IsAtStart, Ke
 
 use crate::exports::ending::ExportEnd;
 use crate::exports::exported::Exported;
-use office_lists::send::send;
 use office_lists::{ExportKind, head_bytes};
+use room_types::watched::sending::send;
 use room_types::{GradeRow, Move, PersonRow, RoomRow, Watched};
 use sqlite::{Alter, Connection, Rows};
 use std::alloc::Global;

@@ -10,6 +10,9 @@ use crate::stream::Stream;
 use crate::watched::Watched;
 use std::io::Result;
 
+// `Read` and `Write` of a `Watched` cannot stand for these calls. Each reader is a `Source` and each writer a `Sink`,
+// with relations that say nothing, so a `Stream` cannot bring its own relations as a `Source` and a `Sink`. Nor do
+// these traits say that a read keeps the bytes written, and that a write keeps the bytes left to read.
 impl<T: Stream> Watched<T> {
     /// Calls `read_some` of the inner stream once, records the call, and returns its result. The bytes written to the
     /// stream so far are unchanged.
@@ -31,19 +34,9 @@ impl<T: Stream> Watched<T> {
         ensures called { T.reads (watched_inner self.old) buf.old buf.new result
             (watched_inner self.new) }
     {
-        self.wasted = self.wasted || self.failed || self.ended || buf.is_empty();
-        self.reads = self.reads.saturating_add(1);
         let result = self.inner.read_some(buf);
-        match result {
-            Ok(n) => {
-                self.ended = self.ended || (n == 0 && !buf.is_empty());
-                Ok(n)
-            }
-            Err(e) => {
-                self.failed = true;
-                Err(e)
-            }
-        }
+        self.record_read(buf, &result);
+        result
     }
 
     /// Calls `write_some` of the inner stream once, records the call, and returns its result. The bytes left to read
@@ -65,24 +58,9 @@ impl<T: Stream> Watched<T> {
             ≡ watched_wasted self.old || watched_failed self.old || is_empty_buffer buf.now }
         ensures called { T.writes (watched_inner self.old) buf.now result (watched_inner self.new) }
     {
-        self.wasted = self.wasted || self.failed || buf.is_empty();
         let result = self.inner.write_some(buf);
-        match result {
-            Ok(n) => {
-                if n == 0 && !buf.is_empty() {
-                    self.failed = true;
-                }
-                if n > 0 {
-                    self.pending = true;
-                }
-                self.taken = self.taken.saturating_add(n as u64);
-                Ok(n)
-            }
-            Err(e) => {
-                self.failed = true;
-                Err(e)
-            }
-        }
+        self.record_write(buf, &result);
+        result
     }
 
     /// Calls `flush_all` of the inner stream once, records the call, and returns its result. The bytes written and
@@ -101,17 +79,8 @@ impl<T: Stream> Watched<T> {
         ensures wasted { watched_wasted self.new ≡ watched_wasted self.old || watched_failed self.old }
         ensures called { T.flushes (watched_inner self.old) result (watched_inner self.new) }
     {
-        self.wasted = self.wasted || self.failed;
-        self.flushes = self.flushes.saturating_add(1);
-        match self.inner.flush_all() {
-            Ok(()) => {
-                self.pending = false;
-                Ok(())
-            }
-            Err(e) => {
-                self.failed = true;
-                Err(e)
-            }
-        }
+        let result = self.inner.flush_all();
+        self.record_flush(&result);
+        result
     }
 }

@@ -1,8 +1,8 @@
 //! Tests of a `Pair`, which makes one stream of a reader and a writer.
 use super::{Faulty, kind, new_device, wanted_at};
 use crate::asserting::assert_same;
-use office_lists::send::send;
 use room_types::stream::Pair;
+use room_types::watched::sending::send;
 use room_types::{Stream, Watched};
 use std::io;
 use std::io::{Read, Write};
