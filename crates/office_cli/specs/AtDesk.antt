@@ -11,7 +11,7 @@ use Rattle.office_state.specs.declared.office.Office.{Office}
 use Rattle.office_store.specs.exports.Ending.{EndsBetween, PutsCount, PutsPrefix, has_failed, sent_of}
 use Rattle.office_store.specs.exports.Exports.{exported}
 use Rattle.office_store.specs.declared.exports.ending.ExportEnd.{ExportEnd}
-use Rattle.office_lines.specs.Printing.{Prints}
+use Rattle.room_types.specs.Printing.{Prints}
 use Rattle.office_lines.specs.Rehearsals.{Rehearses}
 use Rattle.office_lines.specs.SingleLines.{DoesWords}
 use Rattle.office_lines.specs.declared.ending.Ending.{Ending}
@@ -24,7 +24,7 @@ use Rattle.office_store.specs.Handling.{HandlesAt}
 use Rattle.office_store.specs.LawfulSteps.{HandlesLawfully}
 use Rattle.office_store.specs.declared.desk.faults.DeskFault.{DeskFault}
 use Rattle.office_schema.specs.tables.Steps.{Follows}
-use Rattle.office_lines.specs.render.OutputLines.{line_of}
+use Rattle.room_types.specs.OutputLines.{line_of}
 use Rattle.resident_http.specs.server.Network.{Network}
 use Rattle.resident_http.specs.server.Serving.{ServesPort}
 use Rattle.room_types.specs.Streams.{Input, Output}

@@ -14,8 +14,8 @@ use Rattle.office_cli.specs.ListAccess.{ListAccess}
 use Rattle.office_lines.specs.Rehearsals.{Rehearses}
 use Rattle.resident_http.specs.server.Network.{Network}
 use Rattle.room_types.specs.Streams.{Input, Output}
-use Rattle.office_lines.specs.Printing.{Prints, PrintsUnavailable}
-use Rattle.office_lines.specs.render.OutputLines.{line_of}
+use Rattle.room_types.specs.Printing.{Prints, PrintsUnavailable}
+use Rattle.room_types.specs.OutputLines.{line_of}
 use Rattle.office_cli.specs.WordLines.{words_text}
 use Rattle.room_types.specs.Texts.{Text}
 

@@ -12,10 +12,10 @@ use Rattle.office_file.specs.Adopted.{OpensFound, IsFileFault}
 use Rattle.office_file.specs.Access.{FileAccess}
 use Rattle.office_file.specs.Created.{OpensBlank, IsCreateFault}
 use Rattle.office_file.specs.Migrated.{OpensMigrated, IsMigrateFault}
-use Rattle.office_lines.specs.Printing.{Prints}
+use Rattle.room_types.specs.Printing.{Prints}
 use Rattle.office_store.specs.Desk.{DeskState, Shows}
 use Rattle.office_store.specs.declared.desk.faults.DeskFault.{DeskFault}
-use Rattle.office_lines.specs.render.OutputLines.{line_of}
+use Rattle.room_types.specs.OutputLines.{line_of}
 use Rattle.resident_http.specs.server.Network.{Network}
 use Rattle.room_types.specs.Streams.{Input, Output}
 use Rattle.room_types.specs.Texts.{Text}

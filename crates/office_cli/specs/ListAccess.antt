@@ -2,7 +2,7 @@
 use Rattle.std.specs.Prelude.{◌≡◌, ℕ, ◌≤◌, ◌⊎◌, List, Option, Result}
 use Rattle.std.specs.declared.io.Error.{Error}
 use Rattle.office_cli.specs.Importing.{ImportsFrom, list_limit}
-use Rattle.office_lines.specs.Printing.{PrintsUnavailable}
+use Rattle.room_types.specs.Printing.{PrintsUnavailable}
 use Rattle.office_core.specs.declared.requests.Answer.{Answer}
 use Rattle.office_core.specs.declared.requests.Request.{Request}
 use Rattle.room_types.specs.Streams.{Output}

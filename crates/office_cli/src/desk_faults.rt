@@ -5,10 +5,9 @@ ghost use Rattle.room_types.specs.Watched.{IsFresh, StopsAtFailure};
 ghost use Rattle.office_cli.specs.AtDesk.{PrintsMade};
 ghost use Rattle.office_cli.specs.DeskFaults.{RefusesDesk, RefusesVersion, other_version_text};
 
-use office_lines::print::{print, print_unavailable};
-use office_lines::render::{ACCEPTED, REFUSED};
 use office_store::{Desk, DeskFault};
 use room_types::Watched;
+use room_types::printing::{ACCEPTED, REFUSED, print, print_unavailable};
 use sqlite::Alter;
 use std::alloc::{AllocError, Global};
 use std::io::Write;

@@ -3,10 +3,10 @@ ghost use Rattle.room_types.specs.Streams.{output_of};
 ghost use Rattle.room_types.specs.Watched.{IsFresh, StopsAtFailure};
 ghost use Rattle.office_cli.specs.AtDesk.{ExportsDesk};
 
-use office_lines::render::{ACCEPTED, UNAVAILABLE};
 use office_lists::ExportKind;
 use office_store::Desk;
 use room_types::Watched;
+use room_types::printing::{ACCEPTED, UNAVAILABLE};
 use sqlite::Alter;
 use std::alloc::Global;
 use std::io::Write;

@@ -2,7 +2,6 @@ pub mod Inner
 pub mod Lines
 pub mod Rehearsals
 pub mod Runs
-pub mod Printing
 pub mod SingleLines
 pub mod parse
 pub mod render

@@ -7,7 +7,7 @@ use Rattle.office_lines.specs.declared.render.response.Response.{Response}
 use Rattle.office_lines.specs.declared.render.response.Response.TheVariants.{NotUnderstood}
 use Rattle.office_lines.specs.Lines.{is_line_end, is_short}
 use Rattle.office_lines.specs.Runs.{Step}
-use Rattle.office_lines.specs.Printing.{Prints, PrintsUnavailable}
+use Rattle.room_types.specs.Printing.{Prints, PrintsUnavailable}
 use Rattle.office_lines.specs.render.Texts.{is_constant, exit_status, text_of}
 use Rattle.office_lines.specs.parse.Values.{joined}
 use Rattle.room_types.specs.Streams.{Output}

@@ -6,10 +6,10 @@ ghost use Rattle.office_lines.specs.SingleLines.{DoesText, DoesWords, PrintsResp
 
 use crate::limits::LINE_LIMIT;
 use crate::line::handle_line;
-use crate::print::{print, print_unavailable};
-use crate::render::{NOT_UNDERSTOOD, Response, UNAVAILABLE, exit_status, text_of};
+use crate::render::{Response, exit_status, text_of};
 use office_core::Handler;
 use room_types::Watched;
+use room_types::printing::{NOT_UNDERSTOOD, UNAVAILABLE, print, print_unavailable};
 use std::alloc::Global;
 use std::io::Write;
 

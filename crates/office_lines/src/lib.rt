@@ -6,7 +6,6 @@ pub mod ending;
 pub mod limits;
 pub mod line;
 pub mod parse;
-pub mod print;
 pub mod rehearse;
 pub mod render;
 mod session;

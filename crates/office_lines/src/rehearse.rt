@@ -10,10 +10,10 @@ ghost use Rattle.office_lines.specs.Inner.Sessions.{InputHandled, Stopped, OnlyW
 
 use crate::ending::{Ending, Rehearsed};
 use crate::limits::{CHUNK_LIMIT, READ_LIMIT};
-use crate::render::UNAVAILABLE;
 use crate::session::Session;
 use office_core::Handler;
 use room_types::Watched;
+use room_types::printing::UNAVAILABLE;
 use std::alloc::Global;
 use std::io::{Read, Write};
 

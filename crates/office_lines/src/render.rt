@@ -7,7 +7,5 @@ pub mod response;
 
 pub use crate::render::order_lines::order_text;
 pub use crate::render::refusals::refusal_text;
-pub use crate::render::replies::{
-    ACCEPTED, NOT_UNDERSTOOD, REFUSED, UNAVAILABLE, exit_status, reply_text, text_of,
-};
+pub use crate::render::replies::{exit_status, reply_text, text_of};
 pub use crate::render::response::Response;

@@ -1,5 +1,5 @@
 //! The small types of a college's room exchange: texts, lottery numbers (words), grades, preference lists, maps, and
-//! monitored readers, writers and streams. Sends texts to such writers.
+//! monitored readers, writers and streams. Sends and prints texts to such writers.
 #![tactic(auto)]
 
 pub mod choices;
@@ -12,6 +12,7 @@ pub mod laws;
 pub mod listing;
 pub mod moves;
 pub mod phase;
+pub mod printing;
 pub mod rows;
 pub mod stream;
 pub mod table;

@@ -13,7 +13,7 @@ use Rattle.office_cli.specs.AtDesk.{EndsEarly, HandlesWords, ImportsDesk}
 use Rattle.office_cli.specs.Importing.{ImportsFrom, import_request}
 use Rattle.office_cli.specs.ListAccess.{ImportsOpened, ListAccess}
 use Rattle.office_lines.proofs.handled.Steps.{words_shown}
-use Rattle.office_lines.specs.Printing.{Prints, PrintsUnavailable}
+use Rattle.room_types.specs.Printing.{Prints, PrintsUnavailable}
 use Rattle.office_lines.specs.SingleLines.{DoesWords}
 use Rattle.office_store.proofs.desks.Runs.{step_represented}
 use Rattle.office_store.specs.Desk.{DeskState, Represents}

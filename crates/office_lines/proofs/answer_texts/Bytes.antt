@@ -4,7 +4,7 @@ use Rattle.std.specs.Fmt.{decimal}
 use Rattle.room_types.specs.Texts.{Text}
 use Rattle.room_types.specs.Words.{word_text}
 use Rattle.office_core.specs.declared.reply.OrderRow.{OrderRow}
-use Rattle.office_lines.specs.render.OutputLines.{line_of}
+use Rattle.room_types.specs.OutputLines.{line_of}
 use Rattle.office_lines.specs.render.OrderLines.{order_line, order_lines, order_text, right_in, grade_suffix}
 
 -- a line is not empty: it ends with a line feed

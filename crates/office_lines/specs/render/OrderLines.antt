@@ -5,7 +5,7 @@ use Rattle.room_types.specs.Grades.{grade_text}
 use Rattle.room_types.specs.Texts.{Text}
 use Rattle.room_types.specs.Words.{word_text}
 use Rattle.office_core.specs.declared.reply.OrderRow.{OrderRow}
-use Rattle.office_lines.specs.render.OutputLines.{line_of}
+use Rattle.room_types.specs.OutputLines.{line_of}
 
 -- the text, padded with spaces on the left to the width
 abbrev pub right_in : ℕ → Text → Text

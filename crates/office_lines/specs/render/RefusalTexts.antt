@@ -7,7 +7,7 @@ use Rattle.office_lists.specs.declared.fault.Cause.{Cause}
 use Rattle.office_lists.specs.declared.fault.Cause.TheVariants.{Header, NotText, FieldCount, BadField, TooMany, Denied}
 use Rattle.office_core.specs.Refusal.{name_of, number_of}
 use Rattle.office_core.specs.declared.refusal.Refusal.{Refusal}
-use Rattle.office_lines.specs.render.OutputLines.{line_of}
+use Rattle.room_types.specs.OutputLines.{line_of}
 use Rattle.office_core.specs.declared.refusal.Refusal.TheVariants.{BadPhase, UnknownPerson, UnknownRoom, DuplicateRoom, DuplicatePerson, KeyInUse, RoomShut, RoomTaken, HasHome, NoHome, Withdrawn, WrongWordCount, LimitReached, ListDiffers, BadRecord, NotInRound, NoSuchRound, NotShut, OutOfMemory, Going, UnknownLabel}
 
 -- the text of a cause, which says what is wrong with a record of an imported list

@@ -9,7 +9,7 @@ use Rattle.office_lists.specs.Tables.{or_none, people_table, results_table, room
 use Rattle.office_core.specs.declared.reply.Reply.{Reply}
 use Rattle.office_core.specs.declared.reply.Reply.TheVariants as reply
 use Rattle.office_core.specs.declared.reply.Standing.{Standing}
-use Rattle.office_lines.specs.render.OutputLines.{line_of}
+use Rattle.room_types.specs.OutputLines.{line_of}
 use Rattle.office_lines.specs.render.OrderLines.{order_text}
 
 -- the room codes, with a space before each code

@@ -6,7 +6,7 @@ use Rattle.office_core.specs.declared.requests.Answer.TheVariants.{Reply, Refuse
 use Rattle.office_lines.specs.declared.render.response.Response.{Response}
 use Rattle.office_lines.specs.declared.render.response.Response.TheVariants.{Nothing, Answered, NotUnderstood}
 use Rattle.office_lines.specs.render.RefusalTexts.{refusal_text}
-use Rattle.office_lines.specs.render.OutputLines.{line_of}
+use Rattle.room_types.specs.OutputLines.{line_of}
 use Rattle.office_lines.specs.render.Replies.{reply_text}
 
 -- the text to print for a response

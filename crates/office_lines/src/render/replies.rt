@@ -1,7 +1,7 @@
 //! Turns a response into its text and exit status, and a reply into its text.
 ghost use Rattle.std.specs.Prelude.{◌≡◌, ◌<◌, ◌++◌, [], ◌∷◌, IfOk, OnErr, OnOk, false, length, string_bytes};
 ghost use Rattle.std.specs.Cow.{cow_str_bytes};
-ghost use Rattle.office_lines.specs.render.OutputLines.{line_of};
+ghost use Rattle.room_types.specs.OutputLines.{line_of};
 ghost use Rattle.office_lines.specs.render.Texts.{text_of as text-of, exit_status as status-of, is_constant};
 ghost use Rattle.office_lines.specs.render.Replies.{going_text, reply_text, result_text, spaced, standing_text, yes_or_no};
 
@@ -10,21 +10,10 @@ use crate::render::refusals::refusal_text;
 use crate::render::response::Response;
 use office_core::{Answer, Reply, Standing};
 use office_lists::{move_day_text, or_none, people_text, results_text, rooms_text};
+use room_types::printing::{ACCEPTED, NOT_UNDERSTOOD, REFUSED, UNAVAILABLE};
 use room_types::{OutOfMemory, PersonId, Phase, RoomCode};
 use std::alloc::{AllocError, Global};
 use std::borrow::CowStr;
-
-/// The exit status of a line that gets no response or whose request was accepted.
-pub const ACCEPTED: u8 = 0;
-
-/// The exit status of a line whose request was refused.
-pub const REFUSED: u8 = 1;
-
-/// The exit status of a line that is not understood.
-pub const NOT_UNDERSTOOD: u8 = 2;
-
-/// The exit status of a line that failed because memory ran out, a device failed, or the line is too long.
-pub const UNAVAILABLE: u8 = 3;
 
 /// Returns the text to print for a response.
 ///

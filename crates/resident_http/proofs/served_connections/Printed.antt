@@ -1,6 +1,6 @@
 -- Printed texts.
 use Rattle.std.proofs.Common.{◌≡◌, ℕ, inl, inr}
-use Rattle.office_lines.specs.Printing.{Prints}
+use Rattle.room_types.specs.Printing.{Prints}
 use Rattle.room_types.specs.Streams.{Output}
 use Rattle.room_types.specs.Texts.{Text}
 

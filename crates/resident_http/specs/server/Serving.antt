@@ -4,7 +4,7 @@ use Rattle.sqlite.specs.Held.{state}
 use Rattle.sqlite.specs.State.{HasCleanDisk}
 use Rattle.sqlite_trees.specs.declared.store.Store.{Ghosts}
 use Rattle.office_state.specs.declared.office.Office.{Office}
-use Rattle.office_lines.specs.Printing.{Prints, PrintsUnavailable}
+use Rattle.room_types.specs.Printing.{Prints, PrintsUnavailable}
 use Rattle.office_store.specs.Desk.{DeskState, Represents}
 use Rattle.office_store.specs.Handling.{HandlesAt, TellsIfOpen}
 use Rattle.office_core.specs.Requests.{Handles}

@@ -1,7 +1,7 @@
 -- The lines that the server prints.
 use Rattle.std.specs.Prelude.{ℕ, [], ◌∷◌, codes}
 use Rattle.std.specs.Fmt.{decimal}
-use Rattle.office_lines.specs.render.OutputLines.{line_of}
+use Rattle.room_types.specs.OutputLines.{line_of}
 use Rattle.room_types.specs.Texts.{Text}
 
 -- the line with the port on which the server listens

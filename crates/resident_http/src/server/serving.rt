@@ -10,10 +10,9 @@ ghost use Rattle.resident_http.specs.server.Texts.{listening_text, served_text};
 
 use crate::serve_one;
 use crate::server::listener::{Listener, Ports};
-use office_lines::print::print;
-use office_lines::render::{ACCEPTED, UNAVAILABLE};
 use office_store::{Desk, Unavailable};
 use room_types::Watched;
+use room_types::printing::{ACCEPTED, UNAVAILABLE, print};
 use sqlite::Alter;
 use std::alloc::{AllocError, Global};
 use std::io::Write;

@@ -2,7 +2,7 @@ use Rattle.std.proofs.Common.{◌≡◌, ◌∙◌, length, take, inr, refl, ari
 use Rattle.std.proofs.lemmas.List.{take_all}
 use Rattle.std.proofs.Math.Bool.{or-true}
 use Rattle.room_types.proofs.watched_bytes.Streams.{Puts-kept}
-use Rattle.office_lines.proofs.print.print.Goals as goal
+use Rattle.room_types.proofs.printing.print.Goals as goal
 
 pub returns-in-Err-flush-clause-prints : goal.returns-in-Err-flush-clause-prints
 returns-in-Err-flush-clause-prints g c =

@@ -3,7 +3,7 @@ use Rattle.std.specs.Prelude.{◌≡◌, ℕ, ◌⊎◌, true, false, ◌∷◌,
 use Rattle.room_types.specs.Streams.{Output, Puts}
 use Rattle.room_types.specs.Texts.{Text}
 use Rattle.room_types.specs.Watched.{counted}
-use Rattle.office_lines.specs.render.OutputLines.{line_of}
+use Rattle.room_types.specs.OutputLines.{line_of}
 
 -- The whole text was written, one flush followed, the writer's failure flag did not change, and the exit status is
 -- `wanted`. Or the writer has failed, the status is 3, and a prefix of the text was written.

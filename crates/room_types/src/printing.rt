@@ -1,12 +1,23 @@
-//! Prints a text and returns an exit status.
+//! Printing a text, and the exit statuses of the program.
 ghost use Rattle.room_types.specs.Streams.{output_of};
 ghost use Rattle.room_types.specs.Watched.{StopsAtFailure};
-ghost use Rattle.office_lines.specs.Printing.{Prints, PrintsUnavailable};
+ghost use Rattle.room_types.specs.Printing.{Prints, PrintsUnavailable};
 
-use crate::render::UNAVAILABLE;
-use room_types::Watched;
-use room_types::watched::sending::send;
+use crate::watched::Watched;
+use crate::watched::sending::send;
 use std::io::Write;
+
+/// The exit status of a line that gets no response or whose request was accepted.
+pub const ACCEPTED: u8 = 0;
+
+/// The exit status of a line whose request was refused.
+pub const REFUSED: u8 = 1;
+
+/// The exit status of a line that is not understood.
+pub const NOT_UNDERSTOOD: u8 = 2;
+
+/// The exit status of a line that failed because memory ran out, a device failed, or the line is too long.
+pub const UNAVAILABLE: u8 = 3;
 
 /// Writes the text and flushes. Returns `status`, or 3 if a write or the flush fails.
 pub fn print<W: Write>(output: &mut Watched<W>, text: &str, status: u8) -> u8
