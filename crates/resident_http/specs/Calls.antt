@@ -1,7 +1,8 @@
 -- The calls that the server makes on the stream of a connection. The relations `reads`, `writes` and `flushes` of the
 -- trait `Stream` each describe one call.
-use Rattle.std.specs.Prelude.{◌≡◌, ◌⊎◌, ℕ, zero, suc, ◌+◌, ◌<◌, ◌≤◌, List, [], ◌++◌, length, take, drop, Ok, Err}
+use Rattle.std.specs.Prelude.{◌≡◌, ◌⊎◌, ℕ, zero, suc, ◌+◌, ◌<◌, ◌≤◌, List, [], ◌++◌, length, take, Ok, Err}
 use Rattle.std.specs.declared.io.Error.{Error}
+use Rattle.room_types.specs.Sending.{FailsToWrite, Writes}
 use Rattle.room_types.specs.declared.stream.Stream.{Ghosts as Calls}
 use Rattle.resident_requests.specs.Asks.{Asked, Asks, more}
 use Rattle.resident_http.specs.declared.served.Served.{Served}
@@ -47,38 +48,12 @@ module _ {T : Type 0} (calls : Calls T) where
   ReadsAll bytes more old new = (between : T) × Reads bytes old between × FindsEnd between new
   ReadsAll bytes asked old new = Reads bytes old new
 
-  -- One write was given the text after its first `before` bytes, and took at least one byte. Then `sent` bytes of the
-  -- text had been written.
-  pub record WritesOnce (text : List ℕ) (before sent : ℕ) (old new : T) : Type 0 where
-    pub count : ℕ
-    pub called : calls.writes old (drop before text) (Ok count) new
-    pub some : 0 < count
-    pub sum : sent ≡ before + count
-
-  -- this number of writes, one after another, took the first `sent` bytes of the text
-  abbrev pub WritesEach : List ℕ → ℕ → ℕ → T → T → Type 0
-  WritesEach text zero sent old new = (sent ≡ 0) × (new ≡ old)
-  WritesEach text (suc times) sent old new =
-      (before : ℕ) × (between : T) × WritesEach text times before old between × WritesOnce text before sent between new
-
-  -- some number of writes, one after another, took the first `sent` bytes of the text
-  abbrev pub Writes : List ℕ → ℕ → T → T → Type 0
-  Writes text sent old new = (times : ℕ) × WritesEach text times sent old new
-
-  -- Writes, one after another, took the first `sent` bytes of the text, which are not all of it. The next write, of
-  -- the remaining bytes, failed or took no byte.
-  abbrev pub FailsToWrite : List ℕ → ℕ → T → T → Type 0
-  FailsToWrite text sent old new =
-      (between : T) × (sent < length text) × Writes text sent old between
-      × (calls.writes between (drop sent text) (Ok 0) new
-      ⊎ ((error : Error) × calls.writes between (drop sent text) (Err error) new))
-
   -- `Answered`: writes took the whole text, and one flush succeeded. `WriteFault`: a write failed, or the flush after
   -- the whole text failed. The other endings are impossible here.
   abbrev pub Sends : Served → List ℕ → T → T → Type 0
-  Sends (Answered status) text old new = (between : T) × Writes text (length text) old between × calls.flushes between (Ok tt) new
+  Sends (Answered status) text old new = (between : T) × Writes calls.writes text (length text) old between × calls.flushes between (Ok tt) new
   Sends (WriteFault sent) text old new =
-      FailsToWrite text sent old new
-      ⊎ ((between : T) × (error : Error) × (sent ≡ length text) × Writes text sent old between × calls.flushes between (Err error) new)
+      FailsToWrite calls.writes text sent old new
+      ⊎ ((between : T) × (error : Error) × (sent ≡ length text) × Writes calls.writes text sent old between × calls.flushes between (Err error) new)
   Sends Silent text old new = ⊥
   Sends ReadFault text old new = ⊥
