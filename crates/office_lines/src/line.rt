@@ -105,7 +105,7 @@ fn parse_request(alloc: Global, text: &str) -> Result<ParsedLine, OutOfMemory>
     }
 }
 
-// Returns whether the first word names a request. Allocates nothing.
+// Returns whether the first word names a request.
 fn names_request(alloc: Global, text: &str) -> bool
     ensures { result ≡ names_request (words_of text.now) }
 {

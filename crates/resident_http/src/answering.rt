@@ -25,8 +25,9 @@ use std::alloc::Global;
 ///
 /// # Errors
 ///
-/// `Unavailable` if an allocation fails, if the handler's answer is `Unavailable`, if the handler answers a query with
-/// a reply of another kind, or if it gives a refusal that the request never gets.
+/// The error response, if the parsed bytes are an incomplete request or a fault, or if the request or its command is
+/// refused. The error response is `Unavailable` if an allocation fails, if the handler's answer is `Unavailable`, if
+/// the handler answers a query with a reply of another form, or if it gives a refusal that the request never gets.
 pub fn answer_ask<H: Handler>(
     alloc: Global,
     handler: &mut H,

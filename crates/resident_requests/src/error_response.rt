@@ -14,7 +14,7 @@ use room_types::OutOfMemory;
 pub enum ErrorResponse {
     /// 400: the bytes are not a request, or the body is not a preference list.
     BadRequest,
-    /// 403: the request has no key, or nobody has this key.
+    /// 403: the request has no valid key, or nobody has this key.
     Forbidden,
     /// 404: the server has no resource at the path.
     NotFound,

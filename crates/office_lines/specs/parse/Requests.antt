@@ -122,8 +122,8 @@ abbrev pub begins_with_person : ℕ → List Text → Bool
 begins_with_person least words = nat_le least (length words) && first_in is_person_id words
 
 -- A form of requests. `request` is the request that the words after the first word make, if any. `copies` says whether
--- parsing these words, the values of the request, may allocate. It may if the number of values fits the form, and the
--- first value is in its grammar. Parsing never allocates for a request without values, nor for a `moves` request.
+-- parsing these words, the values of the request, may run out of memory. It may if the number of values fits the form,
+-- and the first value is in its grammar. It may not for a request without values, nor for a `moves` request.
 pub record Form : Type 0 where
   pub request : List Text → Option Request
   pub copies : List Text → Bool

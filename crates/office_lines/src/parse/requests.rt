@@ -21,8 +21,8 @@ use std::alloc::Global;
 ///
 /// `NotUnderstood` if the words are not a request. `OutOfMemory` if an allocation fails.
 ///
-/// The values of a request are the words after the first word. Parsing allocates only if the number of values fits
-/// the kind of request, and the first value is in its grammar. Parsing never allocates for a request without values,
+/// The values of a request are the words after the first word. Parsing runs out of memory only if the number of values
+/// fits the form of the request, and the first value is in its grammar. It never does so for a request without values,
 /// nor for a `moves` request.
 pub fn words_to_command(alloc: Global, words: &[&str]) -> Result<Request, WordFault>
     ensures understands { Understands (request_of (map (λ word. word.now) words.now)) result }
@@ -37,7 +37,7 @@ pub fn words_to_command(alloc: Global, words: &[&str]) -> Result<Request, WordFa
 }
 
 /// Returns whether this word, as the first word of a line, names a form of requests. For that it parses a line of this
-/// word alone, which never allocates.
+/// word alone, which never runs out of memory.
 pub(crate) fn names_form(alloc: Global, word: &str) -> bool
     ensures { result ≡ is_some (form_of word.now) }
 {

@@ -24,8 +24,7 @@ use Rattle.resident_http.specs.declared.served.Served.{Served}
 use Rattle.resident_http.specs.declared.served.Served.TheVariants.{Answered, ReadFault, Silent, WriteFault}
 
 -- A concrete handler, an abstract one, and the relation between their states. A request that ends well began well, and
--- is
--- then also a request to the abstract handler.
+-- is then also a request to the abstract handler.
 module _ {H K : Type 0} (handles : H → Request → DeskAnswer → H → Type 0) (does : K → Request → DeskAnswer → K → Type 0)
     (IsWell : H → Type 0) (represents : H → K → Type 0)
     (back : (old new : H) (request : Request) (answer : DeskAnswer) → handles old request answer new → IsWell new
