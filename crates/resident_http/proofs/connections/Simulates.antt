@@ -19,7 +19,7 @@ use Rattle.resident_requests.specs.declared.routes.Route.TheVariants as route
 use Rattle.resident_http.specs.Connections.{Connection, ServesConnection, Replies}
 use Rattle.resident_http.specs.DueResponses.{list_fault, standing_answer}
 use Rattle.resident_http.specs.Serving.{Authenticates, Answers, AnswersWanted, Executes, Dispatches, Authorizes}
-use Rattle.resident_http.specs.Serving.{ListsRooms, Records, RespondsAlways, RespondsDirectly}
+use Rattle.resident_http.specs.Serving.{IsDue, ListsRooms, Records}
 use Rattle.resident_http.specs.declared.served.Served.{Served}
 use Rattle.resident_http.specs.declared.served.Served.TheVariants.{Answered, ReadFault, Silent, WriteFault}
 
@@ -61,13 +61,9 @@ module _ {H K : Type 0} (handles : H → Request → DeskAnswer → H → Type 0
         (n.0, r k m.0 n.0 m.1 n.1, n.2),
   )
 
-  RespondsDirectly-simulates : (due answer : Answer) (old new : H) → RespondsDirectly due old answer new
-      → Carried old new (λ k n. RespondsDirectly due k answer n)
-  RespondsDirectly-simulates due answer old new h = Simulates-same old new _ h.1 (λ k. (h.0, refl))
-
-  RespondsAlways-simulates : (due answer : Answer) (old new : H) → RespondsAlways due old answer new
-      → Carried old new (λ k n. RespondsAlways due k answer n)
-  RespondsAlways-simulates due answer old new h = Simulates-same old new _ h.1 (λ k. (h.0, refl))
+  -- a response that leaves the desk as it was
+  Responds-simulates : (P : Type 0) (old new : H) → P × (new ≡ old) → Carried old new (λ k n. P × (n ≡ k))
+  Responds-simulates P old new h = Simulates-same old new _ h.1 (λ k. (h.0, refl))
 
   Executes-simulates : (command : Command) (success : List ℕ) (answer : Answer) (old new : H)
       → Executes handles command success old answer new
@@ -81,7 +77,7 @@ module _ {H K : Type 0} (handles : H → Request → DeskAnswer → H → Type 0
       → Carried old new (λ k n. Records does person read k answer n)
   Records-simulates person (Ok choices) answer old new h =
       Executes-simulates (SetChoices person choices) (compact_text (choices_data choices)) answer old new h
-  Records-simulates person (Err cause) answer old new h = RespondsDirectly-simulates (list_fault cause) answer old new h
+  Records-simulates person (Err cause) answer old new h = Responds-simulates (IsDue (list_fault cause) answer) old new h
 
   ListsRooms-simulates : (answer : Answer) (old new : H) → ListsRooms handles old answer new
       → Carried old new (λ k n. ListsRooms does k answer n)
@@ -91,7 +87,7 @@ module _ {H K : Type 0} (handles : H → Request → DeskAnswer → H → Type 0
       → Dispatches handles route standing body old answer new
       → Carried old new (λ k n. Dispatches does route standing body k answer n)
   Dispatches-simulates route.Standing standing body answer old new h =
-      RespondsDirectly-simulates (standing_answer standing) answer old new h
+      Responds-simulates (IsDue (standing_answer standing) answer) old new h
   Dispatches-simulates route.Rooms standing body answer old new h = ListsRooms-simulates answer old new h
   Dispatches-simulates route.Withdrawal standing body answer old new h =
       Executes-simulates (Withdraw standing.person) (compact_text withdrawn_data) answer old new h
@@ -120,21 +116,21 @@ module _ {H K : Type 0} (handles : H → Request → DeskAnswer → H → Type 0
   AnswersWanted-simulates : (what : Wanted) (body : List ℕ) (answer : Answer) (old new : H)
       → AnswersWanted handles what body old answer new
       → Carried old new (λ k n. AnswersWanted does what body k answer n)
-  AnswersWanted-simulates unknown body answer old new h = RespondsDirectly-simulates (status_fault 404) answer old new h
+  AnswersWanted-simulates unknown body answer old new h = Responds-simulates (IsDue (status_fault 404) answer) old new h
   AnswersWanted-simulates (wrong_method allow) body answer old new h =
-      RespondsDirectly-simulates (wrong_method_answer allow) answer old new h
+      Responds-simulates (IsDue (wrong_method_answer allow) answer) old new h
   AnswersWanted-simulates forbidden body answer old new h =
-      RespondsDirectly-simulates (status_fault 403) answer old new h
+      Responds-simulates (IsDue (status_fault 403) answer) old new h
   AnswersWanted-simulates (wanted route key) body answer old new h =
       Authenticates-simulates route key body answer old new h
 
   -- the response to parsed bytes
   pub Answers-simulates : (asked : Asked) (answer : Answer) (old new : H) → Answers handles asked old answer new
       → Carried old new (λ k n. Answers does asked k answer n)
-  Answers-simulates more answer old new h = RespondsAlways-simulates (status_fault 400) answer old new h
+  Answers-simulates more answer old new h = Responds-simulates (answer ≡ status_fault 400) old new h
   Answers-simulates (ask method path key body used) answer old new h =
       AnswersWanted-simulates (wanted_of method path key) body answer old new h
-  Answers-simulates (fault status) answer old new h = RespondsAlways-simulates (status_fault status) answer old new h
+  Answers-simulates (fault status) answer old new h = Responds-simulates (answer ≡ status_fault status) old new h
 
   Replies-simulates : {T : Type 0} (calls : Calls T) (served : Served) (old new : H) (before after : Connection T)
       → Replies calls handles old new served before after
