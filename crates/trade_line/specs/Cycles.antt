@@ -1,8 +1,8 @@
 -- Cycles of a stage: what stays the same for a cycle when other cycles leave, and which people form whole cycles.
 use Rattle.std.specs.Prelude.{◌≡◌, ℕ, ◌<◌, Bool, true, false, List, [], ◌∷◌, Some}
-use Rattle.trade_line.specs.Market.{Market, home, tenant}
+use Rattle.trade_line.specs.Market.{Market, home, tenant_of}
 use Rattle.trade_line.specs.Member.{among}
-use Rattle.trade_line.specs.TopTradingCycles.{Stage, wish, first, successor, is_on_cycle, leave}
+use Rattle.trade_line.specs.TopTradingCycles.{Stage, wish, first, successor, is_on_cycle, removed}
 
 -- everybody who remains is a person of the market
 abbrev pub IsStageOf : Market → Stage → Type 0
@@ -18,13 +18,13 @@ pub record AreCycles (m : Market) (s : Stage) (group : ℕ → Bool) : Type 0 wh
 pub record LeavesOtherCycles (m : Market) (s : Stage) (group : ℕ → Bool) : Type 0 where
   pub wishes :
       (p : ℕ) → is_on_cycle m s p ≡ true → group p ≡ false
-      → wish m (leave m s group) p ≡ wish m s p
+      → wish m (removed m s group) p ≡ wish m s p
   pub pointing :
       (p : ℕ) → is_on_cycle m s p ≡ true → group p ≡ false
-      → successor m (leave m s group) p ≡ successor m s p
+      → successor m (removed m s group) p ≡ successor m s p
   pub cycles :
       (p : ℕ) → is_on_cycle m s p ≡ true → group p ≡ false
-      → is_on_cycle m (leave m s group) p ≡ true
+      → is_on_cycle m (removed m s group) p ≡ true
 
 -- p wishes for the home of q
 abbrev pub WishesForHomeOf : Market → Stage → ℕ → ℕ → Type 0
@@ -51,7 +51,7 @@ pub record IsLoop (m : Market) (s : Stage) (p : ℕ) (others : List ℕ) : Type 
 -- the last wishes for a room whose tenant, if any, does not remain
 pub record IsChain (m : Market) (s : Stage) (p : ℕ) (others : List ℕ) : Type 0 where
   pub room : ℕ
-  pub free : (t : ℕ) → tenant m room ≡ Some t → s.people t ≡ false
+  pub free : (t : ℕ) → tenant_of m room ≡ Some t → s.people t ≡ false
   pub leads : first m s ≡ p
   pub remain : AllRemain s (p ∷ others)
   pub wishes : WishOnTo m s p others room

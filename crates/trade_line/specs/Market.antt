@@ -1,6 +1,6 @@
--- A problem of room exchange, as a market (Shapley and Scarf 1974; Abdulkadiroglu and Sönmez 1999): people in
--- priority order, rooms, who lives where, and which rooms each person lists, best first. People are the
--- numbers below `people`, and 0 is the first in priority. Rooms are the numbers below `rooms`.
+-- A problem of room exchange, as a market (Shapley and Scarf 1974; Abdulkadiroglu and Sönmez 1999): people in priority
+-- order, rooms, who lives where, and which rooms each person lists, best first. People are the numbers below `people`,
+-- and 0 is the first in priority. Rooms are the numbers below `rooms`.
 use Rattle.std.specs.Prelude.{◌≡◌, ℕ, ◌<◌, Bool, Option, Some, None, List, [], length, ◌==◌, slice_index_or, false, All, AllPairs, ◌≢◌, is_some}
 use Rattle.trade_line.specs.Below.{first_below, count_below}
 
@@ -28,8 +28,8 @@ is_room r None = false
 is_room r (Some x) = x == r
 
 -- who lives in r
-abbrev pub tenant : Market → ℕ → Option ℕ
-tenant m r = first_below m.people (λ p. is_room r (home m p))
+abbrev pub tenant_of : Market → ℕ → Option ℕ
+tenant_of m r = first_below m.people (λ p. is_room r (home m p))
 
 -- whether p lives somewhere
 abbrev pub is_tenant : Market → ℕ → Bool

@@ -3,7 +3,7 @@
 use Rattle.std.specs.Prelude.{◌≡◌, ℕ, Bool, true, false, Option}
 use Rattle.trade_line.specs.Cycles.{AreCycles}
 use Rattle.trade_line.specs.Market.{Market}
-use Rattle.trade_line.specs.TopTradingCycles.{Stage, wish, leave}
+use Rattle.trade_line.specs.TopTradingCycles.{Stage, wish, removed}
 
 -- some series of removals from this stage continues until nobody remains, and f gives each person what they wish for
 -- when they leave
@@ -11,4 +11,4 @@ pub data IsGivenByRemovals (m : Market) (f : ℕ → Option ℕ) : Stage → Typ
   over : {s : Stage} → ((p : ℕ) → s.people p ≡ false) → IsGivenByRemovals m f s
   remove : {s : Stage} (group : ℕ → Bool) → AreCycles m s group
       → ((p : ℕ) → group p ≡ true → f p ≡ wish m s p)
-      → IsGivenByRemovals m f (leave m s group) → IsGivenByRemovals m f s
+      → IsGivenByRemovals m f (removed m s group) → IsGivenByRemovals m f s

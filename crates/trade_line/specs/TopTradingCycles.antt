@@ -5,7 +5,7 @@ use Rattle.std.specs.Option.{unwrap_or}
 use Rattle.std.specs.Prelude.{ℕ, suc, Bool, cond, Option, Some, None, List, ◌==◌, not, zero, ◌&&◌, nat_lt, find, map}
 use Rattle.std.specs.Fn.{iterate}
 use Rattle.trade_line.specs.Below.{some_below, or_else, first_below, count_below}
-use Rattle.trade_line.specs.Market.{Market, floor, list_of, is_room, tenant}
+use Rattle.trade_line.specs.Market.{Market, floor, list_of, is_room, tenant_of}
 
 -- which people and which rooms remain
 pub record Stage : Type 0 where
@@ -30,13 +30,13 @@ tenant_or_first m s None = first m s
 tenant_or_first m s (Some t) = cond (s.people t) t (first m s)
 
 -- the person to whom a room points: its tenant if the tenant remains, or else the first remaining person
-unfoldable pub holder : Market → Stage → ℕ → ℕ
-holder m s r = tenant_or_first m s (tenant m r)
+unfoldable pub points_to : Market → Stage → ℕ → ℕ
+points_to m s r = tenant_or_first m s (tenant_of m r)
 
 -- the person to whom a wish of p points; the wish for nothing points to p
 abbrev pub target : Market → Stage → ℕ → Option ℕ → ℕ
 target m s p None = p
-target m s p (Some r) = holder m s r
+target m s p (Some r) = points_to m s r
 
 unfoldable pub successor : Market → Stage → ℕ → ℕ
 successor m s p = target m s p (wish m s p)
@@ -55,16 +55,16 @@ is_on_cycle m s p = s.people p
 unfoldable pub taken : Market → Stage → (ℕ → Bool) → ℕ → Bool
 taken m s group r = some_below m.people (λ p. group p && is_room r (wish m s p))
 
--- the group leaves, with the rooms that its people wish for
-unfoldable pub leave : Market → Stage → (ℕ → Bool) → Stage
-leave m s group = record {
+-- the stage after the group leaves, with the rooms that its people wish for
+unfoldable pub removed : Market → Stage → (ℕ → Bool) → Stage
+removed m s group = record {
   people = λ p. s.people p && not (group p);
   rooms = λ r. s.rooms r && not (taken m s group r);
 }
 
 -- everybody on a cycle leaves
 abbrev pub step : Market → Stage → Stage
-step m s = leave m s (is_on_cycle m s)
+step m s = removed m s (is_on_cycle m s)
 
 -- what p gets in the next k steps from the stage, or `None` if p does not leave in these steps
 unfoldable pub gets_within : Market → ℕ → Stage → ℕ → Option ℕ

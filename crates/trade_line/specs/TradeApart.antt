@@ -1,5 +1,5 @@
--- Groups of tenants that could trade their own homes apart from all others (the condition of the
--- strict core, for groups of tenants: Shapley and Scarf 1974; Roth and Postlewaite 1977).
+-- Groups of tenants that could trade their own homes apart from all others (the condition of the strict core, for
+-- groups of tenants: Shapley and Scarf 1974; Roth and Postlewaite 1977).
 use Rattle.std.specs.Prelude.{◌≡◌, ℕ, ◌<◌, ◌≤◌, Bool, true, Option, Some}
 use Rattle.trade_line.specs.Market.{Market, home}
 use Rattle.trade_line.specs.Rank.{rank}

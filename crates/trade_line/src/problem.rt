@@ -1,6 +1,6 @@
 //! A problem: who lives where, and what each person lists.
 ghost use Rattle.std.specs.Prelude.{◌≡◌, ◌<◌, All, IfOk, IfErr, OnOk};
-ghost use Rattle.trade_line.specs.Market.{Market, IsMarket, home, list_of, tenant};
+ghost use Rattle.trade_line.specs.Market.{Market, IsMarket, home, list_of, tenant_of};
 ghost use Rattle.trade_line.specs.Problem.{market_of, IsFirstFault};
 ghost use Rattle.trade_line.specs.OtherList.{with_list, IsListFor, IsFirstListFault};
 ghost use Rattle.trade_line.specs.Inner.Draft.{market_from};
@@ -109,7 +109,7 @@ impl Problem {
     // Returns who lives in the room, if anybody.
     pub(crate) fn tenant_of(&self, room: usize) -> Option<usize>
         requires { room < self.now.rooms }
-        ensures { result ≡ tenant self.now room }
+        ensures { result ≡ tenant_of self.now room }
     {
         self.tenants[room]
     }

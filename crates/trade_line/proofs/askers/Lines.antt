@@ -10,7 +10,7 @@ use Rattle.std.proofs.Math.Bool.{or_assoc, and-true, or-false}
 use Rattle.std.specs.Cmp.Derive.{one_truth}
 use Rattle.trade_line.specs.Below.{or_else}
 use Rattle.trade_line.specs.Market.{Market, IsMarket, home, list_of, is_room}
-use Rattle.trade_line.specs.TopTradingCycles.{Stage, wish, taken, leave}
+use Rattle.trade_line.specs.TopTradingCycles.{Stage, wish, taken, removed}
 use Rattle.trade_line.specs.Member.{among, Once}
 use Rattle.trade_line.specs.Inner.Queue.{AscendsFrom, Ascends, last_of, WaitsBehind, stage_of, close}
 use Rattle.trade_line.specs.Line.{front_of, tail_of, without}
@@ -202,10 +202,10 @@ module _ (m : Market) where
             (e ∙ is_room_gives r o i)
       ])
 
-  pub leave_none : (s : Stage) → s ≡ leave m s (among [])
-  unfolding leave
-  leave_none s =
-      same_stage s (leave m s (among [])) (λ p. sym (and-true (s.people p)))
+  pub removed_none : (s : Stage) → s ≡ removed m s (among [])
+  unfolding removed
+  removed_none s =
+      same_stage s (removed m s (among [])) (λ p. sym (and-true (s.people p)))
       (λ r. sym (rw (nothing r) (and-true (s.rooms r))))
     where
       nothing : (r : ℕ) → taken m s (among []) r ≡ false
@@ -215,12 +215,12 @@ module _ (m : Market) where
 
   -- the front of the line leaves with the wish
   pub front_leaves : (s : Stage) (past : List ℕ) (d : ℕ) (t : List ℕ) (remaining : List Bool) (o : Option ℕ)
-      → stage_of (d ∷ t) remaining ≡ leave m s (among past) → among t d ≡ false → d < m.people → wish m s d ≡ o
-      → ((x : ℕ) → o ≡ Some x → x < length remaining) → stage_of t (close remaining o) ≡ leave m s
+      → stage_of (d ∷ t) remaining ≡ removed m s (among past) → among t d ≡ false → d < m.people → wish m s d ≡ o
+      → ((x : ℕ) → o ≡ Some x → x < length remaining) → stage_of t (close remaining o) ≡ removed m s
       (among (past ++ d ∷ []))
-  unfolding leave
+  unfolding removed
   front_leaves s past d t remaining o e absent l w known =
-      same_stage (stage_of t (close remaining o)) (leave m s (among (past ++ d ∷ []))) people rooms
+      same_stage (stage_of t (close remaining o)) (removed m s (among (past ++ d ∷ []))) people rooms
     where
       before : (p : ℕ) → ((d == p) || among t p) ≡ (s.people p && not (among past p))
       before p = ap (λ (z : Stage). z.people p) e
@@ -254,7 +254,7 @@ module _ (m : Market) where
   -- those behind wait on if nobody takes the homes that they wait for
   pub waits_on : (s : Stage) (k : ℕ → Bool) (a : ℕ) (xs : List ℕ)
       → ((q h : ℕ) → among (a ∷ xs) q ≡ true → home m q ≡ Some h → taken m s k h ≡ false) → WaitsBehind m s a xs
-      → WaitsBehind m (leave m s k) a xs
+      → WaitsBehind m (removed m s k) a xs
   waits_on s k a [] free w = tt
   waits_on s k a (b ∷ r) free w = (
     (

@@ -10,15 +10,15 @@ use Rattle.trade_line.specs.Cycles.{AreCycles, IsStageOf, LeavesOtherCycles, Wis
 use Rattle.trade_line.specs.Cycles.{IsLoop, IsChain}
 use Rattle.trade_line.specs.Inner.Removal.{Reach, IsTrade}
 use Rattle.trade_line.specs.Inner.Removal.Reach.{here, there}
-use Rattle.trade_line.specs.Market.{Market, IsMarket, tenant}
+use Rattle.trade_line.specs.Market.{Market, IsMarket, tenant_of}
 use Rattle.trade_line.specs.Member.{among}
-use Rattle.trade_line.specs.TopTradingCycles.{Stage, first, tenant_or_first, holder, successor, remaining_count}
-use Rattle.trade_line.specs.TopTradingCycles.{is_on_cycle, leave}
-use Rattle.trade_line.proofs.cycles.Chain.{reach_trans, home_holder}
+use Rattle.trade_line.specs.TopTradingCycles.{Stage, first, tenant_or_first, points_to, successor, remaining_count}
+use Rattle.trade_line.specs.TopTradingCycles.{is_on_cycle, removed}
+use Rattle.trade_line.proofs.cycles.Chain.{reach_trans, home_points_to}
 use Rattle.trade_line.proofs.counts.Count.{pigeonhole, reach_times, times_after, times_stays, times_sum}
 use Rattle.trade_line.proofs.cycles.Exchange.{minus, trade_left_over, successor_at, successor_keeps, wish_keeps}
 use Rattle.trade_line.proofs.searches.Search.{some_from}
-use Rattle.trade_line.proofs.cycles.Steps.{cycles_trade, leave_known, successor_remains}
+use Rattle.trade_line.proofs.cycles.Steps.{cycles_trade, removed_known, successor_remains}
 
 -- ---- how soon somebody comes back
 
@@ -79,21 +79,22 @@ others_stay m s group known c =
       wishes = wish_keeps m s group (is_on_cycle m s) gone all;
       pointing = successor_keeps m s group (is_on_cycle m s) gone all;
       cycles = λ p o n.
-          let left : IsTrade m (leave m s group) (minus group (is_on_cycle m s)) =
+          let left : IsTrade m (removed m s group) (minus group (is_on_cycle m s)) =
           trade_left_over m s group (is_on_cycle m s) gone all in
           let is_left : minus group (is_on_cycle m s) p ≡ true =
           and_from (is_on_cycle m s p) (not (group p)) o (not_from_false (group p) n) in
-          cycle_from m (leave m s group) (leave_known m s group known) p (left.remain p is_left) (left.cycle p is_left);
+          cycle_from m (removed m s group) (removed_known m s group known) p (left.remain p is_left)
+          (left.cycle p is_left);
     }
 
 -- ---- loops and chains
 
 module _ (m : Market) (ok : IsMarket m) (s : Stage) (known : IsStageOf m s) where
-  points_to : (p q : ℕ) → s.people q ≡ true → WishesForHomeOf m s p q → successor m s p ≡ q
-  points_to p q h w = successor_at m s p (Some w.0) w.2 ∙ home_holder m ok s q w.0 (known q h) w.1 h
+  points_home : (p q : ℕ) → s.people q ≡ true → WishesForHomeOf m s p q → successor m s p ≡ q
+  points_home p q h w = successor_at m s p (Some w.0) w.2 ∙ home_points_to m ok s q w.0 (known q h) w.1 h
 
   -- the first of a row reaches each of them, and each of them reaches the person to whom the room points
-  along : (p : ℕ) (xs : List ℕ) (room q : ℕ) → holder m s room ≡ q → AllRemain s (p ∷ xs) → WishOnTo m s p xs room
+  along : (p : ℕ) (xs : List ℕ) (room q : ℕ) → points_to m s room ≡ q → AllRemain s (p ∷ xs) → WishOnTo m s p xs room
       → (y : ℕ) → among (p ∷ xs) y ≡ true → Reach (successor m s) p y × Reach (successor m s) (successor m s y) q
   along p [] room q to remain w y h =
       elim (or_cases (p == y) false h) [
@@ -103,7 +104,7 @@ module _ (m : Market) (ok : IsMarket m) (s : Stage) (known : IsStageOf m s) wher
       ]
   along p (x ∷ xs) room q to remain w y h =
       let self : among (x ∷ xs) x ≡ true = or_left (x == x) (among xs x) (eq-eqb x x refl) in
-      let next : successor m s p ≡ x = points_to p x (remain x (or_right (p == x) (among (x ∷ xs) x) self)) w.0 in
+      let next : successor m s p ≡ x = points_home p x (remain x (or_right (p == x) (among (x ∷ xs) x) self)) w.0 in
       let rest : (z : ℕ) → among (x ∷ xs) z ≡ true → Reach (successor m s) x z × Reach (successor m s)
       (successor m s z) q =
       along x xs room q to (λ z hz. remain z (or_right (p == z) (among (x ∷ xs) z) hz)) w.1 in
@@ -114,7 +115,7 @@ module _ (m : Market) (ok : IsMarket m) (s : Stage) (known : IsStageOf m s) wher
       ]
 
   -- each of them points to another in the row, or to the person to whom the room points
-  onward : (p : ℕ) (xs : List ℕ) (room q : ℕ) → holder m s room ≡ q → AllRemain s (p ∷ xs) → WishOnTo m s p xs room
+  onward : (p : ℕ) (xs : List ℕ) (room q : ℕ) → points_to m s room ≡ q → AllRemain s (p ∷ xs) → WishOnTo m s p xs room
       → (y : ℕ) → among (p ∷ xs) y ≡ true → (among xs (successor m s y) ≡ true) ⊎ (successor m s y ≡ q)
   onward p [] room q to remain w y h =
       elim (or_cases (p == y) false h) [
@@ -123,7 +124,7 @@ module _ (m : Market) (ok : IsMarket m) (s : Stage) (known : IsStageOf m s) wher
       ]
   onward p (x ∷ xs) room q to remain w y h =
       let self : among (x ∷ xs) x ≡ true = or_left (x == x) (among xs x) (eq-eqb x x refl) in
-      let next : successor m s p ≡ x = points_to p x (remain x (or_right (p == x) (among (x ∷ xs) x) self)) w.0 in
+      let next : successor m s p ≡ x = points_home p x (remain x (or_right (p == x) (among (x ∷ xs) x) self)) w.0 in
       elim (or_cases (p == y) (among (x ∷ xs) y) h) [
         | inl e ↦ inl (subst (λ z. among (x ∷ xs) z ≡ true) (sym next ∙ ap (successor m s) (eqb-true p y e)) self)
         | inr f ↦ elim (onward x xs room q to (λ z hz. remain z (or_right (p == z) (among (x ∷ xs) z) hz)) w.1 y f) [
@@ -132,7 +133,7 @@ module _ (m : Market) (ok : IsMarket m) (s : Stage) (known : IsStageOf m s) wher
         ]
       ]
 
-  row_cycles : (room person : ℕ) (others : List ℕ) → holder m s room ≡ person → AllRemain s (person ∷ others)
+  row_cycles : (room person : ℕ) (others : List ℕ) → points_to m s room ≡ person → AllRemain s (person ∷ others)
       → WishOnTo m s person others room → AreCycles m s (among (person ∷ others))
   row_cycles room person others to remain wishes = record {
     each = λ p h.
@@ -147,11 +148,12 @@ module _ (m : Market) (ok : IsMarket m) (s : Stage) (known : IsStageOf m s) wher
         ];
   }
 
-  free_holder : (room : ℕ) → ((t : ℕ) → tenant m room ≡ Some t → s.people t ≡ false) → holder m s room ≡ first m s
-  unfolding holder
-  free_holder room free = by_tenant (tenant m room) refl
+  free_points_to : (room : ℕ) → ((t : ℕ) → tenant_of m room ≡ Some t → s.people t ≡ false)
+      → points_to m s room ≡ first m s
+  unfolding points_to
+  free_points_to room free = by_tenant (tenant_of m room) refl
     where
-      by_tenant : (o : Option ℕ) → tenant m room ≡ o → tenant_or_first m s o ≡ first m s
+      by_tenant : (o : Option ℕ) → tenant_of m room ≡ o → tenant_or_first m s o ≡ first m s
       by_tenant None e = refl
       by_tenant (Some t) e = cond-false (s.people t) t (first m s) (free t e)
 
@@ -160,10 +162,10 @@ pub loop_cycles : (m : Market) → IsMarket m → (s : Stage) → IsStageOf m s 
 loop_cycles m ok s known person others loop =
     let there_still : s.people person ≡ true = loop.remain person (among_self person others) in
     row_cycles m ok s known loop.room person others
-    (home_holder m ok s person loop.room (known person there_still) loop.lives there_still) loop.remain loop.wishes
+    (home_points_to m ok s person loop.room (known person there_still) loop.lives there_still) loop.remain loop.wishes
 
 pub chain_cycles : (m : Market) → IsMarket m → (s : Stage) → IsStageOf m s → (person : ℕ) (others : List ℕ)
     → IsChain m s person others → AreCycles m s (among (person ∷ others))
 chain_cycles m ok s known person others chain =
-    row_cycles m ok s known chain.room person others (free_holder m ok s known chain.room chain.free ∙ chain.leads)
+    row_cycles m ok s known chain.room person others (free_points_to m ok s known chain.room chain.free ∙ chain.leads)
     chain.remain chain.wishes

@@ -5,9 +5,9 @@ use Rattle.std.specs.Option.{unwrap_or}
 use Rattle.std.proofs.lemmas.Bool.{cond-true, cond-false, cases_Bool, and_parts, and_from, false_from_ne_true}
 use Rattle.std.proofs.lemmas.Bool.{both_ways, not-true, not_from_false}
 use Rattle.trade_line.specs.Below.{or_else}
-use Rattle.trade_line.specs.Market.{Market, home, list_of, is_room, tenant}
-use Rattle.trade_line.specs.TopTradingCycles.{Stage, wish, first, tenant_or_first, holder, target, successor, taken}
-use Rattle.trade_line.specs.TopTradingCycles.{leave}
+use Rattle.trade_line.specs.Market.{Market, home, list_of, is_room, tenant_of}
+use Rattle.trade_line.specs.TopTradingCycles.{Stage, wish, first, tenant_or_first, points_to, target, successor, taken}
+use Rattle.trade_line.specs.TopTradingCycles.{removed}
 use Rattle.trade_line.specs.Inner.Removal.{Reach, IsTrade}
 use Rattle.trade_line.specs.Inner.Removal.Reach.{here, there}
 use Rattle.trade_line.proofs.searches.Search.{find_passes, find_keeps, first_passes, first_keeps, some_gives}
@@ -50,14 +50,14 @@ module _ (m : Market) where
       (λ t. both_ways (k p) f (reach_closed (successor m s) k tk.closed (tl.cycle p h) t))
 
   pub wish_keeps : (s : Stage) (k l : ℕ → Bool) → IsTrade m s k → IsTrade m s l → (p : ℕ) → l p ≡ true → k p ≡ false
-      → wish m (leave m s k) p ≡ wish m s p
-  unfolding wish leave
+      → wish m (removed m s k) p ≡ wish m s p
+  unfolding wish removed
   wish_keeps s k l tk tl p h f =
       ap (λ o. or_else o (home m p))
-      (find_keeps s.rooms (leave m s k).rooms (list_of m p)
+      (find_keeps s.rooms (removed m s k).rooms (list_of m p)
       (λ y t. (and_parts (s.rooms y) (not (taken m s k y)) t).0) stays)
     where
-      stays : (x : ℕ) → find s.rooms (list_of m p) ≡ Some x → (leave m s k).rooms x ≡ true
+      stays : (x : ℕ) → find s.rooms (list_of m p) ≡ Some x → (removed m s k).rooms x ≡ true
       stays x e =
           let w : wish m s p ≡ Some x = rw e refl in
           let free : taken m s k x ≡ false = false_from_ne_true (taken m s k x) (λ t.
@@ -69,20 +69,21 @@ module _ (m : Market) where
           and_from (s.rooms x) (not (taken m s k x)) (find_passes s.rooms (list_of m p) x e)
           (not_from_false (taken m s k x) free)
 
-  pub first_stays : (s : Stage) (k : ℕ → Bool) → k (first m s) ≡ false → first m (leave m s k) ≡ first m s
-  unfolding first leave
+  pub first_stays : (s : Stage) (k : ℕ → Bool) → k (first m s) ≡ false → first m (removed m s k) ≡ first m s
+  unfolding first removed
   first_stays s k f =
       ap (λ o. unwrap_or o 0)
-      (first_keeps m.people s.people (leave m s k).people (λ y t. (and_parts (s.people y) (not (k y)) t).0) (λ x e.
+      (first_keeps m.people s.people (removed m s k).people (λ y t. (and_parts (s.people y) (not (k y)) t).0) (λ x e.
       let fx : k x ≡ false = subst (λ z. k z ≡ false) (ap (λ o. unwrap_or o 0) e) f in
       and_from (s.people x) (not (k x)) (first_passes m.people s.people x e).0 (not_from_false (k x) fx)))
 
-  holder_keeps : (s : Stage) (k : ℕ → Bool) (r : ℕ) → k (holder m s r) ≡ false → holder m (leave m s k) r ≡ holder m s r
-  unfolding holder leave
-  holder_keeps s k r f = by_tenant (tenant m r) f
+  points_to_keeps : (s : Stage) (k : ℕ → Bool) (r : ℕ) → k (points_to m s r) ≡ false
+      → points_to m (removed m s k) r ≡ points_to m s r
+  unfolding points_to removed
+  points_to_keeps s k r f = by_tenant (tenant_of m r) f
     where
       by_tenant : (o : Option ℕ) → k (tenant_or_first m s o) ≡ false
-          → tenant_or_first m (leave m s k) o ≡ tenant_or_first m s o
+          → tenant_or_first m (removed m s k) o ≡ tenant_or_first m s o
       by_tenant None f = first_stays s k f
       by_tenant (Some t) f =
           elim (cases_Bool (s.people t)) [
@@ -95,33 +96,33 @@ module _ (m : Market) where
           ]
 
   pub successor_keeps : (s : Stage) (k l : ℕ → Bool) → IsTrade m s k → IsTrade m s l → (p : ℕ) → l p ≡ true
-      → k p ≡ false → successor m (leave m s k) p ≡ successor m s p
+      → k p ≡ false → successor m (removed m s k) p ≡ successor m s p
   successor_keeps s k l tk tl p h f =
-      successor_at (leave m s k) p (wish m s p) (wish_keeps s k l tk tl p h f) ∙ by_wish (wish m s p) refl
+      successor_at (removed m s k) p (wish m s p) (wish_keeps s k l tk tl p h f) ∙ by_wish (wish m s p) refl
     where
-      by_wish : (o : Option ℕ) → wish m s p ≡ o → target m (leave m s k) p o ≡ successor m s p
+      by_wish : (o : Option ℕ) → wish m s p ≡ o → target m (removed m s k) p o ≡ successor m s p
       by_wish None e = sym (successor_at s p None e)
       by_wish (Some r) e =
-          let w : successor m s p ≡ holder m s r = successor_at s p (Some r) e in
-          let past : k (holder m s r) ≡ false = subst (λ z. k z ≡ false) w (points_past s k l tk tl p h f) in
-          holder_keeps s k r past ∙ sym w
+          let w : successor m s p ≡ points_to m s r = successor_at s p (Some r) e in
+          let past : k (points_to m s r) ≡ false = subst (λ z. k z ≡ false) w (points_past s k l tk tl p h f) in
+          points_to_keeps s k r past ∙ sym w
 
   pub trade_left_over : (s : Stage) (k l : ℕ → Bool) → IsTrade m s k → IsTrade m s l
-      → IsTrade m (leave m s k) (minus k l)
-  unfolding leave
+      → IsTrade m (removed m s k) (minus k l)
+  unfolding removed
   trade_left_over s k l tk tl = record {
     known = λ p h. tl.known p (parts p h).0;
     remain = λ p h. and_from (s.people p) (not (k p)) (tl.remain p (parts p h).0) (parts p h).1;
     closed = λ p h. subst (λ z. minus k l z ≡ true) (sym (same p h)) (stay p h);
-    cycle = λ p h. subst (λ z. Reach (successor m (leave m s k)) z p) (sym (same p h))
-        (reach_same (successor m s) (successor m (leave m s k)) (minus k l) stay same
+    cycle = λ p h. subst (λ z. Reach (successor m (removed m s k)) z p) (sym (same p h))
+        (reach_same (successor m s) (successor m (removed m s k)) (minus k l) stay same
         (tl.cycle p (parts p h).0) (stay p h));
   }
     where
       parts : (p : ℕ) → minus k l p ≡ true → (l p ≡ true) × (not (k p) ≡ true)
       parts p h = and_parts (l p) (not (k p)) h
 
-      same : (p : ℕ) → minus k l p ≡ true → successor m (leave m s k) p ≡ successor m s p
+      same : (p : ℕ) → minus k l p ≡ true → successor m (removed m s k) p ≡ successor m s p
       same p h = successor_keeps s k l tk tl p (parts p h).0 (not-true (k p) (parts p h).1)
 
       stay : (p : ℕ) → minus k l p ≡ true → minus k l (successor m s p) ≡ true

@@ -7,9 +7,9 @@ use Rattle.std.proofs.lemmas.Bool.{and_right, cases_Bool, cases_lt, and_parts, a
 use Rattle.std.proofs.lemmas.Bool.{cond-true, cond-false, not-true}
 use Rattle.std.specs.Fn.{iterate}
 use Rattle.trade_line.specs.Below.{some_below, first_below, count_below}
-use Rattle.trade_line.specs.Market.{Market, tenant}
-use Rattle.trade_line.specs.TopTradingCycles.{Stage, start, wish, first, tenant_or_first, holder, target, successor}
-use Rattle.trade_line.specs.TopTradingCycles.{remaining_count, is_on_cycle, leave, step, gets_within, gets}
+use Rattle.trade_line.specs.Market.{Market, tenant_of}
+use Rattle.trade_line.specs.TopTradingCycles.{Stage, start, wish, first, tenant_or_first, points_to, target, successor}
+use Rattle.trade_line.specs.TopTradingCycles.{remaining_count, is_on_cycle, removed, step, gets_within, gets}
 use Rattle.trade_line.specs.Cycles.{IsStageOf}
 use Rattle.trade_line.specs.Inner.Removal.{IsTrade, Leads}
 use Rattle.trade_line.specs.Inner.Removal.Leads.{done, trade}
@@ -25,9 +25,9 @@ module _ (m : Market) where
       let r : (y : ℕ) × (first_below m.people s.people ≡ Some y) = first_finds m.people s.people p (known p h) h in
       subst (λ z. s.people z ≡ true) (sym (ap (λ o. unwrap_or o 0) r.1)) (first_passes m.people s.people r.0 r.1).0
 
-  holder_remains : (s : Stage) → IsStageOf m s → (p r : ℕ) → s.people p ≡ true → s.people (holder m s r) ≡ true
-  unfolding holder
-  holder_remains s known p r h = by_tenant (tenant m r)
+  points_to_remains : (s : Stage) → IsStageOf m s → (p r : ℕ) → s.people p ≡ true → s.people (points_to m s r) ≡ true
+  unfolding points_to
+  points_to_remains s known p r h = by_tenant (tenant_of m r)
     where
       by_tenant : (o : Option ℕ) → s.people (tenant_or_first m s o) ≡ true
       by_tenant None = first_remains s known p h
@@ -43,7 +43,7 @@ module _ (m : Market) where
     where
       by_wish : (o : Option ℕ) → s.people (target m s p o) ≡ true
       by_wish None = h
-      by_wish (Some r) = holder_remains s known p r h
+      by_wish (Some r) = points_to_remains s known p r h
 
   pub cycles_trade : (s : Stage) → IsStageOf m s → IsTrade m s (is_on_cycle m s)
   unfolding is_on_cycle
@@ -103,19 +103,19 @@ module _ (m : Market) where
 
   pub leads_where_same : (f g : ℕ → Option ℕ) {s : Stage} → Leads m f s → ((p : ℕ) → s.people p ≡ true → f p ≡ g p)
       → Leads m g s
-  unfolding leave
+  unfolding removed
   leads_where_same f g (done none) e = done none
   leads_where_same f g {s} (trade k tk fk d) e =
       trade k tk (λ p h. sym (e p (tk.remain p h)) ∙ fk p h)
       (leads_where_same f g d (λ p h. e p (and_parts (s.people p) (not (k p)) h).0))
 
-  pub leave_known : (s : Stage) (k : ℕ → Bool) → IsStageOf m s → IsStageOf m (leave m s k)
-  unfolding leave
-  leave_known s k known p h = known p (and_parts (s.people p) (not (k p)) h).0
+  pub removed_known : (s : Stage) (k : ℕ → Bool) → IsStageOf m s → IsStageOf m (removed m s k)
+  unfolding removed
+  removed_known s k known p h = known p (and_parts (s.people p) (not (k p)) h).0
 
   pub step_fewer : (s : Stage) → IsStageOf m s → (k : ℕ) → remaining_count m s ≤ suc k
       → remaining_count m (step m s) ≤ k
-  unfolding leave
+  unfolding removed
   step_fewer s known k few =
       elim (cases_lt 0 (remaining_count m s)) [
         | inl some ↦
@@ -136,7 +136,7 @@ module _ (m : Market) where
       ]
 
   pub within_leads : (k : ℕ) (s : Stage) → IsStageOf m s → remaining_count m s ≤ k → Leads m (gets_within m k s) s
-  unfolding gets_within leave
+  unfolding gets_within removed
   within_leads zero s known few =
       done (λ p. false_from_ne_true (s.people p) (λ h.
       let l : count_below m.people (λ _. false) < count_below m.people s.people =
@@ -145,7 +145,7 @@ module _ (m : Market) where
   within_leads (suc k) s known few =
       let t : IsTrade m s (is_on_cycle m s) = cycles_trade s known in
       let d : Leads m (gets_within m k (step m s)) (step m s) =
-      within_leads k (step m s) (leave_known s (is_on_cycle m s) known) (step_fewer s known k few) in
+      within_leads k (step m s) (removed_known s (is_on_cycle m s) known) (step_fewer s known k few) in
       trade (is_on_cycle m s) t
       (λ p h. cond-true (is_on_cycle m s p) (wish m s p) (gets_within m k (step m s) p) h)
       (leads_where_same (gets_within m k (step m s)) (gets_within m (suc k) s) d

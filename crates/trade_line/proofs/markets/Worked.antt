@@ -5,8 +5,8 @@ use Rattle.trade_line.specs.Market.{Market, home}
 use Rattle.trade_line.specs.Rank.{rank}
 use Rattle.trade_line.specs.Assignment.{IsAssignment}
 use Rattle.trade_line.specs.Core.{IsInStrictCore}
-use Rattle.trade_line.specs.TopTradingCycles.{ttc, gets, gets_within, start, wish, first, holder, successor}
-use Rattle.trade_line.specs.TopTradingCycles.{is_on_cycle, taken, leave}
+use Rattle.trade_line.specs.TopTradingCycles.{ttc, gets, gets_within, start, wish, first, points_to, successor}
+use Rattle.trade_line.specs.TopTradingCycles.{is_on_cycle, taken, removed}
 
 -- a newcomer, the tenants of rooms 0 and 1, and the vacant room 2
 newcomer_asks_first : Market
@@ -19,7 +19,7 @@ newcomer_asks_first =
     }
 
 newcomer_asks_first_gives : ttc newcomer_asks_first ≡ Some 2 ∷ Some 1 ∷ Some 0 ∷ []
-unfolding newcomer_asks_first ttc gets gets_within start wish first holder successor is_on_cycle taken leave
+unfolding newcomer_asks_first ttc gets gets_within start wish first points_to successor is_on_cycle taken removed
 newcomer_asks_first_gives = refl
 
 -- one tenant, of room 0, who lists the vacant room 1
@@ -27,7 +27,7 @@ vacant_room_listed : Market
 vacant_room_listed = record { people = 1; rooms = 2; homes = Some 0 ∷ []; lists = (1 ∷ []) ∷ [] }
 
 vacant_room_listed_gives : ttc vacant_room_listed ≡ Some 1 ∷ []
-unfolding vacant_room_listed ttc gets gets_within start wish first holder successor is_on_cycle taken leave
+unfolding vacant_room_listed ttc gets gets_within start wish first points_to successor is_on_cycle taken removed
 vacant_room_listed_gives = refl
 
 -- staying is in the strict core too: if a room is vacant, the strict core may hold several assignments

@@ -11,9 +11,10 @@ use Rattle.std.specs.Fn.{iterate}
 use Rattle.std.proofs.Math.Bool.{and-true, or-false, and-false}
 use Rattle.trade_line.specs.Below.{first_below, some_below}
 use Rattle.trade_line.specs.Cycles.{IsStageOf}
-use Rattle.trade_line.specs.Market.{Market, is_room, tenant}
-use Rattle.trade_line.specs.TopTradingCycles.{Stage, start, wish, first, tenant_or_first, holder, target, successor}
-use Rattle.trade_line.specs.TopTradingCycles.{remaining_count, is_on_cycle, taken, leave, step, gets_within, gets, ttc}
+use Rattle.trade_line.specs.Market.{Market, is_room, tenant_of}
+use Rattle.trade_line.specs.TopTradingCycles.{Stage, start, wish, first, tenant_or_first, points_to, target, successor}
+use Rattle.trade_line.specs.TopTradingCycles.{remaining_count, is_on_cycle, taken, removed, step, gets_within}
+use Rattle.trade_line.specs.TopTradingCycles.{gets, ttc}
 use Rattle.trade_line.specs.Inner.Queue.{close}
 use Rattle.trade_line.specs.Inner.Plain.{remains, AreMarks, Gives, Stepping, Stepped, marked_stage}
 use Rattle.trade_line.specs.declared.plain.Remaining.{Remaining}
@@ -65,20 +66,20 @@ module _ (m : Market) where
   unfolding successor
   points_none s p e = sym (ap (target m s p) e)
 
-  pub points_tenant : (s : Stage) (p r t : ℕ) → wish m s p ≡ Some r → tenant m r ≡ Some t → s.people t ≡ true
+  pub points_tenant : (s : Stage) (p r t : ℕ) → wish m s p ≡ Some r → tenant_of m r ≡ Some t → s.people t ≡ true
       → t ≡ successor m s p
-  unfolding successor holder
+  unfolding successor points_to
   points_tenant s p r t e ht here =
       sym (ap (target m s p) e ∙ ap (tenant_or_first m s) ht ∙ cond-true (s.people t) t (first m s) here)
 
-  pub points_served : (s : Stage) (p r t : ℕ) → wish m s p ≡ Some r → tenant m r ≡ Some t → s.people t ≡ false
+  pub points_served : (s : Stage) (p r t : ℕ) → wish m s p ≡ Some r → tenant_of m r ≡ Some t → s.people t ≡ false
       → first m s ≡ successor m s p
-  unfolding successor holder
+  unfolding successor points_to
   points_served s p r t e ht gone =
       sym (ap (target m s p) e ∙ ap (tenant_or_first m s) ht ∙ cond-false (s.people t) t (first m s) gone)
 
-  pub points_vacant : (s : Stage) (p r : ℕ) → wish m s p ≡ Some r → tenant m r ≡ None → first m s ≡ successor m s p
-  unfolding successor holder
+  pub points_vacant : (s : Stage) (p r : ℕ) → wish m s p ≡ Some r → tenant_of m r ≡ None → first m s ≡ successor m s p
+  unfolding successor points_to
   points_vacant s p r e none = sym (ap (target m s p) e ∙ ap (tenant_or_first m s) none)
 
   pub cycle_gone : (s : Stage) (p : ℕ) → s.people p ≡ false → is_on_cycle m s p ≡ false
@@ -159,7 +160,7 @@ module _ (m : Market) (s : Stage) (old : List (Option ℕ)) where
 
   pub stepping_end : (given : List (Option ℕ)) (people rooms : List Bool) → Stepping m s old given people rooms m.people
       → marked_stage people rooms ≡ step m s
-  unfolding leave taken
+  unfolding removed taken
   stepping_end given people rooms t = same_stage (marked_stage people rooms) (step m s) by_people t.rooms_left
     where
       by_people : (p : ℕ) → get_or people p false ≡ (s.people p && not (is_on_cycle m s p))
@@ -197,7 +198,7 @@ module _ (m : Market) where
 
   pub stepped_more : (s : Stage) (given new : List (Option ℕ)) (k : ℕ) → Stepped m s given (suc k) → Gives m s given new
       → Stepped m (step m s) new k
-  unfolding gets_within leave
+  unfolding gets_within removed
   stepped_more s given new k t gives = record {
     gone = λ p l h. elim (cases_Bool (s.people p)) [
       | inl here ↦ elim (cases_Bool (is_on_cycle m s p)) [

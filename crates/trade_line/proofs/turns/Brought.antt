@@ -7,7 +7,7 @@ use Rattle.std.proofs.Common.{get_or-set_same, get_or-set_other, length-set, pre
 use Rattle.std.proofs.lemmas.Bool.{cases_Bool, and_parts, and_from, and_right, or_cases, false_from_ne_true, both_ways}
 use Rattle.std.proofs.lemmas.Bool.{not-true, not_from_false}
 use Rattle.trade_line.specs.Below.{count_below}
-use Rattle.trade_line.specs.Market.{Market, home, tenant, is_tenant}
+use Rattle.trade_line.specs.Market.{Market, home, tenant_of, is_tenant}
 use Rattle.trade_line.specs.TopTradingCycles.{wish}
 use Rattle.trade_line.specs.Inner.Removal.{Leads}
 use Rattle.trade_line.specs.Member.{among}
@@ -30,7 +30,7 @@ module _ (m : Market) where
 
   -- the tenant of the room comes to the front
   pub bring_onward : (s : State) (a room t : ℕ) → Asks m a s → wish m (stage_at s) a ≡ Some room
-      → tenant m room ≡ Some t → among s.line t ≡ true → has_asked s t ≡ false → Onward m s (brought s t)
+      → tenant_of m room ≡ Some t → among s.line t ≡ true → has_asked s t ≡ false → Onward m s (brought s t)
   bring_onward s a room t ask w e i new = record {
     consistent = record {
       fits = record {

@@ -5,11 +5,11 @@ use Rattle.std.proofs.Common.{eqb-true, eq-eqb, ne_eqb, get_or-set_same, get_or-
 use Rattle.std.proofs.lemmas.List.{get_or-drop, get_or_past, set_past}
 use Rattle.std.proofs.lemmas.Bool.{cases_Bool, cases_eq, cases_lt, both_ways, or_cases, or_left, or_right, or_parts}
 use Rattle.std.proofs.lemmas.Bool.{and_parts, false_from_ne_true, not-true}
-use Rattle.trade_line.specs.Market.{Market, IsMarket, home, list_of, tenant}
+use Rattle.trade_line.specs.Market.{Market, IsMarket, home, list_of, tenant_of}
 use Rattle.trade_line.specs.Member.{among, Once}
 use Rattle.trade_line.specs.Rank.{rank}
 use Rattle.trade_line.specs.Line.{front_of, tail_of, without}
-use Rattle.trade_line.specs.TopTradingCycles.{Stage, wish, leave}
+use Rattle.trade_line.specs.TopTradingCycles.{Stage, wish, removed}
 use Rattle.trade_line.specs.Inner.Queue.{close, WaitsBehind}
 use Rattle.trade_line.specs.Inner.State.{State, stage_at, has_asked, given_to}
 use Rattle.trade_line.specs.Inner.Turn.{IsConsistent, Asks}
@@ -43,9 +43,9 @@ close_gone remaining (Some x) r h =
         ]
 
 module _ (m : Market) where
-  leave_gone : (s : Stage) (k : ℕ → Bool) (r : ℕ) → s.rooms r ≡ false → (leave m s k).rooms r ≡ false
-  unfolding leave
-  leave_gone s k r h = rw h refl
+  removed_gone : (s : Stage) (k : ℕ → Bool) (r : ℕ) → s.rooms r ≡ false → (removed m s k).rooms r ≡ false
+  unfolding removed
+  removed_gone s k r h = rw h refl
 
   -- a person whose cursor is at an entry stays at its room
   pub stays_at : IsMarket m → (c : List ℕ) (p i x : ℕ) → p < m.people → i < length (list_of m p)
@@ -181,7 +181,7 @@ module _ (m : Market) where
           ])
 
   -- the tenant comes to the front
-  pub brought_cursors : (s : State) (a room t : ℕ) (c : List ℕ) → Asks m a s → tenant m room ≡ Some t
+  pub brought_cursors : (s : State) (a room t : ℕ) (c : List ℕ) → Asks m a s → tenant_of m room ≡ Some t
       → among s.line t ≡ true → has_asked s t ≡ false → AreCursors m s c → StaysAt m c a (Some room)
       → AreCursors m (brought s t) c
   brought_cursors s a room t c ask e i new tr enough = record {
@@ -247,7 +247,7 @@ module _ (m : Market) where
       cursors_len = tr.cursors_len;
       within = tr.within;
       gone = λ p k l lk. ap (λ (z : Stage). z.rooms (get_or (list_of m p) k 0)) cl.stage
-          ∙ leave_gone (stage_at s) (among ring) (get_or (list_of m p) k 0) (tr.gone p k l lk);
+          ∙ removed_gone (stage_at s) (among ring) (get_or (list_of m p) k 0) (tr.gone p k l lk);
       waiting =
           subst (λ z. StayInLine m z c u.line) (sym cl.asked_kept)
           (behind_back s.asked c cl.ring.person cl.ring.others u.line ring_stays_behind);
@@ -335,7 +335,7 @@ module _ (m : Market) where
     ];
   }
 
-  pub brought_keeps : (a room t : ℕ) (s v : State) → Asks m a s → tenant m room ≡ Some t
+  pub brought_keeps : (a room t : ℕ) (s v : State) → Asks m a s → tenant_of m room ≡ Some t
       → among s.line t ≡ true → get_or s.asked t false ≡ false → v.line ≡ t ∷ without t s.line
       → v.asked ≡ set s.asked t true → v.remaining ≡ s.remaining → v.given ≡ s.given
       → KeepsCursors m a room s v

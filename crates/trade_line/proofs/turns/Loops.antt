@@ -6,8 +6,8 @@ use Rattle.std.proofs.Common.{Option, Some, None, get_or, set, refl, sym, ap, ap
 use Rattle.std.proofs.Common.{eqb-true, eq-eqb, append_assoc, get_or-set_same, get_or-set_other, length-append}
 use Rattle.std.proofs.lemmas.Bool.{cases_eq, or_cases, or_parts, false_from_ne_true, both_ways}
 use Rattle.trade_line.specs.Below.{count_below}
-use Rattle.trade_line.specs.Market.{Market, home, tenant, is_tenant}
-use Rattle.trade_line.specs.TopTradingCycles.{wish, successor, taken, leave}
+use Rattle.trade_line.specs.Market.{Market, home, tenant_of, is_tenant}
+use Rattle.trade_line.specs.TopTradingCycles.{wish, successor, taken, removed}
 use Rattle.trade_line.specs.Inner.Removal.{IsTrade, Leads}
 use Rattle.trade_line.specs.Member.{among, Once}
 use Rattle.trade_line.specs.Inner.Queue.{last_of, WaitsBehind, Waits, LastIsLeast, stage_of, close}
@@ -18,9 +18,9 @@ use Rattle.trade_line.specs.Inner.Loop.{Ring, Closing, Closed}
 use Rattle.trade_line.specs.Inner.Removal.Leads.{trade}
 use Rattle.trade_line.proofs.searches.Search.{clash}
 use Rattle.trade_line.proofs.cycles.Exchange.{successor_at, taken_gives}
-use Rattle.trade_line.proofs.cycles.Chain.{among_last, home_holder, ring_trade, waits_behind}
+use Rattle.trade_line.proofs.cycles.Chain.{among_last, home_points_to, ring_trade, waits_behind}
 use Rattle.trade_line.proofs.askers.Lines.{among_self, among_more, among-append, among_left, among_right, among_cases}
-use Rattle.trade_line.proofs.askers.Lines.{once_right, once_apart, last_push, leave_none, front_leaves, waits_on}
+use Rattle.trade_line.proofs.askers.Lines.{once_right, once_apart, last_push, removed_none, front_leaves, waits_on}
 use Rattle.trade_line.proofs.askers.Lines.{waits_front, waits_back, waits_pair, wish_known}
 use Rattle.trade_line.proofs.turns.Marks.{granted, granted_fits, tenant_home}
 
@@ -69,7 +69,7 @@ module _ (m : Market) where
     ring_split = refl;
     line_split = ring_line t room s ring;
     next_is = sym ring.first_wish;
-    stage = leave_none m (stage_at s);
+    stage = removed_none m (stage_at s);
     given_past = λ p h. absurd (both_ways false refl h);
     given_kept = λ p h. refl;
     asked_kept = refl;
@@ -120,9 +120,9 @@ module _ (m : Market) where
     tail_is : tail_of t.line ≡ c.others ++ (c.ring.after ++ c.ring.asks.fresh)
     tail_is = ap tail_of c.line_split
 
-    stage_after : stage_at (granted t c.here next) ≡ leave m (stage_at s) (among (c.past ++ c.here ∷ []))
+    stage_after : stage_at (granted t c.here next) ≡ removed m (stage_at s) (among (c.past ++ c.here ∷ []))
     stage_after =
-        subst (λ z. stage_of z (close t.remaining next) ≡ leave m (stage_at s) (among (c.past ++ c.here ∷ [])))
+        subst (λ z. stage_of z (close t.remaining next) ≡ removed m (stage_at s) (among (c.past ++ c.here ∷ [])))
         (sym tail_is)
         (front_leaves m (stage_at s) c.past c.here (c.others ++ (c.ring.after ++ c.ring.asks.fresh)) t.remaining next
         (ap (λ z. stage_of z t.remaining) (sym c.line_split) ∙ c.stage) here_once here_known (sym c.next_is) next_known)
@@ -189,7 +189,7 @@ module _ (m : Market) where
         record {
           ring = c.ring;
           line_is = tail_is ∙ ap (λ z. z ++ (c.ring.after ++ c.ring.asks.fresh)) e;
-          stage = stage_after ∙ ap (λ z. leave m (stage_at s) (among z)) (sym split);
+          stage = stage_after ∙ ap (λ z. removed m (stage_at s) (among z)) (sym split);
           given_ring = λ p h. given_in p (subst (λ z. among z p ≡ true) split h);
           given_kept = λ p h. given_out p (subst (λ z. among z p ≡ false) split h);
           asked_kept = c.asked_kept;
@@ -210,7 +210,7 @@ module _ (m : Market) where
         subst (λ p. Closed m tenant room s (granted t p next)) z (all_at c.others refl (z ∙ eq))
 
   -- the whole loop has left
-  pub closed_onward : (t room : ℕ) (s u : State) → tenant m room ≡ Some t → Closed m t room s u → Onward m s u
+  pub closed_onward : (t room : ℕ) (s u : State) → tenant_of m room ≡ Some t → Closed m t room s u → Onward m s u
   closed_onward t room s u te c = record {
     consistent = record {
       fits = c.fits;
@@ -289,7 +289,8 @@ module _ (m : Market) where
       points : successor m (stage_at s) r.person ≡ last_of r.person r.others
       points =
           successor_at m (stage_at s) r.person (Some room) r.first_wish
-          ∙ home_holder m c.fits.market (stage_at s) t room (tenant_home m room t te).0 (tenant_home m room t te).1 t_in
+          ∙ home_points_to m c.fits.market (stage_at s) t room (tenant_home m room t te).0
+          (tenant_home m room t te).1 t_in
           ∙ sym r.ends
 
       ring_is : IsTrade m (stage_at s) (among ring)
@@ -308,12 +309,12 @@ module _ (m : Market) where
           let q_in : among s.line q ≡ true =
           subst (λ z. among z q ≡ true) (sym line) (among_right ring u.line q (after_in q i)) in
           let to : successor m (stage_at s) g.0 ≡ q = successor_at m (stage_at s) g.0 (Some h) g.3
-          ∙ home_holder m c.fits.market (stage_at s) q h (r.asks.known q q_in) e q_in in
+          ∙ home_points_to m c.fits.market (stage_at s) q h (r.asks.known q q_in) e q_in in
           both_ways (among u.line q)
           (once_apart ring u.line (subst Once line r.asks.once) q
           (subst (λ z. among ring z ≡ true) to (ring_is.closed g.0 g.2))) (after_in q i))
 
-      after_waits : (xs : List ℕ) → r.after ≡ xs → Waits m (leave m (stage_at s) (among ring)) xs
+      after_waits : (xs : List ℕ) → r.after ≡ xs → Waits m (removed m (stage_at s) (among ring)) xs
       after_waits [] e = tt
       after_waits (b ∷ ys) e =
           waits_on m (stage_at s) (among ring) b ys (λ q h i. free q h (subst (λ z. among z q ≡ true) (sym e) i))

@@ -5,7 +5,7 @@ use Rattle.std.proofs.Common.{get_or-set_same, get_or-set_other, length-set}
 use Rattle.std.proofs.lemmas.Bool.{cases_eq, and_parts, and_from, false_from_ne_true, both_ways}
 use Rattle.std.proofs.lemmas.Bool.{not-true, not_from_false}
 use Rattle.trade_line.specs.Below.{count_below}
-use Rattle.trade_line.specs.Market.{Market, home, is_room, tenant, is_tenant}
+use Rattle.trade_line.specs.Market.{Market, home, is_room, tenant_of, is_tenant}
 use Rattle.trade_line.specs.Inner.Queue.{close}
 use Rattle.trade_line.specs.Line.{tail_of, without}
 use Rattle.trade_line.specs.Inner.State.{State, has_asked, IsSizedFor}
@@ -28,7 +28,7 @@ abbrev pub brought : State → ℕ → State
 brought s t =
     record { line = t ∷ without t s.line; asked = set s.asked t true; remaining = s.remaining; given = s.given }
 
-pub tenant_home : (m : Market) (r t : ℕ) → tenant m r ≡ Some t → (t < m.people) × (home m t ≡ Some r)
+pub tenant_home : (m : Market) (r t : ℕ) → tenant_of m r ≡ Some t → (t < m.people) × (home m t ≡ Some r)
 tenant_home m r t e =
     let u : (is_room r (home m t) ≡ true) × (t < m.people) = first_passes m.people (λ p. is_room r (home m p)) t e in
     (u.1, is_room_gives r (home m t) u.0)

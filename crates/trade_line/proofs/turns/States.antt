@@ -2,7 +2,7 @@
 use Rattle.std.proofs.Common.{◌≡◌, ℕ, zero, suc, ◌<◌, Bool, true, false, List, [], ◌∷◌, ◌++◌, length, Option, Some}
 use Rattle.std.proofs.Common.{None, find, get_or, set, refl, sym, ap, ◌∙◌, subst, arith, IfSome}
 use Rattle.trade_line.specs.Below.{or_else}
-use Rattle.trade_line.specs.Market.{Market, home, list_of, tenant}
+use Rattle.trade_line.specs.Market.{Market, home, list_of, tenant_of}
 use Rattle.trade_line.specs.TopTradingCycles.{Stage, wish}
 use Rattle.trade_line.specs.Member.{among}
 use Rattle.trade_line.specs.Line.{front_of, tail_of, without}
@@ -73,7 +73,8 @@ module _ (m : Market) where
       ring_at m s a room t k w i (read_same s.asked t false true (omega (arith, k.fits.asked_len)) ∙ h)
 
   pub brought_onward : (a room t : ℕ) (s v : State) → Asks m a s → wish m (stage_at s) a ≡ Some room
-      → tenant m room ≡ Some t → among s.line t ≡ true → get_or s.asked t false ≡ false → v.line ≡ t ∷ without t s.line
+      → tenant_of m room ≡ Some t → among s.line t ≡ true → get_or s.asked t false ≡ false
+      → v.line ≡ t ∷ without t s.line
       → v.asked ≡ set s.asked t true → v.remaining ≡ s.remaining → v.given ≡ s.given → Onward m s v
   brought_onward a room t s v k w e i h x y z u =
       subst (λ q. Onward m s q) (sym (same_state v (brought s t) x y z u)) (bring_onward m s a room t k w e i h)
@@ -109,13 +110,13 @@ module _ (m : Market) where
       (sym (same_state v (granted s a (home m a)) x y (z ∙ ap (close s.remaining) eo) (u ∙ ap (set s.given a) eo)))
       (floor_onward m s a k (wish_found (stage_at s) a None e))
 
-  pub vacant_by_served : (s : Stage) (room t : ℕ) → tenant m room ≡ Some t → s.people t ≡ false → IsVacant m s room
+  pub vacant_by_served : (s : Stage) (room t : ℕ) → tenant_of m room ≡ Some t → s.people t ≡ false → IsVacant m s room
   vacant_by_served s room t e n u f =
       let z : Some t ≡ Some u = sym e ∙ f in
       let zz : t ≡ u = cc in
       subst (λ y. s.people y ≡ false) zz n
 
-  pub vacant_by_none : (s : Stage) (room : ℕ) → tenant m room ≡ None → IsVacant m s room
+  pub vacant_by_none : (s : Stage) (room : ℕ) → tenant_of m room ≡ None → IsVacant m s room
   vacant_by_none s room e u f = let z : None ≡ Some u = sym e ∙ f in absurd (cc)
 
 -- an element that was read, with another default

@@ -9,8 +9,8 @@ use Rattle.std.specs.Option.{unwrap_or}
 use Rattle.std.proofs.lemmas.Bool.{or_cases, or_parts, false_from_ne_true, both_ways}
 use Rattle.std.proofs.lemmas.Bool.{cond-true}
 use Rattle.trade_line.specs.Below.{first_below}
-use Rattle.trade_line.specs.Market.{Market, home, tenant}
-use Rattle.trade_line.specs.TopTradingCycles.{Stage, wish, first, successor, taken, leave}
+use Rattle.trade_line.specs.Market.{Market, home, tenant_of}
+use Rattle.trade_line.specs.TopTradingCycles.{Stage, wish, first, successor, taken, removed}
 use Rattle.trade_line.specs.Inner.Removal.{IsTrade, Leads}
 use Rattle.trade_line.specs.Member.{among, Once}
 use Rattle.trade_line.specs.Inner.Queue.{AscendsFrom, Ascends, last_of, WaitsBehind, Waits, LastIsLeast, stage_of}
@@ -22,9 +22,10 @@ use Rattle.trade_line.specs.Inner.Removal.Leads.{trade}
 use Rattle.trade_line.proofs.searches.Search.{first_passes, first_finds, first_is_least}
 use Rattle.trade_line.proofs.counts.Count.{bit_le}
 use Rattle.trade_line.proofs.cycles.Exchange.{successor_at, taken_gives}
-use Rattle.trade_line.proofs.cycles.Chain.{among_last, tenant_at, home_holder, only, ring_trade, IsVacant, head_first}
+use Rattle.trade_line.proofs.cycles.Chain.{among_last, tenant_at, home_points_to, only, ring_trade}
+use Rattle.trade_line.proofs.cycles.Chain.{IsVacant, head_first}
 use Rattle.trade_line.proofs.askers.Lines.{among_self, among_more, among_left, among_right, above_ascends, ascends_tail}
-use Rattle.trade_line.proofs.askers.Lines.{leave_none, front_leaves, waits_on, wish_known}
+use Rattle.trade_line.proofs.askers.Lines.{removed_none, front_leaves, waits_on, wish_known}
 use Rattle.trade_line.proofs.turns.Marks.{granted, marked, granted_fits, marked_fits, marked_stays}
 use Rattle.trade_line.proofs.turns.Marks.{marked_pending}
 
@@ -181,11 +182,12 @@ module _ (m : Market) where
     room_known x e = let l : x < m.rooms = wish_known m ask.fits.market (stage_at s) a x a_known (w ∙ e) in
         omega (arith, ask.fits.remaining_len)
 
-    pub front_stage : stage_at (granted s a o) ≡ leave m (stage_at s) (among (a ∷ []))
+    pub front_stage : stage_at (granted s a o) ≡ removed m (stage_at s) (among (a ∷ []))
     front_stage =
-        subst (λ z. stage_of (tail_of z) (close s.remaining o) ≡ leave m (stage_at s) (among (a ∷ []))) (sym ask.split)
+        subst (λ z. stage_of (tail_of z) (close s.remaining o) ≡ removed m (stage_at s) (among (a ∷ [])))
+        (sym ask.split)
         (front_leaves m (stage_at s) [] a (ask.behind ++ ask.fresh) s.remaining o
-        (ap (λ z. stage_of z s.remaining) (sym ask.split) ∙ leave_none m (stage_at s)) a_once a_known w room_known)
+        (ap (λ z. stage_of z s.remaining) (sym ask.split) ∙ removed_none m (stage_at s)) a_once a_known w room_known)
 
     line_after : tail_of s.line ≡ ask.behind ++ ask.fresh
     line_after = ap tail_of ask.split
@@ -215,7 +217,7 @@ module _ (m : Market) where
       where
         behind_waits : (xs : List ℕ) → WaitsBehind m (stage_at s) a xs
             → ((q h : ℕ) → among xs q ≡ true → home m q ≡ Some h → taken m (stage_at s) (among (a ∷ [])) h ≡ false)
-            → Waits m (leave m (stage_at s) (among (a ∷ []))) xs
+            → Waits m (removed m (stage_at s) (among (a ∷ []))) xs
         behind_waits [] ws free = tt
         behind_waits (b ∷ r) ws free = waits_on m (stage_at s) (among (a ∷ [])) b r free ws.1
 
@@ -292,7 +294,7 @@ module _ (m : Market) where
 
       points : (o : Option ℕ) → home m a ≡ o → successor m (stage_at s) a ≡ a
       points None e = successor_at m (stage_at s) a None (w ∙ e)
-      points (Some h) e = successor_at m (stage_at s) a (Some h) (w ∙ e) ∙ home_holder m ask.fits.market
+      points (Some h) e = successor_at m (stage_at s) a (Some h) (w ∙ e) ∙ home_points_to m ask.fits.market
           (stage_at s) a h (ask.known a in_line) e in_line
 
       one : (p : ℕ) → among (a ∷ []) p ≡ true → among s.line p ≡ true
@@ -313,7 +315,7 @@ module _ (m : Market) where
       leads = head_first m ask.fits.market (stage_at s) a ask.behind v f (λ p h. ask.known p (chain p h)) chain apart
           ask.waits is_first w none
           (front_given s a ask (Some v) w f st ∙ sym w)
-          (subst (λ z. Leads m f z) (front_stage s a ask (Some v) w ∙ ap (leave m (stage_at s)) one) st.leads);
+          (subst (λ z. Leads m f z) (front_stage s a ask (Some v) w ∙ ap (removed m (stage_at s)) one) st.leads);
     };
   }
     where
@@ -337,7 +339,7 @@ module _ (m : Market) where
           let vh : v ≡ h = cc in
           let q_in : among s.line q ≡ true = chain q (among_more a ask.behind q i) in
           both_ways (among s.line q)
-          (none q (subst (λ x. tenant m x ≡ Some q) (sym vh)
+          (none q (subst (λ x. tenant_of m x ≡ Some q) (sym vh)
           (tenant_at m ask.fits.market q h (ask.known q q_in) e))) q_in)
 
       is_first : first m (stage_at s) ≡ last_of a ask.behind

@@ -1,5 +1,5 @@
--- The strict core gives each self-contained group of tenants what the trades give it; if no room is vacant,
--- it is that assignment.
+-- The strict core gives each self-contained group of tenants what the trades give it; if no room is vacant, it is that
+-- assignment.
 use Rattle.std.proofs.Common.{rules, ◌≡◌, ℕ, ◌<◌, ◌≤◌, ◌+◌, ◌⊎◌, Bool, true, false, not, ◌&&◌, ◌||◌, ◌==◌, Option, Some}
 use Rattle.std.proofs.Common.{None, is_some, is_none, length, find, refl, sym, ap, ◌∙◌, subst, inl, inr, arith}
 use Rattle.std.proofs.Common.{eqb-true, eq-eqb, le_refl, ltb, ltb-true, lt-ltb}
@@ -8,7 +8,7 @@ use Rattle.std.proofs.lemmas.Bool.{false_from_ne_true, both_ways, cond-true, con
 use Rattle.trade_line.specs.Below.{or_else}
 use Rattle.trade_line.specs.Cycles.{IsStageOf}
 use Rattle.trade_line.specs.Market.{Market, IsMarket, home, list_of, is_room, is_tenant}
-use Rattle.trade_line.specs.TopTradingCycles.{Stage, start, wish, successor, taken, leave, gets}
+use Rattle.trade_line.specs.TopTradingCycles.{Stage, start, wish, successor, taken, removed, gets}
 use Rattle.trade_line.specs.Inner.Removal.{IsTrade, Leads}
 use Rattle.trade_line.specs.Inner.Removal.Leads.{done, trade}
 use Rattle.trade_line.specs.Member.{among}
@@ -20,8 +20,8 @@ use Rattle.trade_line.specs.Core.{KeepsSelfContained, IsStrictCoreByTradesApart}
 use Rattle.trade_line.proofs.searches.Search.{clash, find_passes, is_room_gives, is_room_from}
 use Rattle.trade_line.proofs.cycles.Exchange.{successor_at, taken_gives}
 use Rattle.trade_line.proofs.cycles.Unique.{taken_from}
-use Rattle.trade_line.proofs.cycles.Chain.{home_holder}
-use Rattle.trade_line.proofs.cycles.Steps.{leave_known, start_known, gets_leads}
+use Rattle.trade_line.proofs.cycles.Chain.{home_points_to}
+use Rattle.trade_line.proofs.cycles.Steps.{removed_known, start_known, gets_leads}
 use Rattle.trade_line.proofs.welfare.Ranks.{wish_is_best, not_among, rank_unlisted, rank_home}
 use Rattle.trade_line.proofs.welfare.Welfare.{HomesThere, homes_stay, start_homes, start_has_person, reach_before}
 use Rattle.trade_line.proofs.welfare.Welfare.{wish_there, gets_rational, gets_assignment, gets_apart}
@@ -112,7 +112,7 @@ module _ (m : Market) (ok : IsMarket m) where
           let w : wish m s p ≡ Some h.0 = sym (gk p y) ∙ q.2 ∙ h.1 in
           let stays : s.people q.0 ≡ true = held q.0 h.0 q.1 h.1 (wish_there m ok s homes p h.0 (tk.remain p y) w) in
           let to : successor m s p ≡ q.0 =
-          successor_at m s p (Some h.0) w ∙ home_holder m ok s q.0 h.0 (tr.people q.0 q.1) h.1 stays in
+          successor_at m s p (Some h.0) w ∙ home_points_to m ok s q.0 h.0 (tr.people q.0 q.1) h.1 stays in
           (subst (λ z. group z ≡ true) (sym to) q.1, w ∙ sym h.1 ∙ ap (home m) (sym to))
 
       parts : (p : ℕ) → traders p ≡ true → (k p ≡ true) × (group p ≡ true)
@@ -148,8 +148,8 @@ module _ (m : Market) (ok : IsMarket m) where
               let b : (k z.0 ≡ true) × (group z.0 ≡ true) = parts z.0 z.1 in
               (z.0, b.0, b.1, (to_own z.0 b.0 b.1).1 ∙ ap (home m) z.2)
 
-      held_after : HomesHeld (leave m s k)
-      unfolding leave
+      held_after : HomesHeld (removed m s k)
+      unfolding removed
       held_after t h gt e there =
           let b : (s.rooms h ≡ true) × (not (taken m s k h) ≡ true) =
           and_parts (s.rooms h) (not (taken m s k h)) there in
@@ -162,7 +162,7 @@ module _ (m : Market) (ok : IsMarket m) where
     -- each home of the group goes to a member
     given_out : {s : Stage} → Leads m g s → IsStageOf m s → HomesThere m ok s → HomesHeld s → (t : ℕ) → group t ≡ true
         → s.people t ≡ true → (z : ℕ) × (group z ≡ true) × (g z ≡ home m t)
-    unfolding leave
+    unfolding removed
     given_out {s} (done none) known homes held t gt h = clash (s.people t) h (none t)
     given_out {s} (trade k tk gk d) known homes held t gt h =
         elim (cases_Bool (k t)) [
@@ -170,7 +170,7 @@ module _ (m : Market) (ok : IsMarket m) where
               let z : (z : ℕ) × (k z ≡ true) × (group z ≡ true) × (wish m s z ≡ home m t) =
               pointer s k tk gk homes held t y gt in
               (z.0, z.2, gk z.0 z.1 ∙ z.3)
-          | inr n ↦ given_out d (leave_known m s k known) (homes_stay m ok s k tk known homes)
+          | inr n ↦ given_out d (removed_known m s k known) (homes_stay m ok s k tk known homes)
               (held_after s k tk gk homes held) t gt (and_from (s.people t) (not (k t)) h (not_from_false (k t) n))
         ]
 
@@ -198,8 +198,8 @@ module _ (m : Market) (ok : IsMarket m) where
             (λ q h. let b : (k q ≡ true) × (group q ≡ true) = parts s k tk gk homes held q h in no_loss q b.0 b.1)
             p (and_from (k p) (group p) y gp))
 
-        there_after : IsThere (leave m s k)
-        unfolding leave
+        there_after : IsThere (removed m s k)
+        unfolding removed
         there_after p gp h =
             let b : (s.people p ≡ true) × (not (k p) ≡ true) = and_parts (s.people p) (not (k p)) h in
             elim (can p gp b.0) [
@@ -221,7 +221,7 @@ module _ (m : Market) (ok : IsMarket m) where
                 above p r gp (subst (λ z. rank m p z < rank m p (g p)) e lt) in
                 let stays : s.people t.0 ≡ true = held t.0 r t.1 t.2 c in
                 let to : successor m s q.0 ≡ t.0 =
-                successor_at m s q.0 (Some r) q.3 ∙ home_holder m ok s t.0 r (tr.people t.0 t.1) t.2 stays in
+                successor_at m s q.0 (Some r) q.3 ∙ home_points_to m ok s t.0 r (tr.people t.0 t.1) t.2 stays in
                 let z : (z : ℕ) × (k z ≡ true) × (group z ≡ true) × (wish m s z ≡ home m t.0) =
                 pointer s k tk gk homes held t.0 (subst (λ z. k z ≡ true) to (tk.closed q.0 q.2)) t.1 in
                 let same : p ≡ z.0 =
@@ -230,12 +230,12 @@ module _ (m : Market) (ok : IsMarket m) where
 
       group_from : {s : Stage} → Leads m g s → IsStageOf m s → HomesThere m ok s → HomesHeld s → IsThere s → (p : ℕ)
           → group p ≡ true → s.people p ≡ true → f p ≡ g p
-      unfolding leave
+      unfolding removed
       group_from {s} (done none) known homes held can p gp h = clash (s.people p) h (none p)
       group_from {s} (trade k tk gk d) known homes held can p gp h =
           elim (cases_Bool (k p)) [
             | inl y ↦ at_k s k tk gk known homes held can p y gp ∙ sym (gk p y)
-            | inr n ↦ group_from d (leave_known m s k known) (homes_stay m ok s k tk known homes)
+            | inr n ↦ group_from d (removed_known m s k known) (homes_stay m ok s k tk known homes)
                 (held_after s k tk gk homes held)
                 (there_after s k tk gk known homes held can) p gp
                 (and_from (s.people p) (not (k p)) h (not_from_false (k p) n))

@@ -10,9 +10,9 @@ use Rattle.std.proofs.lemmas.List.FromFn.{get_or-map-range_with_len, length-map-
 use Rattle.std.specs.Cmp.Derive.{one_truth}
 use Rattle.trade_line.specs.Below.{or_else}
 use Rattle.trade_line.specs.Cycles.{IsStageOf}
-use Rattle.trade_line.specs.Market.{Market, IsMarket, home, list_of, is_room, tenant}
-use Rattle.trade_line.specs.TopTradingCycles.{Stage, start, wish, first, tenant_or_first, holder, target, successor}
-use Rattle.trade_line.specs.TopTradingCycles.{taken, leave, gets}
+use Rattle.trade_line.specs.Market.{Market, IsMarket, home, list_of, is_room, tenant_of}
+use Rattle.trade_line.specs.TopTradingCycles.{Stage, start, wish, first, tenant_or_first, points_to, target, successor}
+use Rattle.trade_line.specs.TopTradingCycles.{taken, removed, gets}
 use Rattle.trade_line.specs.Inner.Removal.{Reach, IsTrade, Leads}
 use Rattle.trade_line.specs.Inner.Removal.Leads.{done, trade}
 use Rattle.trade_line.specs.Rank.{rank}
@@ -21,7 +21,7 @@ use Rattle.trade_line.specs.Groups.{OthersKeep, NoneLoses, IsGroupStrategyproof,
 use Rattle.trade_line.proofs.searches.Search.{clash, find_passes, is_room_gives, is_room_from}
 use Rattle.trade_line.proofs.cycles.Exchange.{reach_same, taken_gives}
 use Rattle.trade_line.proofs.cycles.Unique.{same_stage, taken_from, trade_removed}
-use Rattle.trade_line.proofs.cycles.Steps.{leave_known, start_known, gets_leads}
+use Rattle.trade_line.proofs.cycles.Steps.{removed_known, start_known, gets_leads}
 use Rattle.trade_line.proofs.welfare.Ranks.{wish_is_best}
 use Rattle.trade_line.proofs.welfare.Welfare.{HomesThere, homes_stay, there_from, start_homes, start_has_person}
 use Rattle.trade_line.proofs.welfare.Welfare.{gets_assignment}
@@ -45,9 +45,9 @@ aim_short h (Some x) = elim (cases_Bool (is_room x h)) [ inl t ↦ rw t (omega a
 
 module _ (m : Market) (lists : List (List ℕ)) where
   target_same : (s : Stage) (q : ℕ) (o : Option ℕ) → target (with_lists m lists) s q o ≡ target m s q o
-  unfolding holder first
+  unfolding points_to first
   target_same s q None = refl
-  target_same s q (Some r) = by_tenant (tenant m r)
+  target_same s q (Some r) = by_tenant (tenant_of m r)
     where
       by_tenant : (o : Option ℕ) → tenant_or_first (with_lists m lists) s o ≡ tenant_or_first m s o
       by_tenant None = refl
@@ -93,10 +93,10 @@ module _ (m : Market) (lists : List (List ℕ)) where
           (tk.closed q h));
     }
 
-    leave_same : leave (with_lists m lists) s k ≡ leave m s k
-    unfolding leave
-    leave_same =
-        same_stage (leave (with_lists m lists) s k) (leave m s k) (λ q. refl)
+    removed_same : removed (with_lists m lists) s k ≡ removed m s k
+    unfolding removed
+    removed_same =
+        same_stage (removed (with_lists m lists) s k) (removed m s k) (λ q. refl)
         (λ r. ap (λ b. s.rooms r && not b) (one_truth (taken (with_lists m lists) s k r) (taken m s k r)
         (λ h. let g : (q : ℕ) × (q < m.people) × (k q ≡ true) × (wish (with_lists m lists) s q ≡ Some r) =
         taken_gives (with_lists m lists) s k r h in
@@ -117,7 +117,7 @@ module _ (m : Market) (lists : List (List ℕ)) where
         | inr e ↦ wish_aimed s q (e ∙ ap (aim (home m q)) (fk q h))
       ] in
       trade k (trade_same s k same tk) (λ q h. fk q h ∙ sym (same q h))
-      (subst (λ z. Leads (with_lists m lists) f z) (sym (leave_same s k same)) (aim_leads f each d))
+      (subst (λ z. Leads (with_lists m lists) f z) (sym (removed_same s k same)) (aim_leads f each d))
 
 -- if some ask for x alone, and rank it no lower than what they get with their own list, everybody gets x
 module _ (m : Market) (ok : IsMarket m) (lists : List (List ℕ)) (ok2 : IsMarket (with_lists m lists))
@@ -125,7 +125,7 @@ module _ (m : Market) (ok : IsMarket m) (lists : List (List ℕ)) (ok2 : IsMarke
     ⊎ ((list_of (with_lists m lists) q ≡ aim (home m q) (x q)) × (rank m q (x q) ≤ rank m q (f q)))) where
   same_from : {s : Stage} → Leads m f s → IsStageOf m s → HomesThere m ok s → Leads (with_lists m lists) x s → (p : ℕ)
       → s.people p ≡ true → x p ≡ f p
-  unfolding leave
+  unfolding removed
   same_from {s} (done none) known homes e p h = clash (s.people p) h (none p)
   same_from {s} (trade k tk fk d) known homes e p h =
       let same : (q : ℕ) → k q ≡ true → wish (with_lists m lists) s q ≡ wish m s q =
@@ -139,12 +139,12 @@ module _ (m : Market) (ok : IsMarket m) (lists : List (List ℕ)) (ok2 : IsMarke
             wish_aimed m lists s q (b.0 ∙ ap (aim (home m q)) got)
       ] in
       let r : ((p : ℕ) → k p ≡ true → x p ≡ wish (with_lists m lists) s p) × Leads (with_lists m lists) x
-      (leave (with_lists m lists) s k) =
+      (removed (with_lists m lists) s k) =
       trade_removed (with_lists m lists) x e k (trade_same m lists s k same tk) in
       elim (cases_Bool (k p)) [
         | inl y ↦ r.0 p y ∙ same p y ∙ sym (fk p y)
-        | inr n ↦ same_from d (leave_known m s k known) (homes_stay m ok s k tk known homes)
-            (subst (λ z. Leads (with_lists m lists) x z) (leave_same m lists s k same) r.1) p
+        | inr n ↦ same_from d (removed_known m s k known) (homes_stay m ok s k tk known homes)
+            (subst (λ z. Leads (with_lists m lists) x z) (removed_same m lists s k same) r.1) p
             (and_from (s.people p) (not (k p)) h (not_from_false (k p) n))
       ]
 

@@ -1,5 +1,4 @@
--- The result of removals from a stage is rational, an assignment, efficient, and leaves no better trade
--- apart.
+-- The result of removals from a stage is rational, an assignment, efficient, and leaves no better trade apart.
 use Rattle.std.proofs.Common.{◌≡◌, ℕ, zero, suc, ◌+◌, ◌-◌, ◌<◌, ◌≤◌, ◌⊎◌, Bool, true, false, not, ◌&&◌, Option, Some}
 use Rattle.std.proofs.Common.{None, find, refl, sym, ap, ◌∙◌, subst, inl, inr, arith, lt-ltb, ltb-true}
 use Rattle.std.proofs.lemmas.Bool.{cases_Bool, cases_order, and_parts, and_from, false_from_ne_true, both_ways}
@@ -8,7 +7,7 @@ use Rattle.std.specs.Fn.{iterate}
 use Rattle.trade_line.specs.Below.{or_else}
 use Rattle.trade_line.specs.Cycles.{IsStageOf}
 use Rattle.trade_line.specs.Market.{Market, IsMarket, home, list_of}
-use Rattle.trade_line.specs.TopTradingCycles.{Stage, start, wish, successor, taken, leave, gets}
+use Rattle.trade_line.specs.TopTradingCycles.{Stage, start, wish, successor, taken, removed, gets}
 use Rattle.trade_line.specs.Inner.Removal.{Reach, IsTrade, Leads}
 use Rattle.trade_line.specs.Member.{among}
 use Rattle.trade_line.specs.Rank.{rank}
@@ -20,8 +19,8 @@ use Rattle.trade_line.proofs.searches.Search.{clash, find_passes}
 use Rattle.trade_line.proofs.counts.Count.{reach_times, times_sum}
 use Rattle.trade_line.proofs.cycles.Exchange.{successor_at, taken_gives}
 use Rattle.trade_line.proofs.cycles.Unique.{taken_from}
-use Rattle.trade_line.proofs.cycles.Chain.{home_holder}
-use Rattle.trade_line.proofs.cycles.Steps.{leave_known, start_known, gets_leads}
+use Rattle.trade_line.proofs.cycles.Chain.{home_points_to}
+use Rattle.trade_line.proofs.cycles.Steps.{removed_known, start_known, gets_leads}
 use Rattle.trade_line.proofs.welfare.Ranks.{place_lt, find_among, rank_listed, rank_home, wish_is_best}
 
 module _ (m : Market) (ok : IsMarket m) where
@@ -38,7 +37,7 @@ module _ (m : Market) (ok : IsMarket m) where
 
   pub rational_from : (f : ℕ → Option ℕ) {s : Stage} → Leads m f s → (p : ℕ) → p < m.people → s.people p ≡ true
       → rank m p (f p) ≤ rank m p (home m p)
-  unfolding leave
+  unfolding removed
   rational_from f {s} (done none) p l h = clash (s.people p) h (none p)
   rational_from f {s} (trade k tk fk d) p l h =
       elim (cases_Bool (k p)) [
@@ -51,7 +50,7 @@ module _ (m : Market) (ok : IsMarket m) where
       → ((p r : ℕ) → s.people p ≡ true → a p ≡ Some r → s.rooms r ≡ true)
       → ((p : ℕ) → s.people p ≡ true → (p < m.people) × (rank m p (a p) ≤ rank m p (f p)))
       → (p : ℕ) → s.people p ≡ true → a p ≡ f p
-  unfolding leave
+  unfolding removed
   efficient_from f {s} (done none) a differ can better p h = clash (s.people p) h (none p)
   efficient_from f {s} (trade k tk fk d) a differ can better p h =
       elim (cases_Bool (k p)) [
@@ -124,14 +123,16 @@ module _ (m : Market) (ok : IsMarket m) where
   abbrev pub HomesThere : Stage → Type 0
   HomesThere s = (t h : ℕ) → s.people t ≡ true → home m t ≡ Some h → s.rooms h ≡ true
 
-  pub homes_stay : (s : Stage) (k : ℕ → Bool) → IsTrade m s k → IsStageOf m s → HomesThere s → HomesThere (leave m s k)
-  unfolding leave
+  pub homes_stay : (s : Stage) (k : ℕ → Bool) → IsTrade m s k → IsStageOf m s → HomesThere s
+      → HomesThere (removed m s k)
+  unfolding removed
   homes_stay s k tk known kept t h ht e =
       let b : (s.people t ≡ true) × (not (k t) ≡ true) = and_parts (s.people t) (not (k t)) ht in
       and_from (s.rooms h) (not (taken m s k h)) (kept t h b.0 e)
       (not_from_false (taken m s k h) (false_from_ne_true (taken m s k h) (λ y.
       let g : (q : ℕ) × (q < m.people) × (k q ≡ true) × (wish m s q ≡ Some h) = taken_gives m s k h y in
-      let to : successor m s g.0 ≡ t = successor_at m s g.0 (Some h) g.3 ∙ home_holder m ok s t h (known t b.0) e b.0 in
+      let to : successor m s g.0 ≡ t = successor_at m s g.0 (Some h) g.3
+      ∙ home_points_to m ok s t h (known t b.0) e b.0 in
       both_ways (k t) (not-true (k t) b.1) (subst (λ z. k z ≡ true) to (tk.closed g.0 g.2)))))
 
   pub wish_there : (s : Stage) → HomesThere s → (p r : ℕ) → s.people p ≡ true → wish m s p ≡ Some r → s.rooms r ≡ true
@@ -147,20 +148,20 @@ module _ (m : Market) (ok : IsMarket m) where
   -- what a person gets later still remains now
   pub there_from : (f : ℕ → Option ℕ) {s : Stage} → Leads m f s → IsStageOf m s → HomesThere s → (p r : ℕ)
       → s.people p ≡ true → f p ≡ Some r → s.rooms r ≡ true
-  unfolding leave
+  unfolding removed
   there_from f {s} (done none) known homes p r h e = clash (s.people p) h (none p)
   there_from f {s} (trade k tk fk d) known homes p r h e =
       elim (cases_Bool (k p)) [
         | inl y ↦ wish_there s homes p r h (sym (fk p y) ∙ e)
         | inr n ↦
             (and_parts (s.rooms r) (not (taken m s k r))
-            (there_from f d (leave_known m s k known) (homes_stay s k tk known homes) p r
+            (there_from f d (removed_known m s k known) (homes_stay s k tk known homes) p r
             (and_from (s.people p) (not (k p)) h (not_from_false (k p) n)) e)).0
       ]
 
   differ_from : (f : ℕ → Option ℕ) {s : Stage} → Leads m f s → IsStageOf m s → HomesThere s → (p q r : ℕ)
       → s.people p ≡ true → s.people q ≡ true → f p ≡ Some r → f q ≡ Some r → p ≡ q
-  unfolding leave
+  unfolding removed
   differ_from f {s} (done none) known homes p q r hp hq ep eq = clash (s.people p) hp (none p)
   differ_from f {s} (trade k tk fk d) known homes p q r hp hq ep eq =
       elim (cases_Bool (k p)) [
@@ -171,7 +172,7 @@ module _ (m : Market) (ok : IsMarket m) where
         ]
         | inr np ↦ elim (cases_Bool (k q)) [
           | inl yq ↦ absurd (gone q p yq np hp eq ep)
-          | inr nq ↦ differ_from f d (leave_known m s k known) (homes_stay s k tk known homes) p q r (after p hp np)
+          | inr nq ↦ differ_from f d (removed_known m s k known) (homes_stay s k tk known homes) p q r (after p hp np)
               (after q hq nq) ep eq
         ]
       ]
@@ -183,7 +184,7 @@ module _ (m : Market) (ok : IsMarket m) where
       gone p q yp nq hq ep eq =
           let t : taken m s k r ≡ true = taken_from m s k r p (tk.known p yp) yp (sym (fk p yp) ∙ ep) in
           let b : (s.rooms r && not (taken m s k r)) ≡ true =
-          there_from f d (leave_known m s k known) (homes_stay s k tk known homes) q r (after q hq nq) eq in
+          there_from f d (removed_known m s k known) (homes_stay s k tk known homes) q r (after q hq nq) eq in
           both_ways (taken m s k r) (not-true (taken m s k r) (and_parts (s.rooms r) (not (taken m s k r)) b).1) t
 
   apart_from : (f : ℕ → Option ℕ) {s : Stage} → Leads m f s → IsStageOf m s → HomesThere s
@@ -192,12 +193,12 @@ module _ (m : Market) (ok : IsMarket m) where
       × (a p ≡ home m q))
       → ((p : ℕ) → group p ≡ true → rank m p (a p) ≤ rank m p (f p))
       → (p : ℕ) → group p ≡ true → s.people p ≡ true → a p ≡ f p
-  unfolding leave
+  unfolding removed
   apart_from f {s} (done none) known homes group a tr own better p gp h = clash (s.people p) h (none p)
   apart_from f {s} (trade k tk fk d) known homes group a tr own better p gp h =
       elim (cases_Bool (k p)) [
         | inl y ↦ at_k p gp y ∙ sym (fk p y)
-        | inr n ↦ apart_from f d (leave_known m s k known) (homes_stay s k tk known homes) group a tr own2 better p gp
+        | inr n ↦ apart_from f d (removed_known m s k known) (homes_stay s k tk known homes) group a tr own2 better p gp
             (and_from (s.people p) (not (k p)) h (not_from_false (k p) n))
       ]
     where
@@ -217,7 +218,7 @@ module _ (m : Market) (ok : IsMarket m) where
           let q : (q : ℕ) × (group q ≡ true) × (s.people q ≡ true) × (a p ≡ home m q) = own p gp (tk.remain p y) in
           let h : (h : ℕ) × (home m q.0 ≡ Some h) = tr.tenants q.0 q.1 in
           let to : successor m s p ≡ q.0 = successor_at m s p (Some h.0) (sym (at_k p gp y) ∙ q.3 ∙ h.1)
-          ∙ home_holder m ok s q.0 h.0 (tr.people q.0 q.1) h.1 q.2 in
+          ∙ home_points_to m ok s q.0 h.0 (tr.people q.0 q.1) h.1 q.2 in
           (subst (λ z. group z ≡ true) (sym to) q.1, q.3 ∙ ap (home m) (sym to))
 
       both_closed : (p : ℕ) → both p ≡ true → both (successor m s p) ≡ true

@@ -31,8 +31,8 @@ abbrev pub StayInLine : Market → List Bool → List ℕ → List ℕ → Type 
 StayInLine m asked c [] = Unit {0}
 StayInLine m asked c (a ∷ r) = StayBehind m asked c a r
 
--- between two turns: the entries before each cursor are gone, the cursor of each person who waits for a room
--- is at that room, and the cursor of each person who was served is at what they got
+-- between two turns: the entries before each cursor are gone, the cursor of each person who waits for a room is at that
+-- room, and the cursor of each person who was served is at what they got
 pub record AreCursors (m : Market) (s : State) (c : List ℕ) : Type 0 where
   pub cursors_len : length c ≡ m.people
   pub within : (p : ℕ) → p < m.people → cursor c p ≤ length (list_of m p)

@@ -5,7 +5,7 @@ use Rattle.trade_line.specs.Inner.State.{State, stage_at, given_to, IsSizedFor}
 use Rattle.trade_line.specs.Inner.Turn.{Asks}
 use Rattle.trade_line.specs.Market.{Market}
 use Rattle.trade_line.specs.Member.{among}
-use Rattle.trade_line.specs.TopTradingCycles.{wish, leave}
+use Rattle.trade_line.specs.TopTradingCycles.{wish, removed}
 
 -- the people from the front of the line up to the tenant are a loop, whose first person asks for the room
 pub record Ring (m : Market) (tenant : ℕ) (room : ℕ) (s : State) : Type 0 where
@@ -27,7 +27,7 @@ pub record Closing (m : Market) (tenant : ℕ) (room : ℕ) (s t : State) (next 
   pub ring_split : ring.person ∷ ring.others ≡ past ++ (here ∷ others)
   pub line_split : t.line ≡ (here ∷ others) ++ (ring.after ++ ring.asks.fresh)
   pub next_is : next ≡ wish m (stage_at s) here
-  pub stage : stage_at t ≡ leave m (stage_at s) (among past)
+  pub stage : stage_at t ≡ removed m (stage_at s) (among past)
   pub given_past : (p : ℕ) → among past p ≡ true → given_to t p ≡ wish m (stage_at s) p
   pub given_kept : (p : ℕ) → among past p ≡ false → given_to t p ≡ given_to s p
   pub asked_kept : t.asked ≡ s.asked
@@ -37,7 +37,7 @@ pub record Closing (m : Market) (tenant : ℕ) (room : ℕ) (s t : State) (next 
 pub record Closed (m : Market) (tenant : ℕ) (room : ℕ) (s t : State) : Type 0 where
   pub ring : Ring m tenant room s
   pub line_is : t.line ≡ ring.after ++ ring.asks.fresh
-  pub stage : stage_at t ≡ leave m (stage_at s) (among (ring.person ∷ ring.others))
+  pub stage : stage_at t ≡ removed m (stage_at s) (among (ring.person ∷ ring.others))
   pub given_ring : (p : ℕ) → among (ring.person ∷ ring.others) p ≡ true
       → given_to t p ≡ wish m (stage_at s) p
   pub given_kept : (p : ℕ) → among (ring.person ∷ ring.others) p ≡ false

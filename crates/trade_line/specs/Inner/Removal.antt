@@ -1,7 +1,7 @@
 -- Cycles that are removed one group at a time, in any order.
 use Rattle.std.specs.Prelude.{◌≡◌, ℕ, ◌<◌, Bool, true, Option, false}
 use Rattle.trade_line.specs.Market.{Market}
-use Rattle.trade_line.specs.TopTradingCycles.{Stage, wish, successor, leave}
+use Rattle.trade_line.specs.TopTradingCycles.{Stage, wish, successor, removed}
 
 -- zero or more steps of g lead from p to q
 pub data Reach (g : ℕ → ℕ) : ℕ → ℕ → Type 0 where
@@ -20,4 +20,4 @@ pub record IsTrade (m : Market) (s : Stage) (group : ℕ → Bool) : Type 0 wher
 pub data Leads (m : Market) (f : ℕ → Option ℕ) : Stage → Type 0 where
   done : {s : Stage} → ((p : ℕ) → s.people p ≡ false) → Leads m f s
   trade : {s : Stage} (group : ℕ → Bool) → IsTrade m s group
-      → ((p : ℕ) → group p ≡ true → f p ≡ wish m s p) → Leads m f (leave m s group) → Leads m f s
+      → ((p : ℕ) → group p ≡ true → f p ≡ wish m s p) → Leads m f (removed m s group) → Leads m f s

@@ -1,12 +1,12 @@
 -- The table of tenants that a problem keeps.
 use Rattle.std.specs.Prelude.{◌≡◌, ℕ, ◌<◌, Option, Some, None, List, length, slice_index_or}
 use Rattle.trade_line.specs.Below.{first_below}
-use Rattle.trade_line.specs.Market.{Market, is_room, tenant}
+use Rattle.trade_line.specs.Market.{Market, is_room, tenant_of}
 
 -- `tenants` has the tenant of each room, if any
 pub record IsTenants (m : Market) (tenants : List (Option ℕ)) : Type 0 where
   pub tenants_len : length tenants ≡ m.rooms
-  pub tenants_are : (r : ℕ) → r < m.rooms → slice_index_or tenants r None ≡ tenant m r
+  pub tenants_are : (r : ℕ) → r < m.rooms → slice_index_or tenants r None ≡ tenant_of m r
 
 -- `tenants` gives, for each room, who of the first n people lives there; no two of these people have the same home
 pub record AreHoused (homes : List (Option ℕ)) (tenants : List (Option ℕ)) (n : ℕ) : Type 0 where
