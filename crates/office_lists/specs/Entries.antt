@@ -16,19 +16,19 @@ abbrev pub room_list : ListForm Text
 room_list = record { header = codes "room" ∷ []; grammars = is_room_code ∷ []; entry = field 0 }
 
 -- the value of a field that may be empty: none if the field is empty, otherwise its text
-abbrev pub optional : Text → Option Text
-optional [] = None
-optional (byte ∷ rest) = Some (byte ∷ rest)
+abbrev pub text_or_none : Text → Option Text
+text_or_none [] = None
+text_or_none (byte ∷ rest) = Some (byte ∷ rest)
 
 abbrev pub is_optional_room_code : Text → Bool
-is_optional_room_code text = option_map_or is_room_code (optional text) true
+is_optional_room_code text = option_map_or is_room_code (text_or_none text) true
 
 abbrev pub person_entry : List Text → PersonEntry
 person_entry fields = record {
   person = field 0 fields;
   name = field 1 fields;
   key = field 2 fields;
-  home = optional (field 3 fields);
+  home = text_or_none (field 3 fields);
 }
 
 -- lists of people: each data record has a person's identifier, name, key and home; the home may be empty

@@ -4,7 +4,7 @@ ghost use Rattle.std.specs.List.{list_all};
 ghost use Rattle.csv.specs.Records.{fields_of};
 ghost use Rattle.room_types.specs.Grades.{grade_of};
 ghost use Rattle.room_types.specs.Grammars.{is_room_code};
-ghost use Rattle.office_lists.specs.Entries.{codes_in, is_choices, is_optional_room_code, optional};
+ghost use Rattle.office_lists.specs.Entries.{codes_in, is_choices, is_optional_room_code, text_or_none};
 ghost use Rattle.office_lists.specs.Records.{field, same_fields};
 ghost use Rattle.office_lists.specs.Inner.RecordFaults.{FailsAt, field_fault};
 
@@ -56,7 +56,7 @@ pub fn value<G: Grammar>(alloc: Global, text: &str, number: u8) -> Result<Text<G
 /// Parses the text of field `number` as a room code, or as `None` if the text is empty. Fails with `BadField(number)`
 /// if the text is neither.
 pub fn optional_room(alloc: Global, text: &str, number: u8) -> Result<Option<RoomCode>, RecordFault>
-    ensures value { IfOk result (λ room. room ≡ optional text.now) }
+    ensures value { IfOk result (λ room. room ≡ text_or_none text.now) }
     ensures in_grammar { IfOk result (λ _. is_optional_room_code text.now ≡ true) }
     ensures fault { IfErr result (λ fault. FailsAt number (is_optional_room_code text.now) fault) }
 {

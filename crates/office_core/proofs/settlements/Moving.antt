@@ -25,7 +25,8 @@ use Rattle.room_types.specs.declared.moves.Wave.{Wave}
 use Rattle.room_types.specs.declared.moves.Wave.TheVariants.{Swap, Nth}
 use Rattle.room_types.proofs.arranged.Arrangements.{arrangements_agree}
 use Rattle.office_lists.specs.MoveDay.{is_swap, move_cmp, wave_cmp}
-use Rattle.office_lists.specs.Waves.{Relocation, NewRoomsDiffer, leaver, leavers, end_numbers, next, wave_of, waves_of}
+use Rattle.office_lists.specs.Waves.{Relocation, NewRoomsDiffer, leaver, leavers, end_numbers}
+use Rattle.office_lists.specs.Waves.{next_entry, wave_of, waves_of}
 use Rattle.office_lists.specs.Waves.{IsWave}
 use Rattle.office_lists.proofs.move_days.Following.{number-later}
 use Rattle.office_lists.proofs.move_days.Leavers.{length-waves_of, has_left, has_left_room, left_room, waves_agree}
@@ -243,7 +244,7 @@ module _ (n : ℕ) (ms : List Relocation) (differ : NewRoomsDiffer ms) (before n
   -- the relocation of the person who lives in the new room of relocation `i`, if that person relocates
   holder : (i : ℕ) (q room : Text) → i < length ms → (get_or ms i nobody).2 ≡ Some room
       → before q ≡ Some room → relocates ms q ≡ true
-      → (k : ℕ) × (k < length ms) × ((get_or ms k nobody).0 ≡ q) × (next (leavers ms) i ≡ Some k)
+      → (k : ℕ) × (k < length ms) × ((get_or ms k nobody).0 ≡ q) × (next_entry (leavers ms) i ≡ Some k)
   holder i q room within goes lives relocation =
       let at = relocation_at ms q relocation in
       let old : (get_or ms at.0 nobody).1 ≡ Some room =

@@ -8,13 +8,13 @@ use Rattle.std.proofs.lemmas.List.{get_or-set_same, get_or-set_other, length-set
 use Rattle.std.proofs.Math.ListN.{get_or-eq_default}
 use Rattle.room_types.specs.declared.moves.Wave.{Wave}
 use Rattle.room_types.specs.declared.moves.Wave.TheVariants.{Swap, Nth}
-use Rattle.office_lists.specs.Waves.{next, end_number_at, followed, HasNumber, IsWave, wave_of}
+use Rattle.office_lists.specs.Waves.{next_entry, end_number_at, followed, HasNumber, IsWave, wave_of}
 use Rattle.office_lists.specs.Inner.Successors.{AreInjective, AreSuccessors, IsNumbered, NumbersChain}
 use Rattle.office_lists.proofs.move_days.Following.{followed-beyond, number-end, number-none, number-later, number-back}
 use Rattle.office_lists.proofs.move_days.Following.{one_wave, some_wave}
 
-pub next-within : (ls : List (Option ℕ)) (i j : ℕ) → next ls i ≡ Some j → i < length ls
-next-within ls i j e =
+pub next_entry-within : (ls : List (Option ℕ)) (i j : ℕ) → next_entry ls i ≡ Some j → i < length ls
+next_entry-within ls i j e =
     elim (cases_lt i (length ls)) [
       | inl less ↦ less
       | inr past ↦ cc (sym (get_or-eq_default ls None past) ∙ e)
@@ -102,7 +102,7 @@ all_numbered fs end first count old new so at = record {
 pub record AreNumberedTo (ends : List ℕ) (ls fs : List (Option ℕ)) (count : ℕ) (waves : List Wave) : Type 0 where
   pub same_length : length waves ≡ length ls
   pub right : (i number : ℕ) → get_or waves i Swap ≡ Nth number → HasNumber ends ls number i
-  pub done : (end c i : ℕ) → end < count → next ls end ≡ None → followed fs c end ≡ Some i → IsNumbered waves i
+  pub done : (end c i : ℕ) → end < count → next_entry ls end ≡ None → followed fs c end ≡ Some i → IsNumbered waves i
 
 pub fewer_done : (ends : List ℕ) (ls fs : List (Option ℕ)) (few count : ℕ) (waves : List Wave) → few ≤ count
     → AreNumberedTo ends ls fs count waves → AreNumberedTo ends ls fs few waves
@@ -114,7 +114,7 @@ fewer_done ends ls fs few count waves low so = record {
 
 module _ (ends : List ℕ) (ls fs : List (Option ℕ)) (linked : AreSuccessors ls fs) where
   -- an entry that is c steps from the end of its chain has the number of the end plus c
-  pub number-along : (c end i : ℕ) → next ls end ≡ None → followed fs c end ≡ Some i
+  pub number-along : (c end i : ℕ) → next_entry ls end ≡ None → followed fs c end ≡ Some i
       → HasNumber ends ls (c + end_number_at ends end) i
   number-along zero end i none e =
       let is : end_number_at ends end ≡ 0 + end_number_at ends end = omega arith in
@@ -123,7 +123,7 @@ module _ (ends : List ℕ) (ls fs : List (Option ℕ)) (linked : AreSuccessors l
   number-along (suc c) end i none e =
       let is : suc (c + end_number_at ends end) ≡ suc c + end_number_at ends end = omega arith in
       subst (λ n. HasNumber ends ls n i) is
-      (elim (followed fs c end) as (λ o. followed fs c end ≡ o → option_and_then (next fs) o ≡ Some i
+      (elim (followed fs c end) as (λ o. followed fs c end ≡ o → option_and_then (next_entry fs) o ≡ Some i
       → HasNumber ends ls (suc (c + end_number_at ends end)) i) [
         | None ↦ λ f g. cc
         | Some j ↦ λ f g. number-later ends ls (c + end_number_at ends end) i j (linked.after i j g)
@@ -133,31 +133,34 @@ module _ (ends : List ℕ) (ls fs : List (Option ℕ)) (linked : AreSuccessors l
   pub within-along : (c end i : ℕ) → end < length ls → followed fs c end ≡ Some i → i < length ls
   within-along zero end i in' e = subst (λ k. k < length ls) (same_Some end i e) in'
   within-along (suc c) end i in' e =
-      elim (followed fs c end) as (λ o. followed fs c end ≡ o → option_and_then (next fs) o ≡ Some i → i < length ls) [
+      elim (followed fs c end) as (λ o. followed fs c end ≡ o → option_and_then (next_entry fs) o ≡ Some i
+      → i < length ls) [
         | None ↦ λ f g. cc
-        | Some j ↦ λ f g. next-within ls i j (linked.after i j g)
+        | Some j ↦ λ f g. next_entry-within ls i j (linked.after i j g)
       ] refl e
 
   -- an entry with a number is on a chain that ends
   pub end_of : (n i : ℕ) → i < length ls → AreInjective ls → HasNumber ends ls n i → (end : ℕ) × (c : ℕ)
-      × (end < length ls) × (next ls end ≡ None) × (followed fs c end ≡ Some i)
+      × (end < length ls) × (next_entry ls end ≡ None) × (followed fs c end ≡ Some i)
   end_of zero i in' apart h =
-      elim (next ls i) as (λ o. next ls i ≡ o → (end : ℕ) × (c : ℕ) × (end < length ls) × (next ls end ≡ None)
+      elim (next_entry ls i) as (λ o. next_entry ls i ≡ o → (end : ℕ) × (c : ℕ) × (end < length ls)
+      × (next_entry ls end ≡ None)
       × (followed fs c end ≡ Some i)) [
         | None ↦ λ e. (i, 0, in', e, refl)
         | Some j ↦ λ e. absurd (number-none ends ls i j e h)
       ] refl
   end_of (suc n) i in' apart h =
-      elim (next ls i) as (λ o. next ls i ≡ o → (end : ℕ) × (c : ℕ) × (end < length ls) × (next ls end ≡ None)
+      elim (next_entry ls i) as (λ o. next_entry ls i ≡ o → (end : ℕ) × (c : ℕ) × (end < length ls)
+      × (next_entry ls end ≡ None)
       × (followed fs c end ≡ Some i)) [
         | None ↦ λ e. (i, 0, in', e, refl)
         | Some j ↦ λ e.
             let rest = end_of n j (apart.within i j e) apart (number-back ends ls n i j e h) in
-            (rest.0, suc rest.1, rest.2, rest.3, ap (option_and_then (next fs)) rest.4 ∙ linked.before i j e)
+            (rest.0, suc rest.1, rest.2, rest.3, ap (option_and_then (next_entry fs)) rest.4 ∙ linked.before i j e)
       ] refl
 
   -- the next entry ends a chain, which is numbered now
-  pub end_done : (count : ℕ) (old new : List Wave) → AreNumberedTo ends ls fs count old → next ls count ≡ None
+  pub end_done : (count : ℕ) (old new : List Wave) → AreNumberedTo ends ls fs count old → next_entry ls count ≡ None
       → length new ≡ length old → NumbersChain fs count (end_number_at ends count) old new
       → AreNumberedTo ends ls fs (count + 1) new
   end_done count old new so none same chain = record {
@@ -177,14 +180,15 @@ module _ (ends : List ℕ) (ls fs : List (Option ℕ)) (linked : AreSuccessors l
 
   -- the next entry does not end a chain
   pub other_done : (count : ℕ) (waves : List Wave) → AreNumberedTo ends ls fs count waves → (j : ℕ)
-      → next ls count ≡ Some j → AreNumberedTo ends ls fs (count + 1) waves
+      → next_entry ls count ≡ Some j → AreNumberedTo ends ls fs (count + 1) waves
   other_done count waves so j some = record {
     same_length = so.same_length;
     right = so.right;
     done = λ end c i low last at.
         elim (cases_lt end count) [
           | inl less ↦ so.done end c i less last at
-          | inr more ↦ let this : end ≡ count = omega arith in cc (sym some ∙ subst (λ k. next ls k ≡ None) this last)
+          | inr more ↦ let this : end ≡ count = omega arith in
+              cc (sym some ∙ subst (λ k. next_entry ls k ≡ None) this last)
         ];
   }
 

@@ -13,7 +13,8 @@ use Rattle.std.proofs.lemmas.Map.Keys.{IsDistinct-from_apart}
 use Rattle.std.proofs.lemmas.Map.Steps.{length-le_from_distinct_below}
 use Rattle.room_types.specs.declared.moves.Wave.{Wave}
 use Rattle.room_types.specs.declared.moves.Wave.TheVariants.{Swap, Nth}
-use Rattle.office_lists.specs.Waves.{next, end_number_at, followed, Returns, HasNumber, IsWave, chain_number, wave_of}
+use Rattle.office_lists.specs.Waves.{next_entry, end_number_at, followed, Returns, HasNumber, IsWave}
+use Rattle.office_lists.specs.Waves.{chain_number, wave_of}
 use Rattle.office_lists.specs.Inner.Successors.{AreInjective}
 
 any_below : (q n : ℕ) (xs : List ℕ) → AllByRecursion (λ x. x < n) xs → list_any (eqb q) xs ≡ true → q < n
@@ -42,59 +43,59 @@ pigeonhole f m n into apart =
 
 module _ (ls : List (Option ℕ)) where
   -- following the leavers from i is following them from the leaver of i, one step less
-  followed-next : (c i j : ℕ) → next ls i ≡ Some j → followed ls (suc c) i ≡ followed ls c j
+  followed-next : (c i j : ℕ) → next_entry ls i ≡ Some j → followed ls (suc c) i ≡ followed ls c j
   followed-next zero i j e = e
-  followed-next (suc c) i j e = ap (option_and_then (next ls)) (followed-next c i j e)
+  followed-next (suc c) i j e = ap (option_and_then (next_entry ls)) (followed-next c i j e)
 
-  followed-end : (c i : ℕ) → next ls i ≡ None → followed ls (suc c) i ≡ None
+  followed-end : (c i : ℕ) → next_entry ls i ≡ None → followed ls (suc c) i ≡ None
   followed-end zero i e = e
-  followed-end (suc c) i e = ap (option_and_then (next ls)) (followed-end c i e)
+  followed-end (suc c) i e = ap (option_and_then (next_entry ls)) (followed-end c i e)
 
   pub followed-beyond : (c k i : ℕ) → followed ls c i ≡ None → c ≤ k → followed ls k i ≡ None
   followed-beyond zero k i e low = cc
   followed-beyond (suc c) zero i e low = absurd (omega arith)
   followed-beyond (suc c) (suc k) i e low =
       elim (cases_lt c k) [
-        | inl less ↦ ap (option_and_then (next ls)) (followed-beyond (suc c) k i e (omega arith))
+        | inl less ↦ ap (option_and_then (next_entry ls)) (followed-beyond (suc c) k i e (omega arith))
         | inr more ↦ let same : c ≡ k = omega arith in subst (λ m. followed ls (suc m) i ≡ None) same e
       ]
 
 module _ (ends : List ℕ) (ls : List (Option ℕ)) where
   -- an entry at the end of its chain has its end number, and no other
-  pub number-end : (n i : ℕ) → next ls i ≡ None → n ≡ end_number_at ends i → HasNumber ends ls n i
+  pub number-end : (n i : ℕ) → next_entry ls i ≡ None → n ≡ end_number_at ends i → HasNumber ends ls n i
   number-end zero i e is = subst (λ o. MatchOption o (0 ≡ end_number_at ends i) (λ j. ⊥)) (sym e) is
   number-end (suc n) i e is = subst (λ o. MatchOption o (suc n ≡ end_number_at ends i) (HasNumber ends ls n)) (sym e) is
 
-  number-only : (n i : ℕ) → next ls i ≡ None → HasNumber ends ls n i → n ≡ end_number_at ends i
+  number-only : (n i : ℕ) → next_entry ls i ≡ None → HasNumber ends ls n i → n ≡ end_number_at ends i
   number-only zero i e h = subst (λ o. MatchOption o (0 ≡ end_number_at ends i) (λ j. ⊥)) e h
   number-only (suc n) i e h = subst (λ o. MatchOption o (suc n ≡ end_number_at ends i) (HasNumber ends ls n)) e h
 
-  pub number-later : (n i j : ℕ) → next ls i ≡ Some j → HasNumber ends ls n j → HasNumber ends ls (suc n) i
+  pub number-later : (n i j : ℕ) → next_entry ls i ≡ Some j → HasNumber ends ls n j → HasNumber ends ls (suc n) i
   number-later n i j e h = subst (λ o. MatchOption o (suc n ≡ end_number_at ends i) (HasNumber ends ls n)) (sym e) h
 
-  pub number-back : (n i j : ℕ) → next ls i ≡ Some j → HasNumber ends ls (suc n) i → HasNumber ends ls n j
+  pub number-back : (n i j : ℕ) → next_entry ls i ≡ Some j → HasNumber ends ls (suc n) i → HasNumber ends ls n j
   number-back n i j e h = subst (λ o. MatchOption o (suc n ≡ end_number_at ends i) (HasNumber ends ls n)) e h
 
   -- an entry with a leaver does not have the number 0
-  pub number-none : (i j : ℕ) → next ls i ≡ Some j → HasNumber ends ls 0 i → ⊥
+  pub number-none : (i j : ℕ) → next_entry ls i ≡ Some j → HasNumber ends ls 0 i → ⊥
   number-none i j e h = subst (λ o. MatchOption o (0 ≡ end_number_at ends i) (λ j. ⊥)) e h
 
-  at_end : (m n i : ℕ) → next ls i ≡ None → HasNumber ends ls m i → HasNumber ends ls n i → m ≡ n
+  at_end : (m n i : ℕ) → next_entry ls i ≡ None → HasNumber ends ls m i → HasNumber ends ls n i → m ≡ n
   at_end m n i e h g = number-only m i e h ∙ sym (number-only n i e g)
 
   one_number : (m n i : ℕ) → HasNumber ends ls m i → HasNumber ends ls n i → m ≡ n
   one_number zero n i h g =
-      elim (next ls i) as (λ o. next ls i ≡ o → zero ≡ n) [
+      elim (next_entry ls i) as (λ o. next_entry ls i ≡ o → zero ≡ n) [
         | None ↦ λ e. at_end zero n i e h g
         | Some j ↦ λ e. absurd (number-none i j e h)
       ] refl
   one_number (suc m) zero i h g =
-      elim (next ls i) as (λ o. next ls i ≡ o → suc m ≡ zero) [
+      elim (next_entry ls i) as (λ o. next_entry ls i ≡ o → suc m ≡ zero) [
         | None ↦ λ e. at_end (suc m) zero i e h g
         | Some j ↦ λ e. absurd (number-none i j e g)
       ] refl
   one_number (suc m) (suc n) i h g =
-      elim (next ls i) as (λ o. next ls i ≡ o → suc m ≡ suc n) [
+      elim (next_entry ls i) as (λ o. next_entry ls i ≡ o → suc m ≡ suc n) [
         | None ↦ λ e. at_end (suc m) (suc n) i e h g
         | Some j ↦ λ e. ap suc (one_number m n j (number-back m i j e h) (number-back n i j e g))
       ] refl
@@ -102,16 +103,16 @@ module _ (ends : List ℕ) (ls : List (Option ℕ)) where
   -- following the leavers from an entry with a number does not return to it
   no_return : (n c i : ℕ) → HasNumber ends ls n i → followed ls (suc c) i ≡ Some i → ⊥
   no_return zero c i h r =
-      elim (next ls i) as (λ o. next ls i ≡ o → ⊥) [
+      elim (next_entry ls i) as (λ o. next_entry ls i ≡ o → ⊥) [
         | None ↦ λ e. cc (sym (followed-end ls c i e) ∙ r)
         | Some j ↦ λ e. number-none i j e h
       ] refl
   no_return (suc n) c i h r =
-      elim (next ls i) as (λ o. next ls i ≡ o → ⊥) [
+      elim (next_entry ls i) as (λ o. next_entry ls i ≡ o → ⊥) [
         | None ↦ λ e. cc (sym (followed-end ls c i e) ∙ r)
         | Some j ↦ λ e.
             no_return n c j (number-back n i j e h)
-            (ap (option_and_then (next ls)) (sym (followed-next ls c i j e) ∙ r) ∙ e)
+            (ap (option_and_then (next_entry ls)) (sym (followed-next ls c i j e) ∙ r) ∙ e)
       ] refl
 
   -- an entry has at most one wave
@@ -124,8 +125,8 @@ module _ (ends : List ℕ) (ls : List (Option ℕ)) where
   number-from_length : (k n i : ℕ) → chain_number ends ls k i ≡ Some n → HasNumber ends ls n i
   number-from_length zero n i e = cc
   number-from_length (suc k) n i e =
-      elim (next ls i) as
-      (λ o. next ls i ≡ o → option_map_or (λ j. option_map (λ number. suc number) (chain_number ends ls k j)) o
+      elim (next_entry ls i) as
+      (λ o. next_entry ls i ≡ o → option_map_or (λ j. option_map (λ number. suc number) (chain_number ends ls k j)) o
       (Some (end_number_at ends i)) ≡ Some n → HasNumber ends ls n i) [
         | None ↦ λ none f. number-end n i none (sym (same_Some (end_number_at ends i) n f))
         | Some j ↦ λ some f. elim (chain_number ends ls k j) as (λ o. chain_number ends ls k j ≡ o
@@ -143,7 +144,8 @@ module _ (ends : List ℕ) (ls : List (Option ℕ)) where
     number-after zero n i in' below h = (i, n, refl, in', h, omega arith)
     number-after (suc c) zero i in' below h = absurd (omega arith)
     number-after (suc c) (suc n) i in' below h =
-        elim (next ls i) as (λ o. next ls i ≡ o → (x : ℕ) × (m : ℕ) × (followed ls (suc c) i ≡ Some x) × (x < length ls)
+        elim (next_entry ls i) as (λ o. next_entry ls i ≡ o → (x : ℕ) × (m : ℕ) × (followed ls (suc c) i ≡ Some x)
+        × (x < length ls)
         × HasNumber ends ls m x × (m + suc c ≡ suc n)) [
           | None ↦ λ e. let is = number-only (suc n) i e h in absurd (omega (arith, low i))
           | Some j ↦ λ e.
@@ -172,10 +174,11 @@ module _ (ends : List ℕ) (ls : List (Option ℕ)) where
     cycle_from_meeting a zero i x low p q = absurd (omega arith)
     cycle_from_meeting zero (suc b) i x low p q = (b, omega arith, q ∙ sym p)
     cycle_from_meeting (suc a) (suc b) i x low p q =
-        elim (followed ls a i) as (λ o. followed ls a i ≡ o → option_and_then (next ls) o ≡ Some x → (c : ℕ)
+        elim (followed ls a i) as (λ o. followed ls a i ≡ o → option_and_then (next_entry ls) o ≡ Some x → (c : ℕ)
         × (c < suc b) × (followed ls (suc c) i ≡ Some i)) [
           | None ↦ λ e f. cc
-          | Some y ↦ λ e f. elim (followed ls b i) as (λ o. followed ls b i ≡ o → option_and_then (next ls) o ≡ Some x
+          | Some y ↦ λ e f. elim (followed ls b i) as (λ o. followed ls b i ≡ o → option_and_then (next_entry ls) o
+              ≡ Some x
               → (c : ℕ) × (c < suc b) × (followed ls (suc c) i ≡ Some i)) [
                 | None ↦ λ g h. cc
                 | Some z ↦ λ g h.
@@ -191,8 +194,8 @@ module _ (ends : List ℕ) (ls : List (Option ℕ)) where
     goes_on zero k i in' low e = (i, refl, in')
     goes_on (suc c) zero i in' low e = absurd (omega arith)
     goes_on (suc c) (suc k) i in' low e =
-        elim (next ls i) as
-        (λ o. next ls i ≡ o → option_map_or (λ j. option_map (λ number. suc number) (chain_number ends ls k j)) o
+        elim (next_entry ls i) as
+        (λ o. next_entry ls i ≡ o → option_map_or (λ j. option_map (λ number. suc number) (chain_number ends ls k j)) o
         (Some (end_number_at ends i)) ≡ None → (x : ℕ) × (followed ls (suc c) i ≡ Some x) × (x < length ls)) [
           | None ↦ λ none f. cc
           | Some j ↦ λ some f.

@@ -13,14 +13,14 @@ use Rattle.std.proofs.lemmas.List.Quantifiers.{position-Some}
 use Rattle.std.proofs.lemmas.Slice.Eq.{bytes_eq-Decides}
 use Rattle.room_types.specs.Texts.{Text, text_eq}
 use Rattle.office_lists.specs.Waves.{Relocation, NewRoomsDiffer, chain_number, leaver, leavers, end_numbers}
-use Rattle.office_lists.specs.Waves.{end_number_at, next, wave_of, waves_of, IsWave, AreWaves, HaveOneWaveEach}
+use Rattle.office_lists.specs.Waves.{end_number_at, next_entry, wave_of, waves_of, IsWave, AreWaves, HaveOneWaveEach}
 use Rattle.room_types.specs.declared.moves.Wave.{Wave}
 use Rattle.room_types.specs.declared.moves.Wave.TheVariants.{Swap, Nth}
 use Rattle.room_types.proofs.options.Options.{option_or-none}
 use Rattle.std.proofs.lemmas.List.FromFn.{fill_by_all, length-map-range_with_len}
 use Rattle.office_lists.specs.Inner.Successors.{AreInjective, AreSuccessors}
 use Rattle.office_lists.proofs.move_days.Following.{one_wave, some_wave}
-use Rattle.office_lists.proofs.move_days.Chains.{next-within, AreNumberedTo, wave_at}
+use Rattle.office_lists.proofs.move_days.Chains.{next_entry-within, AreNumberedTo, wave_at}
 
 position_at : {X : Type 0} (p : X → Bool) (xs : List X) (k n : ℕ) → position_or_len p xs ≡ k → length xs ≡ n
     → position p xs ≡ cond (ltb k n) (Some k) None
@@ -183,12 +183,12 @@ end_number_of_entry (entry ∷ entries) zero d low = refl
 end_number_of_entry (entry ∷ entries) (suc i) d low = end_number_of_entry entries i d (omega (arith, low))
 
 module _ (entries : List Relocation) where
-  has_leaver : (i k : ℕ) → next (leavers entries) i ≡ Some k → HasLeaver entries i k
+  has_leaver : (i k : ℕ) → next_entry (leavers entries) i ≡ Some k → HasLeaver entries i k
   has_leaver i k e =
       let many : length (leavers entries) ≡ length entries =
       length-map entries (λ entry. option_and_then (leaver entries) entry.2) in
-      let in' : i < length entries = omega (arith, next-within (leavers entries) i k e) in
-      let at : next (leavers entries) i ≡ option_and_then (leaver entries) (get_or entries i ([], None, None)).2 =
+      let in' : i < length entries = omega (arith, next_entry-within (leavers entries) i k e) in
+      let at : next_entry (leavers entries) i ≡ option_and_then (leaver entries) (get_or entries i ([], None, None)).2 =
       get_or-map (λ entry. option_and_then (leaver entries) entry.2) entries i ([], None, None) None in' in
       elim (get_or entries i ([], None, None)).2 as (λ o. (get_or entries i ([], None, None)).2 ≡ o
       → option_and_then (leaver entries) o ≡ Some k → HasLeaver entries i k) [
@@ -255,12 +255,12 @@ module _ (entries : List Relocation) where
 
 -- ---- entries without a new room
 
-next_leaver : (entries : List Relocation) (i : ℕ) (d : Relocation) → i < length entries
-    → next (leavers entries) i ≡ option_and_then (leaver entries) (get_or entries i d).2
-next_leaver entries i d low =
+next_entry-leaver : (entries : List Relocation) (i : ℕ) (d : Relocation) → i < length entries
+    → next_entry (leavers entries) i ≡ option_and_then (leaver entries) (get_or entries i d).2
+next_entry-leaver entries i d low =
     get_or-map (λ (entry : Relocation). option_and_then (leaver entries) entry.2) entries i d None low
 
-first_wave : (ends : List ℕ) (ls : List (Option ℕ)) (i limit : ℕ) → 0 < limit → next ls i ≡ None
+first_wave : (ends : List ℕ) (ls : List (Option ℕ)) (i limit : ℕ) → 0 < limit → next_entry ls i ≡ None
     → end_number_at ends i ≡ 0
     → option_map_or (λ number. Nth number) (chain_number ends ls limit i) Swap ≡ Nth 0
 first_wave ends ls i zero some none first = absurd (omega (arith, some))
@@ -277,5 +277,5 @@ pub departing_wave : (entries : List Relocation) (i : ℕ) (d : Relocation) → 
 departing_wave entries i d low nowhere =
     let many = length-leavers entries in
     first_wave (end_numbers entries) (leavers entries) i (length (leavers entries)) (omega (arith, low, many))
-    (next_leaver entries i d low ∙ ap (option_and_then (leaver entries)) nowhere)
+    (next_entry-leaver entries i d low ∙ ap (option_and_then (leaver entries)) nowhere)
     (end_number_of_entry entries i d low ∙ ap (λ to. option_map_or (λ room. 1) to 0) nowhere)

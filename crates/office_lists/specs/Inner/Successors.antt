@@ -2,18 +2,18 @@
 use Rattle.std.specs.Prelude.{◌≡◌, ℕ, ◌+◌, ◌<◌, List, length, slice_index_or, Option, Some, ◌⊎◌}
 use Rattle.room_types.specs.declared.moves.Wave.{Wave}
 use Rattle.room_types.specs.declared.moves.Wave.TheVariants.{Swap, Nth}
-use Rattle.office_lists.specs.Waves.{next, followed}
+use Rattle.office_lists.specs.Waves.{next_entry, followed}
 
 -- each leaver is the index of an entry, and no two entries have the same leaver
 pub record AreInjective (leavers : List (Option ℕ)) : Type 0 where
-  pub within : (i j : ℕ) → next leavers i ≡ Some j → j < length leavers
-  pub one : (i j k : ℕ) → next leavers i ≡ Some k → next leavers j ≡ Some k → i ≡ j
+  pub within : (i j : ℕ) → next_entry leavers i ≡ Some j → j < length leavers
+  pub one : (i j k : ℕ) → next_entry leavers i ≡ Some k → next_entry leavers j ≡ Some k → i ≡ j
 
 -- `successors` is the inverse of `leavers`: `leavers` gives j for i if and only if `successors` gives i for j
 pub record AreSuccessors (leavers successors : List (Option ℕ)) : Type 0 where
   pub same_length : length successors ≡ length leavers
-  pub after : (i j : ℕ) → next successors j ≡ Some i → next leavers i ≡ Some j
-  pub before : (i j : ℕ) → next leavers i ≡ Some j → next successors j ≡ Some i
+  pub after : (i j : ℕ) → next_entry successors j ≡ Some i → next_entry leavers i ≡ Some j
+  pub before : (i j : ℕ) → next_entry leavers i ≡ Some j → next_entry successors j ≡ Some i
 
 -- entry i has a numbered wave
 abbrev pub IsNumbered : List Wave → ℕ → Type 0

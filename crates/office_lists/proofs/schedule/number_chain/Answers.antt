@@ -1,7 +1,7 @@
 use Rattle.std.proofs.Common.{◌≡◌, ◌<◌, length, Some, sym, ap, ◌∙◌, add-one, arith}
 use Rattle.std.specs.Prelude.{option_and_then}
 use Rattle.room_types.proofs.options.Options.{none_if_never}
-use Rattle.office_lists.specs.Waves.{next, followed}
+use Rattle.office_lists.specs.Waves.{next_entry, followed}
 use Rattle.office_lists.proofs.move_days.Chains.{one_numbered, all_numbered}
 use Rattle.office_lists.proofs.schedule.number_chain.Goals as goal
 
@@ -17,7 +17,8 @@ loop-at-preserved c =
       numbered =
           one_numbered successors end c.args.first count c.in-Some.here c.args.waves.now c.loop-at.waves
           c.loop-at.invariant.numbered there within;
-      here = sym (ap (λ n. followed successors n end) (add-one count) ∙ ap (option_and_then (next successors)) there);
+      here = sym (ap (λ n. followed successors n end) (add-one count)
+          ∙ ap (option_and_then (next_entry successors)) there);
     }
 
 pub returns : goal.returns

@@ -2,7 +2,7 @@ use Rattle.std.proofs.Common.{◌≡◌, ℕ, ◌+◌, ◌≤◌, not, List, len
 use Rattle.std.proofs.lemmas.List.{with_items_is}
 use Rattle.room_types.specs.declared.moves.Wave.{Wave}
 use Rattle.room_types.proofs.options.Options.{none_if_not_some, some_of}
-use Rattle.office_lists.specs.Waves.{leavers, end_numbers, end_number_at, next, followed}
+use Rattle.office_lists.specs.Waves.{leavers, end_numbers, end_number_at, next_entry, followed}
 use Rattle.office_lists.specs.Inner.Successors.{AreInjective, AreSuccessors, NumbersChain}
 use Rattle.office_lists.proofs.move_days.Following.{number-le}
 use Rattle.office_lists.proofs.move_days.Chains.{AreNumberedTo, number-along, within-along, end_done, other_done}
@@ -39,7 +39,8 @@ number_chain-requires-clause-short c = λ count i e.
     let end = c.loop-end.end in
     let at : followed fs count end ≡ Some i =
     ap (λ l. followed l count end) (sym c.deref-then-is_none.ensures.value) ∙ e in
-    let last : next ls end ≡ None = none_if_not_some (next ls end) (c.is_none.ensures ∙ ap not c.if-is_none.true) in
+    let last : next_entry ls end ≡ None =
+    none_if_not_some (next_entry ls end) (c.is_none.ensures ∙ ap not c.if-is_none.true) in
     let apart : AreInjective ls =
     subst AreInjective (sym c.loop-end.invariant.leavers)
     (leavers-injective c.args.entries.now c.requires.new_rooms_differ) in
@@ -61,8 +62,8 @@ loop-end-preserved c =
       numbered =
           elim c.if-is_none.branch [
             | then-is_none w ↦
-                let last : next ls end ≡ None =
-                none_if_not_some (next ls end) (c.is_none.ensures ∙ ap not w.if-is_none.true) in
+                let last : next_entry ls end ≡ None =
+                none_if_not_some (next_entry ls end) (c.is_none.ensures ∙ ap not w.if-is_none.true) in
                 let same = w.deref-then-is_none.ensures.value in
                 let was = w.deref_mut.ensures.value in
                 let new = w.number_chain.new.waves in
@@ -76,7 +77,7 @@ loop-end-preserved c =
                 (end_number_at ends end) c.loop-end.waves.items w.deref_mut.result.now new same was
                 w.end_number_at-first.ensures.value w.number_chain.ensures))
             | else-is_none w ↦
-                let more = some_of (next ls end) (c.is_none.ensures ∙ ap not w.if-is_none.false) in
+                let more = some_of (next_entry ls end) (c.is_none.ensures ∙ ap not w.if-is_none.false) in
                 subst (λ ws. AreNumberedTo ends ls fs (end + 1) ws) (sym (ap (λ v. v.items) w.waves-is))
                 (other_done ends ls fs c.loop-end.invariant.linked end c.loop-end.waves.items
                 c.loop-end.invariant.numbered more.0 more.1)
