@@ -1,6 +1,5 @@
 -- What commands leave alone. Before the draw: words, results, moves, imported lists, and the round's number and phase.
--- A
--- command that leads a round under way to its next phase: all but words and results.
+-- A command that leads a round under way to its next phase: all but words and results.
 use Rattle.std.proofs.Common.{◌≡◌, ℕ, false, refl, subst, sym}
 use Rattle.room_types.specs.Texts.{TextMap}
 use Rattle.room_types.specs.declared.phase.Phase.{Phase}

@@ -157,8 +157,7 @@ refusal_of-names_record Choices = list_refusal-names_record choices_command
 refusal_of-names_record Grades = list_refusal-names_record grade_command
 
 -- if the first refusal is the wanted one, which names a record or is `OutOfMemory`, then it or `OutOfMemory` is a
--- refusal by
--- these checks
+-- refusal by these checks
 list_refused : (changes : List Change) (checks : List Check) (wanted : Option Refusal)
     (refusal : Refusal) → is_empty changes ≡ false → first_refusal checks ≡ wanted
     → ((r : Refusal) → wanted ≡ Some r → (r ≡ refused.OutOfMemory) ⊎ (names_record r ≡ true))

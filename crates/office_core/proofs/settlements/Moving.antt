@@ -1,6 +1,5 @@
 -- The moves in the order of the day. They move the same people, and each person finds the new room empty, once those
--- who swap
--- have left.
+-- who swap have left.
 use Rattle.std.proofs.Common.{◌≡◌, ℕ, zero, suc, ◌<◌, true, false, Bool, not, ◌||◌, ◌++◌, List, [], ◌∷◌, length, get_or}
 use Rattle.std.proofs.Common.{map as map_list, Option, Some, None, cond, refl, ap, ◌∙◌, sym, subst, inl, inr, ◌⊎◌}
 use Rattle.std.proofs.Common.{arith}
@@ -220,8 +219,7 @@ next_wave n a b p q =
     (sym (nat_cmp_is n (suc n) Less (omega arith)))
 
 -- `before` gives the homes before the day, no two in one room, and `now` the homes once those who swap have left. The
--- old room of
--- a relocation is the person's home, and anyone who lived in its new room is its person, or relocates too.
+-- old room of a relocation is the person's home, and anyone who lived in its new room is its person, or relocates too.
 module _ (n : ℕ) (ms : List Relocation) (differ : NewRoomsDiffer ms) (before now : Text → Option Text)
     (apart : (p q room : Text) → before p ≡ Some room → before q ≡ Some room → p ≡ q)
     (from : (k : ℕ) → k < length ms → (get_or ms k ([], None, None)).1 ≡ before (get_or ms k ([], None, None)).0)

@@ -226,8 +226,7 @@ survives_still a =
     }
 
 -- The header and the records of some rows were written. These are the rows that the running query has given, and the
--- tables are
--- unchanged.
+-- tables are unchanged.
 abbrev pub UnderWay : {S : Type 0} → Ghosts S → ExportKind → List ℕ → (Row → Record) → Held S → Held S → ℕ → Output
     → Output → Type 0
 UnderWay g kind text fields first now sent before after =

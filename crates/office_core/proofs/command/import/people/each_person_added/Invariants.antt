@@ -4,8 +4,7 @@ use Rattle.office_core.specs.Inner.Tries.{IsIndexed}
 use Rattle.office_core.proofs.command.import.people.each_person_added.Given as goal
 
 -- the first refusal is that of the remaining records, checked against the office at that point; the changes so far,
--- followed by
--- those for the remaining records, are all changes
+-- followed by those for the remaining records, are all changes
 abbrev pub invariant-loop-i : goal.invariant-loop-i
 invariant-loop-i l = record {
   indexed : IsIndexed l.register;
