@@ -9,7 +9,7 @@ use Rattle.office_state.specs.Office.{is_over, owner}
 use Rattle.office_state.specs.Round.{result_by}
 use Rattle.office_state.specs.declared.office.Office.{Office}
 use Rattle.office_core.specs.Query.Overview.{move_rows, order_rows, person_rows, result_rows, room_rows}
-use Rattle.office_core.specs.Query.Personal.{IsNoGain, answer_unless, owner_answer, what_if_checks}
+use Rattle.office_core.specs.Query.Personal.{IsNoGain, result_unless, owner_answer, what_if_checks}
 use Rattle.office_core.specs.Refusal.Checks.{first_refusal}
 use Rattle.office_core.specs.declared.query.Query.{Query}
 use Rattle.office_core.specs.declared.query.Query.TheVariants as query
@@ -36,7 +36,7 @@ returned office (query.Moves number) =
     if is_over office number then Ok (reply.Moves (move_rows office number)) else Err NoSuchRound
 returned office (query.Me key) = owner_answer office (owner office key)
 returned office (query.WhatIf person choices) =
-    answer_unless (first_refusal (what_if_checks office person choices))
+    result_unless (first_refusal (what_if_checks office person choices))
     (reply.WouldGet (result_by office person choices))
 
 -- If the query is `WhatIf`, the person gains nothing by the other list. The reply to any other query meets this

@@ -27,7 +27,7 @@ use Rattle.office_state.proofs.round_phases.Untouched.{results_undrawn, undrawn}
 use Rattle.office_core.specs.Command.Import.{EntryCommand, bad_list, changes_by, changes_where}
 use Rattle.office_core.specs.Command.Import.{checks_where, choices_command, entries_in, grade_command}
 use Rattle.office_core.specs.Command.Import.{new_label_changes, new_label_checks, first_denied, keeping}
-use Rattle.office_core.specs.Command.Import.{list_refusal, may_import, next_where, office_after}
+use Rattle.office_core.specs.Command.Import.{list_refusal, may_import, next_where, office_after_entries}
 use Rattle.office_core.specs.Command.Import.{office_with, person_command, record_count, refusal_of}
 use Rattle.office_core.specs.Command.Import.{room_command}
 use Rattle.office_core.specs.Command.{checks, next}
@@ -122,14 +122,14 @@ grade_steps = record {
 record Leads (command : EntryCommand) (first office : Office) (entries : List command.Entry)
     (rest : List Change) : Type 0 where
   pub leads : applied_all office (changes_by command entries ++ rest)
-      ≡ applied_all (office_after command office entries) rest
-  pub apart : HomesStayDistinct (office_after command office entries) rest
+      ≡ applied_all (office_after_entries command office entries) rest
+  pub apart : HomesStayDistinct (office_after_entries command office entries) rest
       → HomesStayDistinct office (changes_by command entries ++ rest)
-  pub fits : AllFit first (office_after command office entries) rest
+  pub fits : AllFit first (office_after_entries command office entries) rest
       → AllFit first office (changes_by command entries ++ rest)
-  pub lawful : IsLawful (office_after command office entries)
-  pub lists : (office_after command office entries).lists ≡ office.lists
-  pub phase : (office_after command office entries).phase ≡ office.phase
+  pub lawful : IsLawful (office_after_entries command office entries)
+  pub lists : (office_after_entries command office entries).lists ≡ office.lists
+  pub phase : (office_after_entries command office entries).phase ≡ office.phase
 
 module _ (command : EntryCommand) (Good : command.Entry → Type 0) (steps : Steps command Good) where
   all_lead : (first office : Office) (at : ℕ) (entries : List command.Entry) (rest : List Change)
@@ -221,7 +221,7 @@ module _ (office : Office) (label : Text) (kind : ListKind) (bytes : List ℕ) (
   tried-leads : (command : EntryCommand) (Good : command.Entry → Type 0) → Steps command Good
       → (list_fault command.form (records_of bytes) ≡ None → Each Good (entries_in command bytes))
       → list_refusal command office bytes ≡ None
-      → LeadsTo office (keeping (office_after command office (entries_in command bytes)) label kind bytes)
+      → LeadsTo office (keeping (office_after_entries command office (entries_in command bytes)) label kind bytes)
       (changes_by command (entries_in command bytes) ++ KeepList label kind bytes (record_count bytes) ∷ [])
   tried-leads command Good steps good h =
       let entries = entries_in command bytes in
@@ -230,7 +230,7 @@ module _ (office : Office) (label : Text) (kind : ListKind) (bytes : List ℕ) (
       let keep : Change = KeepList label kind bytes (record_count bytes) in
       let led = all_lead command Good steps office office 1 entries (keep ∷ []) (good n.0)
       (λ room known. known) l n.1 in
-      let after = office_after command office entries in
+      let after = office_after_entries command office entries in
       let kept : AreValidImports (keeping after label kind bytes).lists =
       subst (λ lists. AreValidImports (map.insert lists label
       (record { kind = kind; bytes = bytes; count = record_count bytes }))) (sym led.lists)

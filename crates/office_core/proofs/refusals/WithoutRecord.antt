@@ -6,7 +6,7 @@ use Rattle.room_types.specs.Texts.{Text}
 use Rattle.office_state.specs.declared.office.Office.{Office}
 use Rattle.office_core.specs.Command.Decision.{IsRefusal, refusal_allocates}
 use Rattle.office_core.specs.Query.Answer.{IsAnswered, reply_allocates}
-use Rattle.office_core.specs.Query.Personal.{answer_unless}
+use Rattle.office_core.specs.Query.Personal.{result_unless}
 use Rattle.office_core.specs.Refusal.Checks.{Check, first_refusal, names_room, room_checks}
 use Rattle.office_core.specs.Refusal.Checks.{names_record}
 use Rattle.office_core.specs.declared.refusal.Refusal.{Refusal}
@@ -40,13 +40,13 @@ one_of false b n h = cc
 -- if such checks refuse a query, its answer is the first refusal that applies, or `OutOfMemory` for the room that it
 -- names
 pub IsAnswered-refused : (list : List Check) (given : Reply) (refusal : Refusal) → NameNoRecord list
-    → IsRefusal [] list refusal → IsAnswered (answer_unless (first_refusal list) given) (Err refusal)
-IsAnswered-refused list given refusal all (inl is) = inl (ap (λ o. answer_unless o given) is)
+    → IsRefusal [] list refusal → IsAnswered (result_unless (first_refusal list) given) (Err refusal)
+IsAnswered-refused list given refusal all (inl is) = inl (ap (λ o. result_unless o given) is)
 IsAnswered-refused list given refusal all (inr memory) =
     elim (first_refusal list) as
     (λ o. first_refusal list ≡ o → refusal_allocates [] o ≡ true
-    → (answer_unless o given ≡ Err refusal)
-    ⊎ ((refusal ≡ OutOfMemory) × (reply_allocates (answer_unless o given) ≡ true))) [
+    → (result_unless o given ≡ Err refusal)
+    ⊎ ((refusal ≡ OutOfMemory) × (reply_allocates (result_unless o given) ≡ true))) [
       | None ↦ λ e. λ t. cc
       | Some first ↦ λ e. λ t.
           inr (

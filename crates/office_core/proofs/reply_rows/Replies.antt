@@ -22,7 +22,7 @@ use Rattle.office_core.specs.Query.Overview.{order_rows}
 use Rattle.office_core.specs.Query.Overview.{person_row}
 use Rattle.office_core.specs.Query.Overview.{result_row, result_rows}
 use Rattle.office_core.specs.Query.Overview.{room_row}
-use Rattle.office_core.specs.Query.Personal.{answer_unless, what_if_checks}
+use Rattle.office_core.specs.Query.Personal.{result_unless, what_if_checks}
 use Rattle.office_core.specs.Refusal.Checks.{first_refusal}
 use Rattle.office_core.specs.Replies.{RowsAscend}
 use Rattle.office_core.specs.declared.command.Command.{Command}
@@ -41,7 +41,7 @@ if_ascends true given refusal h = h
 if_ascends false given refusal h = tt
 
 unless_ascends : (refused : Option Refusal) (given : Reply) → RowsAscend given
-    → IfOk (answer_unless refused given) RowsAscend
+    → IfOk (result_unless refused given) RowsAscend
 unless_ascends None given h = h
 unless_ascends (Some refusal) given h = tt
 

@@ -88,10 +88,10 @@ abbrev pub entries_in : (command : EntryCommand) → List ℕ → List command.E
 entries_in command bytes = map_list command.form.entry (data_records (records_of bytes))
 
 -- the office after the commands of these entries
-abbrev pub office_after : (command : EntryCommand) → Office → List command.Entry → Office
-office_after command office [] = office
-office_after command office (entry ∷ entries) =
-    office_after command (command.next office entry) entries
+abbrev pub office_after_entries : (command : EntryCommand) → Office → List command.Entry → Office
+office_after_entries command office [] = office
+office_after_entries command office (entry ∷ entries) =
+    office_after_entries command (command.next office entry) entries
 
 -- The office carries out the commands of the entries in order until it refuses one. The value is the refusal for the
 -- record of that entry, or `None` if the office refuses no command. `at` is the record number of the first entry.
@@ -123,10 +123,10 @@ refusal_of Grades = list_refusal grade_command
 
 -- the office after the commands of all records of a list of this kind
 abbrev pub office_with : ListKind → Office → List ℕ → Office
-office_with Rooms office bytes = office_after room_command office (entries_in room_command bytes)
-office_with People office bytes = office_after person_command office (entries_in person_command bytes)
-office_with Choices office bytes = office_after choices_command office (entries_in choices_command bytes)
-office_with Grades office bytes = office_after grade_command office (entries_in grade_command bytes)
+office_with Rooms office bytes = office_after_entries room_command office (entries_in room_command bytes)
+office_with People office bytes = office_after_entries person_command office (entries_in person_command bytes)
+office_with Choices office bytes = office_after_entries choices_command office (entries_in choices_command bytes)
+office_with Grades office bytes = office_after_entries grade_command office (entries_in grade_command bytes)
 
 -- a change for each entry
 abbrev pub changes_by : (command : EntryCommand) → List command.Entry → List Change

@@ -59,6 +59,6 @@ IsNoGain office person (reply.WouldGet room) =
 IsNoGain office person _ = Unit {0}
 
 -- the reply, unless there is a refusal
-abbrev pub answer_unless : Option Refusal → Reply → Result Reply Refusal
-answer_unless None reply = Ok reply
-answer_unless (Some refusal) reply = Err refusal
+abbrev pub result_unless : Option Refusal → Reply → Result Reply Refusal
+result_unless None reply = Ok reply
+result_unless (Some refusal) reply = Err refusal
