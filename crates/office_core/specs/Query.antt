@@ -20,7 +20,9 @@ use Rattle.office_core.specs.declared.reply.Reply.TheVariants as reply
 
 -- The reply to a query, or its refusal. `Order` is refused unless lottery numbers are drawn, `Results` unless the
 -- round has run, and `Moves` unless the round is over. `Round` returns the number of the latest round (0 before the
--- first), the phase, and three counts: all people, those who have withdrawn, and those who leave the college.
+-- first), the phase, and three counts: all people, those who have withdrawn, and those who leave the college. `Me`
+-- returns what the owner of the key may see, and is refused if nobody has the key. `WhatIf` returns the room that the
+-- person would get with the other list, and is refused by the first check of `what_if_checks` that applies.
 abbrev pub returned : Office → Query → Result Reply Refusal
 returned office query.Rooms = Ok (reply.Rooms (room_rows office))
 returned office query.People = Ok (reply.People (person_rows office))

@@ -1,4 +1,5 @@
--- The commands about people's lists: choices, withdrawals and departures of a round, and imported lists.
+-- The commands about people's lists (choices, withdrawals and departures of a round), and the blanking of an imported
+-- list.
 use Rattle.std.specs.FinMap as map
 use Rattle.std.specs.List.{flat_map}
 use Rattle.std.specs.Option.{is_some}

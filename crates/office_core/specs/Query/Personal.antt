@@ -44,6 +44,7 @@ abbrev pub owner_answer : Office → Option Text → Result Reply Refusal
 owner_answer office None = Err UnknownPerson
 owner_answer office (Some person) = person_answer office person (map.get office.people person)
 
+-- the round has run, the person is known and takes part, and each room of the other list is known and not shut
 abbrev pub what_if_checks : Office → Text → List Text → List Check
 what_if_checks office person choices =
     (not (has_results office.phase), BadPhase office.phase)
@@ -58,7 +59,7 @@ IsNoGain office person (reply.WouldGet room) =
     round_rank office person (recorded_result office person) ≤ round_rank office person room
 IsNoGain office person _ = Unit {0}
 
--- the reply, unless there is a refusal
+-- the refusal, if any, or else the reply
 abbrev pub result_unless : Option Refusal → Reply → Result Reply Refusal
 result_unless None reply = Ok reply
 result_unless (Some refusal) reply = Err refusal

@@ -2,9 +2,8 @@
 ghost use Rattle.std.specs.Prelude.{IfOk, OnOk};
 ghost use Rattle.office_state.specs.Change.{LeadsTo};
 ghost use Rattle.office_state.specs.Office.Invariants.{IsLawful};
-ghost use Rattle.office_core.specs.Command.Changes.{changes_of};
-ghost use Rattle.office_core.specs.Command.Decision.{Decides, IsDecided};
-ghost use Rattle.office_core.specs.Command.{checks, next, reply_to};
+ghost use Rattle.office_core.specs.Command.Decision.{Decides};
+ghost use Rattle.office_core.specs.Command.{next};
 ghost use Rattle.office_core.specs.Inner.Formed.{IsFormed};
 ghost use Rattle.office_core.specs.Replies.{RowsAscend};
 
@@ -40,8 +39,7 @@ use std::alloc::Global;
 /// changes. So these commands never fail with `OutOfMemory`.
 pub fn decide(alloc: Global, office: &Office, command: &Command) -> Result<Decision, Refusal>
     requires { IsLawful office.now }
-    ensures decides { IsDecided (checks office.now command.now) (reply_to office.now command.now)
-        (changes_of office.now command.now) result }
+    ensures decides { Decides office.now command.now result }
     ensures leads { IfOk result
         (λ decision. LeadsTo office.now (next office.now command.now) decision.changes.items) }
     ensures ascending { IfOk result (λ decision. RowsAscend decision.reply) }

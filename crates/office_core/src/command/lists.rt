@@ -1,4 +1,5 @@
-//! Decides the commands about people's lists: choices, withdrawals and departures, and imported lists.
+//! Decides the commands about people's lists (choices, withdrawals and departures), and the blanking of an imported
+//! list.
 ghost use Rattle.std.specs.Prelude.{OnOk};
 ghost use Rattle.room_types.specs.Choices.{IsChoices};
 ghost use Rattle.office_core.specs.Command.Decision.{Decides};
