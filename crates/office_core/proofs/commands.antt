@@ -1,4 +1,5 @@
 -- Lemmas on commands: where the changes of each lead.
+pub mod CarriedOut
 pub mod Changes
 pub mod Commands
 pub mod Frames
@@ -7,3 +8,4 @@ pub mod Words
 pub mod Lists
 pub mod Register
 pub mod Round
+pub mod Relisted

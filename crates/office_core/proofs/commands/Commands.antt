@@ -1,17 +1,17 @@
 -- The changes of each accepted command lead from a lawful office to a lawful one.
-use Rattle.std.proofs.Common.{◌≡◌, None, sym, subst}
+use Rattle.std.proofs.Common.{sym, subst}
 use Rattle.std.specs.Prelude.{Result, Ok, Err, IfOk, OnOk}
 use Rattle.office_state.specs.Change.{LeadsTo}
 use Rattle.office_state.specs.Office.Invariants.{IsLawful}
 use Rattle.office_state.specs.declared.office.Office.{Office}
-use Rattle.office_core.specs.Command.Changes.{changes_of}
 use Rattle.office_core.specs.Command.Decision.{Decides}
-use Rattle.office_core.specs.Command.{accepts, next}
+use Rattle.office_core.specs.Command.{next}
 use Rattle.office_core.specs.Inner.Formed.{IsFormed}
 use Rattle.office_core.specs.declared.command.Command.{Command}
 use Rattle.office_core.specs.declared.command.Command.TheVariants as command
 use Rattle.office_core.specs.declared.command.decision.Decision.{Decision}
 use Rattle.office_core.specs.declared.refusal.Refusal.{Refusal}
+use Rattle.office_core.proofs.commands.CarriedOut.{IsCarriedOut}
 use Rattle.office_core.proofs.imports.Import.{import-leads}
 use Rattle.office_core.proofs.commands.Register.{add_person-leads, add_room-leads, leave-leads, remove-leads}
 use Rattle.office_core.proofs.commands.Register.{reopen-leads, set_grade-leads, set_home-leads, set_key-leads}
@@ -21,8 +21,7 @@ use Rattle.office_core.proofs.commands.Round.{publish-leads, run-leads}
 use Rattle.office_core.proofs.commands.Lists.{blank-leads, going-leads, set_choices-leads, withdraw-leads}
 use Rattle.office_core.proofs.settlements.Settle.{settle-leads}
 
-pub accepted_command_leads : (office : Office) (given : Command) → IsFormed given → IsLawful office
-    → accepts office given ≡ None → LeadsTo office (next office given) (changes_of office given)
+pub accepted_command_leads : (office : Office) (given : Command) → IsFormed given → IsCarriedOut office given
 accepted_command_leads office (command.AddRoom room) f l h = add_room-leads office room l h
 accepted_command_leads office (command.AddPerson person name key home) f l h =
     add_person-leads office person name key home l h

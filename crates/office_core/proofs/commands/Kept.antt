@@ -10,8 +10,8 @@ use Rattle.room_types.specs.declared.phase.Phase.TheVariants.{Idle, Opened, Clos
 use Rattle.room_types.specs.declared.phase.Phase.TheVariants.{Published}
 use Rattle.office_state.specs.Office.Phases.{is_idle, is_open, is_closed, is_drawn, is_preparing}
 use Rattle.office_state.specs.Office.Phases.{has_results}
-use Rattle.office_state.specs.Change.{with_name_and_key}
 use Rattle.office_state.specs.declared.office.Office.{Office}
+use Rattle.office_state.specs.declared.office.person.Person.{Person}
 use Rattle.office_state.specs.declared.office.stored_import.StoredImport.{StoredImport}
 use Rattle.office_state.proofs.offices.Details.{renamed_stays}
 use Rattle.office_core.specs.Laws.{ends_round, replaces_details, KeepsResults}
@@ -21,6 +21,7 @@ use Rattle.office_core.specs.Command.{accepts, checks, next}
 use Rattle.office_core.specs.Command.Import.{checks_where, new_label_checks, may_import, next_where}
 use Rattle.office_core.specs.declared.command.Command.{Command}
 use Rattle.office_core.specs.declared.command.Command.TheVariants as command
+use Rattle.office_core.proofs.commands.Register.{office_renamed}
 
 -- the phase is none of those before the run
 record IsPast (phase : Phase) : Type 0 where
@@ -84,17 +85,22 @@ relisted replaces office lists there = record {
 }
 
 -- nor do names and keys
-renamed : (office : Office) (person name key : Text) → has_results office.phase ≡ true
-    → KeepsResults true office (with_name_and_key office person name key)
+renamed : (office : Office) (person : Text) (name key : Person → Text) → has_results office.phase ≡ true
+    → KeepsResults true office (office_renamed office person name key (map.get office.people person))
 renamed office person name key there =
-    let stays = renamed_stays office person name key in
-    record {
-      entries = stays.0;
-      number = sym stays.1;
-      results = sym stays.2;
-      still = ap has_results stays.3 ∙ there;
-      people = λ same. absurd (cc);
-    }
+    elim (map.get office.people person) as
+    (λ o. KeepsResults true office (office_renamed office person name key o)) [
+      | None ↦ relisted true office office.lists there
+      | Some kept ↦
+          let (entries, number, results, phase) = renamed_stays office person (name kept) (key kept) in
+          record {
+            entries = entries;
+            number = sym number;
+            results = sym results;
+            still = ap has_results phase ∙ there;
+            people = λ same. absurd (cc);
+          }
+    ]
 
 pub results_kept : (office : Office) (c : Command) → has_results office.phase ≡ true
     → accepts office c ≡ None → ends_round c ≡ false
@@ -159,21 +165,7 @@ results_kept office (command.Import label kind bytes) there ok goes_on =
     elim (map.get office.lists label) as
     (λ o. first_refusal (checks_where o office kind bytes) ≡ None
     → KeepsResults false office (next_where o office label kind bytes)) [
-      | Some list ↦ λ again. record {
-        entries = record {
-          rooms = refl;
-          homes = λ person. refl;
-          choices = refl;
-          withdrawn = refl;
-          words = refl;
-          grades = refl;
-          going = refl;
-        };
-        number = refl;
-        results = refl;
-        still = there;
-        people = λ same. refl;
-      }
+      | Some list ↦ λ again. relisted false office office.lists there
       | None ↦ λ first. absurd (stops (may_import kind office.phase)
           (may_import-past kind office.phase (past office.phase there))
           (passes (new_label_checks office kind bytes) first))
@@ -185,23 +177,9 @@ results_kept office (command.Going person) there ok goes_on =
     absurd (stops (is_open office.phase) (past office.phase there).opened
     (passes (checks office (command.Going person)) ok))
 results_kept office (command.SetName person name) there ok goes_on =
-    elim (map.get office.people person) as
-    (λ o. KeepsResults true office (elim o as (λ _. Office) [
-      | None ↦ office
-      | Some kept ↦ with_name_and_key office person name kept.key
-    ])) [
-      | None ↦ relisted true office office.lists there
-      | Some kept ↦ renamed office person name kept.key there
-    ]
+    renamed office person (λ _. name) (λ kept. kept.key) there
 results_kept office (command.SetKey person key) there ok goes_on =
-    elim (map.get office.people person) as
-    (λ o. KeepsResults true office (elim o as (λ _. Office) [
-      | None ↦ office
-      | Some kept ↦ with_name_and_key office person kept.name key
-    ])) [
-      | None ↦ relisted true office office.lists there
-      | Some kept ↦ renamed office person kept.name key there
-    ]
+    renamed office person (λ kept. kept.name) (λ _. key) there
 results_kept office (command.Blank label) there ok goes_on =
     elim (map.get office.lists label) as
     (λ o. KeepsResults false office (elim o as (λ _. Office) [

@@ -14,47 +14,39 @@ use Rattle.office_state.specs.Change.{LeadsTo}
 use Rattle.office_state.specs.Office.Invariants.{IsLawful}
 use Rattle.office_state.specs.declared.office.Office.{Office}
 use Rattle.office_state.specs.Office.{has_withdrawn, is_going}
-use Rattle.office_state.specs.declared.change.Change.TheVariants.{PutGoing, PutWithdrawn}
+use Rattle.office_state.specs.declared.change.Change.TheVariants.{PutBytes, PutChoices, PutGoing, PutWithdrawn}
 use Rattle.office_state.proofs.round_phases.Untouched.{open_busy, open_preparing, prepared}
 use Rattle.office_state.proofs.offices.ChoiceLists.{list_put, withdrawn_put}
 use Rattle.office_state.proofs.offices.Leavers.{leaver_put, leaver_withdrawn}
 use Rattle.office_state.proofs.offices.Details.{with_bytes-lawful}
-use Rattle.office_core.specs.Refusal.Checks.{first_refusal}
-use Rattle.office_core.specs.Command.Changes.{changes_of}
 use Rattle.office_core.specs.Command.Lists.{blanked}
 use Rattle.office_core.specs.Command.{checks, next}
 use Rattle.office_core.specs.declared.command.Command.TheVariants as command
 use Rattle.office_core.proofs.refusals.Checks.{known_all, none_applies}
+use Rattle.office_core.proofs.commands.CarriedOut.{IsCarriedOut, one_change}
 use Rattle.office_core.proofs.commands.Frames.{prepared-lawful}
 
 pub set_choices-leads : (office : Office) (person : Text) (choices : List Text) → IsChoices choices
-    → IsLawful office → first_refusal (checks office (command.SetChoices person choices)) ≡ None
-    → LeadsTo office (next office (command.SetChoices person choices))
-    (changes_of office (command.SetChoices person choices))
+    → IsCarriedOut office (command.SetChoices person choices)
 set_choices-leads office person choices formed l h =
-    let n = none_applies (checks office (command.SetChoices person choices)) h in
-    let busy = open_busy office.phase (not-false _ n.0) in
-    let new : Office = next office (command.SetChoices person choices) in
-    let lawful = prepared-lawful office new l (prepared office.phase
-    (open_preparing office.phase (not-false _ n.0))) refl (record {
+    let (in_phase, (known, (_, (_, codes)))) = none_applies (checks office (command.SetChoices person choices)) h in
+    let busy = open_busy office.phase (not-false _ in_phase) in
+    one_change office (PutChoices person choices) l (not-false _ known)
+    (prepared-lawful office (next office (command.SetChoices person choices)) l
+    (prepared office.phase (open_preparing office.phase (not-false _ in_phase))) refl
+    (record {
       grades = l.grades;
       leavers = l.leavers;
       register = l.register;
       lists = list_put office.rooms office.people office.choices office.withdrawn l.lists person
-          choices (not-false _ n.1.0) (known_all office choices n.1.1.1.1) formed;
+          choices (not-false _ known) (known_all office choices codes) formed;
       round = record {
         few_rounds = l.round.few_rounds;
         numbered = l.round.numbered;
         idle_choices = λ e. absurd (cc);
         idle_withdrawn = λ e. absurd (cc);
       };
-    }) in
-    record {
-      leads = refl;
-      apart = (l.register.homes, l.register.homes);
-      fits = (not-false _ n.1.0, tt);
-      lawful = lawful;
-    }
+    }))
 
 the_unit : (o : Option (Unit {0})) → is_some o ≡ true → o ≡ Some tt
 the_unit None h = cc
@@ -90,27 +82,19 @@ withdraw-leads_by office person true again l lawful known =
       fits = tt;
       lawful = lawful;
     }
-withdraw-leads_by office person false first l lawful known =
-    record {
-      leads = refl;
-      apart = (l.register.homes, l.register.homes);
-      fits = (known, tt);
-      lawful = lawful;
-    }
+withdraw-leads_by office person false first l lawful known = one_change office (PutWithdrawn person) l known lawful
 
-pub withdraw-leads : (office : Office) (person : Text) → IsLawful office
-    → first_refusal (checks office (command.Withdraw person)) ≡ None
-    → LeadsTo office (next office (command.Withdraw person)) (changes_of office (command.Withdraw person))
+pub withdraw-leads : (office : Office) (person : Text) → IsCarriedOut office (command.Withdraw person)
 withdraw-leads office person l h =
-    let n = none_applies (checks office (command.Withdraw person)) h in
-    let busy = open_busy office.phase (not-false _ n.0) in
-    let known = not-false _ n.1.0 in
+    let (in_phase, (is_known, (stays, _))) = none_applies (checks office (command.Withdraw person)) h in
+    let busy = open_busy office.phase (not-false _ in_phase) in
+    let known = not-false _ is_known in
     let new : Office = next office (command.Withdraw person) in
     let lawful = prepared-lawful office new l (prepared office.phase
-    (open_preparing office.phase (not-false _ n.0))) refl (record {
+    (open_preparing office.phase (not-false _ in_phase))) refl (record {
       grades = l.grades;
       leavers = leaver_withdrawn office.phase office.people office.withdrawn office.going l.leavers
-          person n.1.1.0;
+          person stays;
       register = l.register;
       lists = withdrawn_put office.rooms office.people office.choices office.withdrawn l.lists
           person known;
@@ -134,41 +118,25 @@ going-leads_by office person true again l lawful known =
       lawful = lawful;
     }
 going-leads_by office person false first l lawful known =
-    record {
-      leads = refl;
-      apart = (l.register.homes, l.register.homes);
-      fits = ((known, first), tt);
-      lawful = lawful;
-    }
+    one_change office (PutGoing person) l (known, first) lawful
 
-pub going-leads : (office : Office) (person : Text) → IsLawful office
-    → first_refusal (checks office (command.Going person)) ≡ None
-    → LeadsTo office (next office (command.Going person)) (changes_of office (command.Going person))
+pub going-leads : (office : Office) (person : Text) → IsCarriedOut office (command.Going person)
 going-leads office person l h =
-    let n = none_applies (checks office (command.Going person)) h in
-    let busy = open_busy office.phase (not-false _ n.0) in
-    let known = not-false _ n.1.0 in
+    let (in_phase, (is_known, (takes_part, _))) = none_applies (checks office (command.Going person)) h in
+    let busy = open_busy office.phase (not-false _ in_phase) in
+    let known = not-false _ is_known in
     let new : Office = next office (command.Going person) in
     let lawful = prepared-lawful office new l (prepared office.phase
-    (open_preparing office.phase (not-false _ n.0))) refl (record {
+    (open_preparing office.phase (not-false _ in_phase))) refl (record {
       register = l.register;
       lists = l.lists;
       round = l.round;
       grades = l.grades;
       leavers = leaver_put office.phase office.people office.withdrawn office.going l.leavers person
-          busy known n.1.1.0;
+          busy known takes_part;
     }) in
     going-leads_by office person (is_going office person) refl l lawful known
 
-pub blank-leads : (office : Office) (label : Text) → IsLawful office
-    → first_refusal (checks office (command.Blank label)) ≡ None
-    → LeadsTo office (next office (command.Blank label)) (changes_of office (command.Blank label))
+pub blank-leads : (office : Office) (label : Text) → IsCarriedOut office (command.Blank label)
 blank-leads office label l h =
-    let lawful : IsLawful (next office (command.Blank label)) =
-    with_bytes-lawful office label blanked l (omega arith) in
-    record {
-      leads = refl;
-      apart = (l.register.homes, lawful.register.homes);
-      fits = (tt, tt);
-      lawful = lawful;
-    }
+    one_change office (PutBytes label blanked) l tt (with_bytes-lawful office label blanked l (omega arith))

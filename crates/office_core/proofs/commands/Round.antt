@@ -1,6 +1,6 @@
 -- The commands that lead a round from phase to phase, or cancel it, preserve the invariants.
-use Rattle.std.proofs.Common.{Bool, List, None, Option, Some, T, [], ap, arith, cond, false, inl, inr, length}
-use Rattle.std.proofs.Common.{map as map_list, not, refl, sym, true, ℕ, ◌++◌, ◌||◌, ◌∙◌, ◌∷◌, ◌≡◌}
+use Rattle.std.proofs.Common.{Bool, List, Option, Some, T, [], ap, arith, cond, false, inl, inr, length}
+use Rattle.std.proofs.Common.{map as map_list, not, refl, sym, true, ℕ, ◌+◌, ◌++◌, ◌||◌, ◌∙◌, ◌∷◌, ◌≡◌}
 use Rattle.std.proofs.lemmas.Bool.{and_parts, eqb-true, leb-false, not-false}
 use Rattle.std.proofs.lemmas.Map.Keys.{IsDistinct-from_sorted}
 use Rattle.std.proofs.Math.Bool.{or-false}
@@ -16,7 +16,7 @@ use Rattle.room_types.specs.Texts.{Text, TextMap, text_cmp}
 use Rattle.room_types.specs.declared.phase.Phase.TheVariants.{Closed, Drawn, Idle, Opened, Published, Ran}
 use Rattle.room_types.proofs.maps.TextMaps.{first_holds, get-put_other, second_holds, text_cases}
 use Rattle.room_types.proofs.maps.Entries.{none_below}
-use Rattle.office_state.specs.Change.{AllFit, HomesStayDistinct, LeadsTo, applied_all, without_round}
+use Rattle.office_state.specs.Change.{AllFit, HomesStayDistinct, applied_all, without_round}
 use Rattle.office_state.specs.Office.Invariants.{AreValidGrades, AreValidMoves, HomesDiffer, IsLawful}
 use Rattle.office_state.specs.Office.Invariants.{IsValidRegister}
 use Rattle.office_state.specs.Office.Moves.{RoundMap}
@@ -41,13 +41,13 @@ use Rattle.office_state.proofs.round_problems.People.{participants_ascend, parti
 use Rattle.office_state.proofs.round_problems.Puts.{with_all-entries}
 use Rattle.office_state.proofs.round_outcomes.Results.{contains_key-round_results}
 use Rattle.office_state.proofs.round_outcomes.Stays.{round_results-along}
-use Rattle.office_core.specs.Refusal.Checks.{first_refusal}
-use Rattle.office_core.specs.Command.Changes.{changes_of, result_change}
+use Rattle.office_core.specs.Command.Changes.{result_change}
 use Rattle.office_core.specs.Command.Round.{with_words}
 use Rattle.office_core.specs.Command.{checks, next}
 use Rattle.office_core.specs.declared.command.Command.TheVariants as command
 use Rattle.office_core.proofs.refusals.Checks.{none_applies}
 use Rattle.office_core.proofs.commands.Words.{with_words-has, word_changes-apart, word_changes-fit, word_changes-lead}
+use Rattle.office_core.proofs.commands.CarriedOut.{IsCarriedOut, one_change}
 use Rattle.office_core.proofs.commands.Frames.{under_way-lawful}
 
 -- the office between two rounds, with these people and moves
@@ -75,14 +75,14 @@ ended-lawful office people moves l register are_grades are_moves = record {
   moves = are_moves;
 }
 
-pub open_round-leads : (office : Office) → IsLawful office → first_refusal (checks office command.OpenRound) ≡ None
-    → LeadsTo office (next office command.OpenRound) (changes_of office command.OpenRound)
+pub open_round-leads : (office : Office) → IsCarriedOut office command.OpenRound
 open_round-leads office l h =
-    let n = none_applies (checks office command.OpenRound) h in
-    let idle = not-false _ n.0 in
+    let (in_phase, (below_limit, _)) = none_applies (checks office command.OpenRound) h in
+    let idle = not-false _ in_phase in
     let u = undrawn office l (prepared office.phase (idle_preparing office.phase idle)) in
-    let few = leb-false round_limit office.number n.1.0 in
-    let lawful : IsLawful (next office command.OpenRound) = record {
+    let few = leb-false round_limit office.number below_limit in
+    one_change office (PutRound (office.number + 1) Opened) l tt
+    (record {
       kept = l.kept;
       grades = l.grades;
       leavers = leaver_phase office.phase office.people office.withdrawn office.going l.leavers
@@ -98,42 +98,26 @@ open_round-leads office l h =
       words = words_undrawn Opened office.people office.withdrawn office.going office.words refl u.no_words;
       results = results_undrawn (next office command.OpenRound) refl u.no_results;
       moves = moves_stay office (next office command.OpenRound) refl (over-begun office idle) l.moves;
-    } in
-    record {
-      leads = refl;
-      apart = (l.register.homes, l.register.homes);
-      fits = (tt, tt);
-      lawful = lawful;
-    }
+    })
 
-pub close_round-leads : (office : Office) → IsLawful office → first_refusal (checks office command.CloseRound) ≡ None
-    → LeadsTo office (next office command.CloseRound) (changes_of office command.CloseRound)
+pub close_round-leads : (office : Office) → IsCarriedOut office command.CloseRound
 close_round-leads office l h =
-    let n = none_applies (checks office command.CloseRound) h in
-    let busy = open_busy office.phase (not-false _ n.0) in
-    let u = undrawn office l (prepared office.phase
-    (open_preparing office.phase (not-false _ n.0))) in
-    let lawful : IsLawful (next office command.CloseRound) =
-    under_way-lawful office Closed office.words office.results l busy refl
+    let (in_phase, _) = none_applies (checks office command.CloseRound) h in
+    let busy = open_busy office.phase (not-false _ in_phase) in
+    let u = undrawn office l (prepared office.phase (open_preparing office.phase (not-false _ in_phase))) in
+    one_change office (PutRound office.number Closed) l tt
+    (under_way-lawful office Closed office.words office.results l busy refl
     (words_undrawn Closed office.people office.withdrawn office.going office.words refl u.no_words)
-    (results_undrawn (next office command.CloseRound) refl u.no_results) in
-    record {
-      leads = refl;
-      apart = (l.register.homes, l.register.homes);
-      fits = (tt, tt);
-      lawful = lawful;
-    }
+    (results_undrawn (next office command.CloseRound) refl u.no_results))
 
-pub draw-leads : (office : Office) (words : List ℕ) → IsLawful office
-    → first_refusal (checks office (command.Draw words)) ≡ None
-    → LeadsTo office (next office (command.Draw words)) (changes_of office (command.Draw words))
+pub draw-leads : (office : Office) (words : List ℕ) → IsCarriedOut office (command.Draw words)
 draw-leads office words l h =
-    let n = none_applies (checks office (command.Draw words)) h in
-    let closed = not-false _ n.0 in
+    let (in_phase, (counted, _)) = none_applies (checks office (command.Draw words)) h in
+    let closed = not-false _ in_phase in
     let busy = closed_busy office.phase closed in
     let u = undrawn office l (closed_undrawn office.phase closed) in
     let people : List Text = participants office in
-    let same : length words ≡ length people = eqb-true _ _ (not-false _ n.1.0) in
+    let same : length words ≡ length people = eqb-true _ _ (not-false _ counted) in
     let new : Office = next office (command.Draw words) in
     let rest : List Change = PutRound office.number Drawn ∷ [] in
     let lawful : IsLawful new =
@@ -220,11 +204,10 @@ results-fit first office (e ∷ es) rest sorted new s = (
       )) s,
 )
 
-pub run-leads : (office : Office) → IsLawful office → first_refusal (checks office command.Run) ≡ None
-    → LeadsTo office (next office command.Run) (changes_of office command.Run)
+pub run-leads : (office : Office) → IsCarriedOut office command.Run
 run-leads office l h =
-    let n = none_applies (checks office command.Run) h in
-    let drawn = not-false _ n.0 in
+    let (in_phase, _) = none_applies (checks office command.Run) h in
+    let drawn = not-false _ in_phase in
     let busy = drawn_busy office.phase drawn in
     let new : Office = next office command.Run in
     let rest : List Change = PutRound office.number Ran ∷ [] in
@@ -257,14 +240,13 @@ run-leads office l h =
       lawful = lawful;
     }
 
-pub publish-leads : (office : Office) → IsLawful office → first_refusal (checks office command.Publish) ≡ None
-    → LeadsTo office (next office command.Publish) (changes_of office command.Publish)
+pub publish-leads : (office : Office) → IsCarriedOut office command.Publish
 publish-leads office l h =
-    let n = none_applies (checks office command.Publish) h in
-    let ran = not-false _ n.0 in
+    let (in_phase, _) = none_applies (checks office command.Publish) h in
+    let ran = not-false _ in_phase in
     let busy = ran_busy office.phase ran in
-    let lawful : IsLawful (next office command.Publish) =
-    under_way-lawful office Published office.words office.results l busy refl
+    one_change office (PutRound office.number Published) l tt
+    (under_way-lawful office Published office.words office.results l busy refl
     (record {
       none = λ e. absurd (cc);
       each = λ _. l.words.each (ran_worded office.phase ran);
@@ -273,16 +255,9 @@ publish-leads office l h =
       none = λ e. absurd (cc);
       given = λ _. l.results.given (ran_given office.phase ran)
           ∙ sym (round_results-along office office.results Published);
-    }) in
-    record {
-      leads = refl;
-      apart = (l.register.homes, l.register.homes);
-      fits = (tt, tt);
-      lawful = lawful;
-    }
+    }))
 
-pub cancel-leads : (office : Office) → IsLawful office → first_refusal (checks office command.Cancel) ≡ None
-    → LeadsTo office (next office command.Cancel) (changes_of office command.Cancel)
+pub cancel-leads : (office : Office) → IsCarriedOut office command.Cancel
 cancel-leads office l h =
     let lawful : IsLawful (next office command.Cancel) =
     ended-lawful office office.people office.moves l l.register l.grades

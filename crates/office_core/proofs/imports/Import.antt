@@ -16,26 +16,23 @@ use Rattle.office_state.specs.Change.{AllFit, Fits, LeadsTo, HomesStayDistinct, 
 use Rattle.office_state.specs.Office.{knows_room}
 use Rattle.office_state.specs.Office.Invariants.{AreValidImports, IsLawful}
 use Rattle.office_state.specs.Office.Limits.{byte_limit, label_limit}
-use Rattle.office_state.specs.Office.Phases.{is_preparing}
 use Rattle.office_state.specs.declared.change.Change.{Change}
 use Rattle.office_state.specs.declared.change.Change.TheVariants.{KeepList}
 use Rattle.office_state.specs.declared.office.Office.{Office}
 use Rattle.office_state.specs.declared.office.stored_import.StoredImport.{StoredImport}
 use Rattle.office_state.proofs.offices.Register.{len-put_within}
-use Rattle.office_state.proofs.round_phases.Untouched.{moves_stay, open_preparing, prepared}
-use Rattle.office_state.proofs.round_phases.Untouched.{results_undrawn, undrawn}
+use Rattle.office_core.proofs.commands.Relisted.{relisted-lawful}
 use Rattle.office_core.specs.Command.Import.{EntryCommand, bad_list, changes_by, changes_where}
 use Rattle.office_core.specs.Command.Import.{checks_where, choices_command, entries_in, grade_command}
 use Rattle.office_core.specs.Command.Import.{new_label_changes, new_label_checks, first_denied, keeping}
 use Rattle.office_core.specs.Command.Import.{list_refusal, may_import, next_where, office_after_entries}
 use Rattle.office_core.specs.Command.Import.{office_with, person_command, record_count, refusal_of}
 use Rattle.office_core.specs.Command.Import.{room_command}
-use Rattle.office_core.specs.Command.{checks, next}
-use Rattle.office_core.specs.Command.Changes.{changes_of}
 use Rattle.office_core.specs.declared.command.Command.TheVariants as commands
 use Rattle.office_core.specs.Refusal.{number_of}
 use Rattle.office_core.specs.Refusal.Checks.{first_refusal}
 use Rattle.office_core.specs.declared.refusal.Refusal.TheVariants as refused
+use Rattle.office_core.proofs.commands.CarriedOut.{IsCarriedOut, no_change}
 use Rattle.office_core.proofs.commands.Lists.{set_choices-leads}
 use Rattle.office_core.proofs.commands.Register.{add_person-leads, add_room-leads, set_grade-leads}
 use Rattle.office_core.proofs.imports.ListChecks.{first_of_list}
@@ -59,8 +56,6 @@ record Steps (command : EntryCommand) (Good : command.Entry → Type 0) : Type 0
       → Grows first (command.next office entry)
   pub lists : (office : Office) (entry : command.Entry)
       → (command.next office entry).lists ≡ office.lists
-  pub phase : (office : Office) (entry : command.Entry)
-      → (command.next office entry).phase ≡ office.phase
 
 unknown_first : (first office : Office) (room : Text) → Grows first office
     → knows_room office room ≡ false → knows_room office room ≡ knows_room first room
@@ -76,11 +71,11 @@ room_steps = record {
   applies = λ office room. refl;
   lawful = λ office room good l h. (add_room-leads office room l h).lawful;
   fits = λ first office room good grows l h.
-      unknown_first first office room grows (none_applies (room_command.checks office room) h).1.0;
+      let (_, (new, _)) = none_applies (room_command.checks office room) h in
+      unknown_first first office room grows new;
   grows = λ first office room grows q known.
       contains_key-put office.rooms room false q (grows q known);
   lists = λ office room. refl;
-  phase = λ office room. refl;
 }
 
 person_steps : Steps person_command (λ entry. Unit {0})
@@ -92,7 +87,6 @@ person_steps = record {
       (add_person-leads office e.person e.name e.key e.home l h).fits.0;
   grows = λ first office e grows q known. grows q known;
   lists = λ office e. refl;
-  phase = λ office e. refl;
 }
 
 choices_steps : Steps choices_command (λ entry. IsChoices entry.choices)
@@ -104,7 +98,6 @@ choices_steps = record {
       (set_choices-leads office e.person e.choices good l h).fits.0;
   grows = λ first office e grows q known. grows q known;
   lists = λ office e. refl;
-  phase = λ office e. refl;
 }
 
 grade_steps : Steps grade_command (λ entry. Unit {0})
@@ -115,7 +108,6 @@ grade_steps = record {
       (set_grade-leads office e.person e.grade l h).fits.0;
   grows = λ first office e grows q known. grows q known;
   lists = λ office e. refl;
-  phase = λ office e. refl;
 }
 
 -- the changes of records, followed by any others, lead to the office after the records
@@ -129,7 +121,6 @@ record Leads (command : EntryCommand) (first office : Office) (entries : List co
       → AllFit first office (changes_by command entries ++ rest)
   pub lawful : IsLawful (office_after_entries command office entries)
   pub lists : (office_after_entries command office entries).lists ≡ office.lists
-  pub phase : (office_after_entries command office entries).phase ≡ office.phase
 
 module _ (command : EntryCommand) (Good : command.Entry → Type 0) (steps : Steps command Good) where
   all_lead : (first office : Office) (at : ℕ) (entries : List command.Entry) (rest : List Change)
@@ -142,7 +133,6 @@ module _ (command : EntryCommand) (Good : command.Entry → Type 0) (steps : Ste
     fits = λ f. f;
     lawful = l;
     lists = refl;
-    phase = refl;
   }
   all_lead first office at (entry ∷ entries) rest good grows l h =
       let after = command.next office entry in
@@ -165,7 +155,6 @@ module _ (command : EntryCommand) (Good : command.Entry → Type 0) (steps : Ste
         );
         lawful = later.lawful;
         lists = later.lists ∙ steps.lists office entry;
-        phase = later.phase ∙ steps.phase office entry;
       }
 
 -- what holds for all stored lists and for one more holds for all after that one is stored
@@ -193,31 +182,10 @@ kept_put lists label list kept new few short counted = record {
   counted = all_put (λ k. k.count ≤ record_limit) lists label list kept.counted counted;
 }
 
--- storing a list before the draw preserves the invariants
-keeping-lawful : (office : Office) (label : Text) (kind : ListKind) (bytes : List ℕ)
-    → IsLawful office → is_preparing office.phase ≡ true
-    → AreValidImports (keeping office label kind bytes).lists
-    → IsLawful (keeping office label kind bytes)
-keeping-lawful office label kind bytes l before kept =
-    let u = undrawn office l (prepared office.phase before) in
-    let new : Office = keeping office label kind bytes in
-    record {
-      kept = kept;
-      register = l.register;
-      grades = l.grades;
-      leavers = l.leavers;
-      lists = l.lists;
-      round = l.round;
-      words = l.words;
-      results = results_undrawn new u.has_no_results u.no_results;
-      moves = moves_stay office new refl (λ round o. o) l.moves;
-    }
-
 module _ (office : Office) (label : Text) (kind : ListKind) (bytes : List ℕ) (l : IsLawful office)
     (new : map.get office.lists label ≡ None)
     (few : nat_le label_limit (map.len office.lists) ≡ false)
-    (short : nat_lt byte_limit (length bytes) ≡ false)
-    (before : is_preparing office.phase ≡ true) where
+    (short : nat_lt byte_limit (length bytes) ≡ false) where
   tried-leads : (command : EntryCommand) (Good : command.Entry → Type 0) → Steps command Good
       → (list_fault command.form (records_of bytes) ≡ None → Each Good (entries_in command bytes))
       → list_refusal command office bytes ≡ None
@@ -237,8 +205,8 @@ module _ (office : Office) (label : Text) (kind : ListKind) (bytes : List ℕ) (
       (kept_put office.lists label
       (record { kind = kind; bytes = bytes; count = record_count bytes }) l.kept new few
       (ltb-false byte_limit (length bytes) short) (few_records command.form bytes n.0)) in
-      let lawful = keeping-lawful after label kind bytes led.lawful
-      (ap is_preparing led.phase ∙ before) kept in
+      let lawful : IsLawful (keeping after label kind bytes) =
+      relisted-lawful after (keeping after label kind bytes).lists led.lawful kept in
       record {
         leads = led.leads;
         apart = led.apart (led.lawful.register.homes, lawful.register.homes);
@@ -250,52 +218,39 @@ each_any : {A : Type 0} (list : List A) → Each (λ x. Unit {0}) list
 each_any [] = tt
 each_any (x ∷ rest) = (tt, each_any rest)
 
-comes_before : (kind : ListKind) (office : Office) → may_import kind office.phase ≡ true
-    → is_preparing office.phase ≡ true
-comes_before Rooms office h = h
-comes_before People office h = h
-comes_before Choices office h = open_preparing office.phase h
-comes_before Grades office h = h
-
 -- importing a list under a new label leads to a lawful office
 new-leads : (office : Office) (label : Text) (kind : ListKind) (bytes : List ℕ) → IsLawful office
     → map.get office.lists label ≡ None → first_refusal (new_label_checks office kind bytes) ≡ None
     → LeadsTo office (keeping (office_with kind office bytes) label kind bytes)
     (new_label_changes label kind bytes)
 new-leads office label kind bytes l new h =
-    let n = none_applies (new_label_checks office kind bytes) h in
-    let may = not-false (may_import kind office.phase) n.0 in
-    let good : refusal_of kind office bytes ≡ None =
-    sym (first_of_list office kind bytes may n.1.0 n.1.1.0) ∙ h in
-    by kind n.1.0 n.1.1.0 (comes_before kind office may) good
+    let (in_phase, (few, (short, _))) = none_applies (new_label_checks office kind bytes) h in
+    by kind few short
+    (sym (first_of_list office kind bytes (not-false (may_import kind office.phase) in_phase) few short) ∙ h)
   where
     by : (kind : ListKind) → nat_le label_limit (map.len office.lists) ≡ false
-        → nat_lt byte_limit (length bytes) ≡ false → is_preparing office.phase ≡ true
-        → refusal_of kind office bytes ≡ None
+        → nat_lt byte_limit (length bytes) ≡ false → refusal_of kind office bytes ≡ None
         → LeadsTo office (keeping (office_with kind office bytes) label kind bytes)
         (new_label_changes label kind bytes)
-    by Rooms few short before good =
-        tried-leads office label Rooms bytes l new few short before room_command (λ x. Unit {0})
+    by Rooms few short good =
+        tried-leads office label Rooms bytes l new few short room_command (λ x. Unit {0})
         room_steps (λ e. each_any (entries_in room_command bytes)) good
-    by People few short before good =
-        tried-leads office label People bytes l new few short before person_command (λ x. Unit {0})
+    by People few short good =
+        tried-leads office label People bytes l new few short person_command (λ x. Unit {0})
         person_steps (λ e. each_any (entries_in person_command bytes)) good
-    by Choices few short before good =
-        tried-leads office label Choices bytes l new few short before choices_command
+    by Choices few short good =
+        tried-leads office label Choices bytes l new few short choices_command
         (λ entry. IsChoices entry.choices) choices_steps (each_recordable bytes) good
-    by Grades few short before good =
-        tried-leads office label Grades bytes l new few short before grade_command (λ x. Unit {0})
+    by Grades few short good =
+        tried-leads office label Grades bytes l new few short grade_command (λ x. Unit {0})
         grade_steps (λ e. each_any (entries_in grade_command bytes)) good
 
 pub import-leads : (office : Office) (label : Text) (kind : ListKind) (bytes : List ℕ)
-    → IsLawful office → first_refusal (checks office (commands.Import label kind bytes)) ≡ None
-    → LeadsTo office (next office (commands.Import label kind bytes))
-    (changes_of office (commands.Import label kind bytes))
+    → IsCarriedOut office (commands.Import label kind bytes)
 import-leads office label kind bytes l h =
     elim (map.get office.lists label) as
     (λ o. map.get office.lists label ≡ o → first_refusal (checks_where o office kind bytes) ≡ None
     → LeadsTo office (next_where o office label kind bytes) (changes_where o label kind bytes)) [
-      | Some kept ↦ λ known. λ ok.
-          record { leads = refl; apart = l.register.homes; fits = tt; lawful = l }
+      | Some kept ↦ λ known. λ ok. no_change office l
       | None ↦ λ new. λ ok. new-leads office label kind bytes l new ok
     ] refl h

@@ -36,7 +36,8 @@ open_room (Some shut) known unshut = ap (λ b. Some b) unshut
 pub may_live : (office : Office) (room : Text) → NoneApplies (home_checks office room)
     → (map.get office.rooms room ≡ Some false) × (tenant office room ≡ None)
 may_live office room n =
-    (open_room (map.get office.rooms room) n.0 n.1.0, none_if_not_some (tenant office room) n.1.1.0)
+    let (known, (unshut, (free, _))) = n in
+    (open_room (map.get office.rooms room) known unshut, none_if_not_some (tenant office room) free)
 
 -- the same for an optional home, with other checks after its own
 pub may_have_home : (office : Office) (home : Option Text) (others : List Check)
@@ -46,14 +47,15 @@ pub may_have_home : (office : Office) (home : Option Text) (others : List Check)
     × NoneApplies others
 may_have_home office None others n = ((λ room e. cc), n)
 may_have_home office (Some home) others n =
-    let may = may_live office home (n.0, (n.1.0, (n.1.1.0, tt))) in (
+    let (known, (unshut, (free, rest))) = n in
+    let may = may_live office home (known, (unshut, (free, tt))) in (
       (λ room e.
           let same : home ≡ room = cc in (
             ap (λ r. map.get office.rooms r) (sym same) ∙ may.0,
             ap (λ r. tenant office r) (sym same)
                 ∙ may.1,
           )),
-      n.1.1.1,
+      rest,
     )
 
 pub known_all : (office : Office) (codes : List Text)
@@ -61,5 +63,6 @@ pub known_all : (office : Office) (codes : List Text)
     → All (λ code. knows_room office code ≡ true) codes
 known_all office [] n = All-nil (λ c. knows_room office c ≡ true)
 known_all office (code ∷ codes) n =
-    All-cons (λ c. knows_room office c ≡ true) code codes (not-false (knows_room office code) n.0)
-    (known_all office codes n.1.1)
+    let (known, (_, rest)) = n in
+    All-cons (λ c. knows_room office c ≡ true) code codes (not-false (knows_room office code) known)
+    (known_all office codes rest)

@@ -39,8 +39,7 @@ use Rattle.office_state.proofs.moving_people.Settled.{KeepsMoves, with_moves-kee
 use Rattle.office_state.proofs.moving_people.Settled.{relocations_lead, relocations_differ, new_rooms_differ}
 use Rattle.office_state.proofs.moving_people.Settled.{settled_register}
 use Rattle.office_state.proofs.moving_people.Settling.{home_in}
-use Rattle.office_core.specs.Refusal.Checks.{first_refusal}
-use Rattle.office_core.specs.Command.{checks, next}
+use Rattle.office_core.specs.Command.{accepts, checks, next}
 use Rattle.office_core.specs.Command.Changes.{changes_of, first_out}
 use Rattle.office_core.specs.declared.command.Command.TheVariants as command
 use Rattle.office_core.proofs.refusals.Checks.{none_applies}
@@ -63,7 +62,7 @@ none_yet office l open_round (m ∷ ms) = (
   none_yet office l open_round ms,
 )
 
-module _ (office : Office) (l : IsLawful office) (h : first_refusal (checks office command.Settle) ≡ None) where
+module _ (office : Office) (l : IsLawful office) (h : accepts office command.Settle ≡ None) where
   abbrev ms : List Relocation
   ms = relocations office
 
@@ -80,7 +79,7 @@ module _ (office : Office) (l : IsLawful office) (h : first_refusal (checks offi
   left = left_people office.people gone
 
   published : is_published office.phase ≡ true
-  published = not-false _ (none_applies (checks office command.Settle) h).0
+  published = let (in_phase, _) = none_applies (checks office command.Settle) h in not-false _ in_phase
 
   results_are_given : office.results ≡ round_results office
   results_are_given = l.results.given (published_given office.phase published)

@@ -1,6 +1,6 @@
-use Rattle.std.proofs.Common.{◌≡◌, ◌≤◌, true, refl, subst, sym}
+use Rattle.std.proofs.Common.{◌≤◌, refl, subst, sym}
 use Rattle.std.proofs.lemmas.Bool.{not-false}
-use Rattle.office_state.specs.Round.{is_participant, round_rank}
+use Rattle.office_state.specs.Round.{round_rank}
 use Rattle.office_state.proofs.round_outcomes.WellTraded.{recorded}
 use Rattle.office_core.specs.Query.Personal.{what_if_checks}
 use Rattle.office_core.proofs.refusals.Checks.{none_applies}
@@ -14,10 +14,10 @@ pub returns-clause-no_gain : goal.returns-clause-no_gain
 returns-clause-no_gain c =
     let office = c.args.office.now in
     let person = c.args.person.now in
-    let n = none_applies (what_if_checks office person c.args.choices.now) c.in_ok-may_ask.ensures in
-    let part : is_participant office person ≡ true = not-false _ n.1.1.0 in
+    let (has_run, (_, (takes_part, _))) =
+    none_applies (what_if_checks office person c.args.choices.now) c.in_ok-may_ask.ensures in
     subst (λ room. round_rank office person room ≤ round_rank office person c.in_ok-room.room)
-    (sym (recorded office c.requires (not-false _ n.0) person part))
+    (sym (recorded office c.requires (not-false _ has_run) person (not-false _ takes_part)))
     c.in_ok-room.ensures.no_gain
 
 pub returns-in_err-may_ask-clause-returned : goal.returns-in_err-may_ask-clause-returned
