@@ -50,9 +50,9 @@ without_person office person = record office {
 }
 
 -- the preference lists after setting a person's list. An empty list is not stored: it removes the person's list.
-abbrev pub with_list : TextMap (List Text) → Text → List Text → TextMap (List Text)
-with_list lists person [] = map.remove lists person
-with_list lists person (code ∷ codes) = map.insert lists person (code ∷ codes)
+abbrev pub with_choice_list : TextMap (List Text) → Text → List Text → TextMap (List Text)
+with_choice_list lists person [] = map.remove lists person
+with_choice_list lists person (code ∷ codes) = map.insert lists person (code ∷ codes)
 
 -- the grades after setting a person's grade. Grade 0 is not stored: it removes the person's grade.
 abbrev pub with_grade : TextMap ℕ → Text → ℕ → TextMap ℕ
@@ -85,7 +85,7 @@ applied office (PutNameAndKey person name key) = with_name_and_key office person
 applied office (PutWithdrawn person) =
     record office { withdrawn = map.insert office.withdrawn person tt }
 applied office (PutChoices person choices) =
-    record office { choices = with_list office.choices person choices }
+    record office { choices = with_choice_list office.choices person choices }
 applied office (PutWord person word) = record office { words = map.insert office.words person word }
 applied office (PutResult person room) =
     record office { results = map.insert office.results person (record { room = room }) }

@@ -111,8 +111,8 @@ abbrev pub sits_out : Office → Text → Bool
 sits_out office person = has_withdrawn office person || is_going office person
 
 -- a person's recorded grade, or 0 if none is recorded
-abbrev pub grade_of : Office → Text → ℕ
-grade_of office person = unwrap_or (map.get office.grades person) 0
+abbrev pub recorded_grade : Office → Text → ℕ
+recorded_grade office person = unwrap_or (map.get office.grades person) 0
 
 -- a person's recorded preference list, or the empty list if none is recorded
 abbrev pub choices_of : Office → Text → List Text

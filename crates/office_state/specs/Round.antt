@@ -15,7 +15,7 @@ use Rattle.trade_line.specs.OtherList.{with_list}
 use Rattle.trade_line.specs.Rank.{rank}
 use Rattle.trade_line.specs.TopTradingCycles.{gets}
 use Rattle.office_state.specs.Office.{is_text, knows_person, lives_in, home_of, has_withdrawn}
-use Rattle.office_state.specs.Office.{sits_out, grade_of, choices_of, participants}
+use Rattle.office_state.specs.Office.{sits_out, recorded_grade, choices_of, participants}
 use Rattle.office_state.specs.declared.office.Assigned.{Assigned}
 use Rattle.office_state.specs.declared.office.Office.{Office}
 
@@ -30,7 +30,7 @@ word_of office person = unwrap_or (map.get office.words person) 0
 -- the identifier, grade and word of each participant, in order of identifier
 abbrev pub tickets_of : Office → List Ticket
 tickets_of office =
-    map_list (λ person. (person, grade_of office person, word_of office person))
+    map_list (λ person. (person, recorded_grade office person, word_of office person))
     (participants office)
 
 -- the participants in the drawn order: by grade, then by word, then by identifier

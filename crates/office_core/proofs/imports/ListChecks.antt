@@ -17,7 +17,7 @@ use Rattle.office_lists.specs.declared.fault.ListFault.{ListFault}
 use Rattle.office_lists.specs.declared.fault.ListFault.TheVariants as list
 use Rattle.office_state.specs.Empty.{is_empty}
 use Rattle.office_state.specs.Office.Limits.{byte_limit, label_limit}
-use Rattle.office_state.specs.Change.{with_grade, with_list}
+use Rattle.office_state.specs.Change.{with_grade, with_choice_list}
 use Rattle.office_state.specs.declared.change.Change.{Change}
 use Rattle.office_state.specs.declared.change.Change.TheVariants.{KeepList}
 use Rattle.office_state.specs.declared.office.Office.{Office}
@@ -97,16 +97,16 @@ choices_free office lists at (entry ∷ entries) =
     ap (λ rest. option_map_or
     (λ refusal. Some (refused.BadRecord at (Denied (number_of refusal))))
     (first_refusal (choices_command.checks office entry)) rest)
-    (choices_free office (with_list lists entry.person entry.choices) (at + 1) entries
-    ∙ sym (choices_free office (with_list office.choices entry.person entry.choices) (at + 1)
+    (choices_free office (with_choice_list lists entry.person entry.choices) (at + 1) entries
+    ∙ sym (choices_free office (with_choice_list office.choices entry.person entry.choices) (at + 1)
     entries))
 
 pub choices_later : (office : Office) (at : ℕ) (entry : ChoicesEntry) (entries : List ChoicesEntry)
     → first_denied choices_command
-    (record office { choices = with_list office.choices entry.person entry.choices }) at entries
+    (record office { choices = with_choice_list office.choices entry.person entry.choices }) at entries
     ≡ first_denied choices_command office at entries
 choices_later office at entry entries =
-    choices_free office (with_list office.choices entry.person entry.choices) at entries
+    choices_free office (with_choice_list office.choices entry.person entry.choices) at entries
 
 -- the refusal of a list of grades does not depend on the recorded grades
 grades_free : (office : Office) (grades : TextMap ℕ) (at : ℕ) (entries : List GradeRow)

@@ -5,7 +5,7 @@ use Rattle.std.specs.List.{flat_map}
 use Rattle.std.specs.Option.{is_some}
 use Rattle.std.specs.Prelude.{List, [], codes, not, ℕ, ◌&&◌, ◌∷◌}
 use Rattle.room_types.specs.Texts.{Text}
-use Rattle.office_state.specs.Change.{with_bytes, with_list}
+use Rattle.office_state.specs.Change.{with_bytes, with_choice_list}
 use Rattle.office_state.specs.Office.Phases.{is_open}
 use Rattle.office_state.specs.Office.{has_withdrawn, home_of, is_going, knows_person}
 use Rattle.office_core.specs.Command.Rule.{CommandRule}
@@ -23,7 +23,7 @@ set_choices person choices = record {
       ∷ (has_withdrawn office person, Withdrawn)
       ∷ (is_going office person, Going)
       ∷ flat_map (room_checks office) choices;
-  next = λ office. record office { choices = with_list office.choices person choices };
+  next = λ office. record office { choices = with_choice_list office.choices person choices };
   reply = λ office. reply.Chosen choices;
 }
 

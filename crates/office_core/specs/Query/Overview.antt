@@ -9,7 +9,7 @@ use Rattle.room_types.specs.declared.rows.RoomRow.{RoomRow}
 use Rattle.room_types.specs.declared.rows.PersonRow.{PersonRow}
 use Rattle.room_types.specs.declared.rows.ResultRow.{ResultRow}
 use Rattle.room_types.specs.declared.moves.Move.{Move}
-use Rattle.office_state.specs.Office.{grade_of, tenant}
+use Rattle.office_state.specs.Office.{recorded_grade, tenant}
 use Rattle.office_state.specs.declared.office.Office.{Office}
 use Rattle.office_state.specs.declared.office.person.Person.{Person}
 use Rattle.office_state.specs.Round.{round_people, word_of}
@@ -48,7 +48,7 @@ abbrev pub order_row : Office → Text → OrderRow
 order_row office person = record {
   word = word_of office person;
   person = person;
-  grade = grade_of office person;
+  grade = recorded_grade office person;
 }
 
 -- the participants in the drawn order

@@ -139,7 +139,7 @@ fn order_rows(
         rows.push(OrderRow {
             word: word_of(office, person),
             person: person.copy()?,
-            grade: office.grade_of(person),
+            grade: office.recorded_grade(person),
         })?;
     }
     Ok(rows)

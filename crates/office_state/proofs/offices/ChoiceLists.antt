@@ -10,19 +10,19 @@ use Rattle.room_types.specs.Choices.{IsChoices}
 use Rattle.room_types.specs.Texts.{Text, TextMap, text_cmp}
 use Rattle.room_types.proofs.maps.TextMaps.{text_cases, get-put_same, get-put_other, get-gone_same}
 use Rattle.room_types.proofs.maps.TextMaps.{get-gone_other, contains_key-put}
-use Rattle.office_state.specs.Change.{with_list}
+use Rattle.office_state.specs.Change.{with_choice_list}
 use Rattle.office_state.specs.Office.Invariants.{AreValidLists}
 use Rattle.office_state.specs.declared.office.person.Person.{Person}
 
 listed_other : (lists : TextMap (List Text)) (person : Text) (choices : List Text) (p : Text)
     → eq_by_cmp text_cmp p person ≡ false
-    → map.get (with_list lists person choices) p ≡ map.get lists p
+    → map.get (with_choice_list lists person choices) p ≡ map.get lists p
 listed_other lists person [] p other = get-gone_other lists person p other
 listed_other lists person (code ∷ codes) p other = get-put_other lists person (code ∷ codes) p other
 
 -- a person whose list was put has that list, and it is not empty
 listed_same : (lists : TextMap (List Text)) (person : Text) (choices codes : List Text) (p : Text)
-    → p ≡ person → map.get (with_list lists person choices) p ≡ Some codes
+    → p ≡ person → map.get (with_choice_list lists person choices) p ≡ Some codes
     → (choices ≡ codes) × (codes ≡ [] → ⊥)
 listed_same lists person [] codes p same e =
     let none : map.get (map.remove lists person) p ≡ None =
@@ -62,7 +62,7 @@ module _ (rooms : TextMap Bool) (people : TextMap Person) (choices : TextMap (Li
   -- a known person's list of known rooms
   pub list_put : (person : Text) (codes : List Text) → map.contains_key people person ≡ true
       → All (λ code. map.contains_key rooms code ≡ true) codes
-      → IsChoices codes → AreValidLists rooms people (with_list choices person codes) withdrawn
+      → IsChoices codes → AreValidLists rooms people (with_choice_list choices person codes) withdrawn
   list_put person codes known known_codes formed = record {
     choosers = λ p e. elim (text_cases p person) as (λ _. map.contains_key people p ≡ true) [
       | inl same ↦ ap (λ q. map.contains_key people q) same ∙ known

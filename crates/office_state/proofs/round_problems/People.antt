@@ -23,7 +23,7 @@ use Rattle.room_types.proofs.options.Options.{some_of}
 use Rattle.draw_order.specs.Draw.{Ticket, IsDrawnOrder, drawn_order, ungraded}
 use Rattle.draw_order.proofs.draws.Orders.{goes_by_word_alone, drawn_orders_agree}
 use Rattle.office_state.specs.Round.Settlement.{is_settled}
-use Rattle.office_state.specs.Office.{knows_person, grade_of, has_withdrawn, participants, people_not_withdrawn}
+use Rattle.office_state.specs.Office.{knows_person, recorded_grade, has_withdrawn, participants, people_not_withdrawn}
 use Rattle.office_state.specs.Office.{sits_out}
 use Rattle.office_state.specs.Round.{is_participant, word_of, tickets_of, round_people, round_rooms}
 use Rattle.office_state.specs.Round.{is_kept_back, number_in}
@@ -116,7 +116,7 @@ people_are_participants office =
     IsPermutation-map (λ (ticket : Ticket). ticket.0)
     (tickets_of office) drawn.ascending drawn.arranged.same_items in
     subst (λ names. IsPermutation names (round_people office))
-    (identifiers_of_tickets (grade_of office) (word_of office) (participants office))
+    (identifiers_of_tickets (recorded_grade office) (word_of office) (participants office))
     (subst (λ names. IsPermutation (map (λ (ticket : Ticket). ticket.0) (tickets_of office)) names)
     (sym drawn.identifiers) moved)
 
@@ -124,7 +124,7 @@ people_are_participants office =
 pub as_many_as_tickets : (office : Office) → length (round_people office) ≡ length (tickets_of office)
 as_many_as_tickets office =
     length_permutation (participants office) (round_people office) (people_are_participants office)
-    ∙ sym (length-map (participants office) (λ person. (person, grade_of office person, word_of office person)))
+    ∙ sym (length-map (participants office) (λ person. (person, recorded_grade office person, word_of office person)))
 
 pub people_differ : (office : Office) → AllPairs ◌≢◌ (round_people office)
 people_differ office =
@@ -197,7 +197,7 @@ number_of_participant office person part =
 
 -- ---- people without grades
 
-no_grade : (office : Office) → office.grades ≡ maps.empty → (person : Text) → grade_of office person ≡ 0
+no_grade : (office : Office) → office.grades ≡ maps.empty → (person : Text) → recorded_grade office person ≡ 0
 no_grade office none person =
     ap (λ grades. unwrap_or (maps.get grades person) 0) none ∙ ap (λ o. unwrap_or o 0) (get-empty text_cmp person)
 
@@ -211,5 +211,6 @@ ungraded_tickets grade word none (p ∷ people) =
 pub ungraded_by_word : (office : Office) → office.grades ≡ maps.empty → round_people office ≡ people_by_word office
 unfolding round_people
 ungraded_by_word office none =
-    ap drawn_order (ungraded_tickets (grade_of office) (word_of office) (no_grade office none) (participants office))
+    ap drawn_order (ungraded_tickets (recorded_grade office) (word_of office) (no_grade office none)
+    (participants office))
     ∙ goes_by_word_alone (plain_tickets_of office)

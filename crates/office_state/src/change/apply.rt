@@ -2,7 +2,7 @@
 ghost use Rattle.std.specs.Prelude.{◌≡◌, ◌≢◌, OnOk, OnErr, true, false};
 ghost use Rattle.std.specs.FinMap as map;
 ghost use Rattle.office_state.specs.Change.{applied, change_allocates};
-ghost use Rattle.office_state.specs.Change.{with_bytes, with_grade, with_home, with_list};
+ghost use Rattle.office_state.specs.Change.{with_bytes, with_grade, with_home, with_choice_list};
 ghost use Rattle.office_state.specs.Change.{with_name_and_key, without_round};
 ghost use Rattle.office_state.specs.Empty.{is_empty};
 ghost use Rattle.office_state.specs.Office.{knows_person};
@@ -138,7 +138,7 @@ fn put_name_and_key(
 
 fn put_choices(office: &mut Office, person: &PersonId, choices: &Choices) -> Result<(), OutOfMemory>
     ensures ok { OnOk result (office.new ≡
-        record office.old { choices = with_list office.old.choices person.now choices.now }) }
+        record office.old { choices = with_choice_list office.old.choices person.now choices.now }) }
     ensures err { OnErr result (office.new ≡ office.old) }
     ensures memory { OnErr result (is_empty choices.now ≡ false) }
 {

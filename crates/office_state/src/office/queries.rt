@@ -4,7 +4,8 @@ ghost use Rattle.std.specs.FinMap as map;
 ghost use Rattle.std.specs.Option.{option_copied};
 ghost use Rattle.office_state.specs.Office.{tenant, owner, home_of, recorded_result, is_shut, lives_in, has_tenants};
 ghost use Rattle.office_state.specs.Office.{is_same_text, is_text};
-ghost use Rattle.office_state.specs.Office.{has_withdrawn, is_going, sits_out, grade_of, participants, is_over, is_under_way, is_shown};
+ghost use Rattle.office_state.specs.Office.{has_withdrawn, is_going, sits_out, recorded_grade, participants};
+ghost use Rattle.office_state.specs.Office.{is_over, is_under_way, is_shown};
 ghost use Rattle.office_state.specs.Round.{is_participant};
 
 use crate::office::Office;
@@ -114,8 +115,8 @@ impl Office {
     }
 
     /// Returns a person's grade, or grade 0 if none is recorded.
-    pub fn grade_of(&self, person: &PersonId) -> Grade
-        ensures { result ≡ grade_of self.now person.now }
+    pub fn recorded_grade(&self, person: &PersonId) -> Grade
+        ensures { result ≡ recorded_grade self.now person.now }
     {
         self.grades.get(person).copied().unwrap_or(Grade::first())
     }

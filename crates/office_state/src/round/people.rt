@@ -31,7 +31,7 @@ fn tickets(alloc: Global, office: &Office) -> Result<Vec<(PersonId, Grade, Word)
     let mut tickets = Vec::new(alloc);
     for (id, _) in office.people.iter() {
         if !office.sits_out(id) {
-            tickets.push((id.copy()?, office.grade_of(id), word_of(office, id)))?;
+            tickets.push((id.copy()?, office.recorded_grade(id), word_of(office, id)))?;
         }
     }
     Ok(tickets)

@@ -3,7 +3,7 @@ use Rattle.std.specs.Prelude.{List, map}
 use Rattle.std.specs.FinMap as maps
 use Rattle.room_types.specs.Texts.{Text}
 use Rattle.room_types.specs.declared.rows.GradeRow.{GradeRow}
-use Rattle.office_state.specs.Office.{grade_of}
+use Rattle.office_state.specs.Office.{recorded_grade}
 use Rattle.office_state.specs.declared.office.Office.{Office}
 use Rattle.office_state.specs.declared.office.person.Person.{Person}
 use Rattle.office_core.specs.Query.Overview.{person_rows}
@@ -16,7 +16,7 @@ use Rattle.office_schema.specs.rows.Rows.{rows_of_moves}
 
 -- a person's grade, which is 0 if none is recorded
 abbrev pub grade_row : Office → Text × Person → GradeRow
-grade_row office entry = record { person = entry.0; grade = grade_of office entry.0 }
+grade_row office entry = record { person = entry.0; grade = recorded_grade office entry.0 }
 
 -- all people, ordered by identifier, each with the grade
 abbrev pub grade_rows : Office → List GradeRow
