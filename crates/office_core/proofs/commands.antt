@@ -8,4 +8,3 @@ pub mod Words
 pub mod Lists
 pub mod Register
 pub mod Round
-pub mod Relisted

@@ -98,8 +98,7 @@ round_results office =
     (map_list (λ person. (person, record { room = result_of office person }))
     (participants office))
 
--- the room that a participant would get with another list, in the same order and with all other lists
--- unchanged
+-- the room that a participant would get with another list, in the same order and with all other lists unchanged
 unfoldable pub result_by : Office → Text → List Text → Option Text
 result_by office person codes =
     option_and_then (λ number.

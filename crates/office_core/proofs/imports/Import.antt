@@ -21,7 +21,7 @@ use Rattle.office_state.specs.declared.change.Change.TheVariants.{KeepList}
 use Rattle.office_state.specs.declared.office.Office.{Office}
 use Rattle.office_state.specs.declared.office.stored_import.StoredImport.{StoredImport}
 use Rattle.office_state.proofs.offices.Register.{len-put_within}
-use Rattle.office_core.proofs.commands.Relisted.{relisted-lawful}
+use Rattle.office_state.proofs.offices.Details.{relisted-lawful}
 use Rattle.office_core.specs.Command.Import.{EntryCommand, bad_list, changes_by, changes_where}
 use Rattle.office_core.specs.Command.Import.{checks_where, choices_command, entries_in, grade_command}
 use Rattle.office_core.specs.Command.Import.{new_label_changes, new_label_checks, first_denied, keeping}

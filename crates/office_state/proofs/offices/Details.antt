@@ -1,4 +1,4 @@
--- A person's name and key are replaced, or the bytes of an imported list. The round stays as it is.
+-- A person's name and key are replaced, or the imported lists. The round stays as it is.
 use Rattle.std.proofs.Common.{◌≡◌, ℕ, ◌≤◌, true, ◌&&◌, ◌||◌, not, List, length, Option, Some, None}
 use Rattle.std.proofs.Common.{refl, ap, ◌∙◌, sym, subst, inl, inr}
 use Rattle.std.specs.Option.{is_some, option_map, option_and_then}
@@ -188,6 +188,35 @@ relisted_where office label bytes known =
           record office { lists = map.insert office.lists label (record kept { bytes = bytes }) }
     ]
 
+-- the imported lists do not count in the round: any valid ones may take their place
+pub relisted-lawful : (office : Office) (lists : TextMap StoredImport) → IsLawful office
+    → AreValidImports lists → IsLawful (record office { lists = lists })
+relisted-lawful office lists l kept =
+    let new : Office = record office { lists = lists } in
+    record {
+      register = l.register;
+      lists = l.lists;
+      round = l.round;
+      grades = l.grades;
+      leavers = l.leavers;
+      words = l.words;
+      results = record {
+        none = l.results.none;
+        given = λ traded. l.results.given traded
+            ∙ (same_entries_same_round office new (record {
+              rooms = refl;
+              homes = λ q. refl;
+              choices = refl;
+              withdrawn = refl;
+              words = refl;
+              grades = refl;
+              going = refl;
+            })).results;
+      };
+      moves = moves_stay office new refl (λ round over. over) l.moves;
+      kept = kept;
+    }
+
 -- the bytes of an imported list may be replaced by few bytes
 pub with_bytes-lawful : (office : Office) (label : Text) (bytes : List ℕ) → IsLawful office
     → length bytes ≤ byte_limit → IsLawful (with_bytes office label bytes)
@@ -196,28 +225,6 @@ with_bytes-lawful office label bytes l few =
     (λ o. map.get office.lists label ≡ o → IsLawful (relisted_where office label bytes o)) [
       | None ↦ λ _. l
       | Some kept ↦ λ known.
-          let new : Office = relisted_where office label bytes (Some kept) in
-          record {
-            register = l.register;
-            lists = l.lists;
-            round = l.round;
-            grades = l.grades;
-            leavers = l.leavers;
-            words = l.words;
-            results = record {
-              none = l.results.none;
-              given = λ traded. l.results.given traded
-                  ∙ (same_entries_same_round office new (record {
-                    rooms = refl;
-                    homes = λ q. refl;
-                    choices = refl;
-                    withdrawn = refl;
-                    words = refl;
-                    grades = refl;
-                    going = refl;
-                  })).results;
-            };
-            moves = moves_stay office new refl (λ round over. over) l.moves;
-            kept = bytes_put office.lists l.kept label kept bytes known few;
-          }
+          relisted-lawful office (map.insert office.lists label (record kept { bytes = bytes })) l
+          (bytes_put office.lists l.kept label kept bytes known few)
     ] refl
