@@ -1,3 +1,4 @@
+pub mod ByName
 pub mod Crashes
 pub mod Declaring
 pub mod Edits

@@ -16,6 +16,7 @@ pub mod grades;
 pub mod imports;
 pub mod layouts;
 pub mod moves;
+pub mod names;
 mod parameters;
 pub mod people;
 pub mod refilling;

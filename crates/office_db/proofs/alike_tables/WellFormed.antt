@@ -31,25 +31,28 @@ use Rattle.office_schema.specs.tables.Edits.{with_move, with_import, with_body}
 use Rattle.office_schema.specs.tables.Edits.{with_grade, without_grade_of, with_going}
 use Rattle.office_schema.specs.rows.SameRows.{AreSameRows}
 use Rattle.office_db.proofs.alike_tables.Alike.{alike_at}
-use Rattle.office_db.specs.declared.loading.declared.OfficeTable.{OfficeTable}
-use Rattle.office_db.specs.declared.loading.declared.OfficeTable.TheVariants.{Rooms, People, Rounds, Choices, Words}
-use Rattle.office_db.specs.declared.loading.declared.OfficeTable.TheVariants.{Results, Moves, Lists, Grades, Leavers}
-use Rattle.office_db.proofs.alike_tables.ByName.{RecordOf, columns_of, form_of, records_of, with_records, at_name}
+use Rattle.office_schema.specs.declared.tables.names.TableName.{TableName}
+use Rattle.office_schema.specs.declared.tables.names.TableName.TheVariants.{Rooms, People, Rounds, Choices, Words}
+use Rattle.office_schema.specs.declared.tables.names.TableName.TheVariants.{Results, Moves, Lists, Grades, Going}
+use Rattle.office_schema.specs.tables.ByName.{RecordOf, form_of, records_of, shown_columns_of, with_records}
+use Rattle.office_schema.proofs.statements.ByName.{at_name}
 
-module _ (name : OfficeTable) where
+module _ (name : TableName) where
   abbrev Formed : List (RecordOf name) → Type 0
-  Formed xs = All (form_of name) (map (columns_of name) xs)
+  Formed xs = All (form_of name) (map (shown_columns_of name) xs)
 
   abbrev HasForm : RecordOf name → Type 0
-  HasForm x = form_of name (columns_of name x)
+  HasForm x = form_of name (shown_columns_of name x)
 
   each : (xs : List (RecordOf name)) → Formed xs → AllByRecursion HasForm xs
   each xs h =
-      all_unmap (form_of name) (columns_of name) xs (recursion_from_All (form_of name) (map (columns_of name) xs) h)
+      all_unmap (form_of name) (shown_columns_of name) xs (recursion_from_All (form_of name)
+          (map (shown_columns_of name) xs) h)
 
   every : (xs : List (RecordOf name)) → AllByRecursion HasForm xs → Formed xs
   every xs h =
-      All-from_recursion (form_of name) (map (columns_of name) xs) (all_map (form_of name) (columns_of name) xs h)
+      All-from_recursion (form_of name) (map (shown_columns_of name) xs)
+          (all_map (form_of name) (shown_columns_of name) xs h)
 
   formed_left : (q : RecordOf name → Bool) (xs : List (RecordOf name)) → Formed xs → Formed (delete_where q xs)
   formed_left q xs h = every (delete_where q xs) (all-filter HasForm (λ x. not (q x)) xs (each xs h))
@@ -68,7 +71,7 @@ module _ (name : OfficeTable) where
     formed_changed xs h = every (update_where q f xs) (all_changed xs (each xs h))
 
 -- What `IsWellFormed` says, by name.
-from_names : (t : Tables) → ((n : OfficeTable) → Formed n (records_of t n)) → IsWellFormed t
+from_names : (t : Tables) → ((n : TableName) → Formed n (records_of t n)) → IsWellFormed t
 from_names t formed = record {
   rooms = formed Rooms;
   people = formed People;
@@ -79,10 +82,10 @@ from_names t formed = record {
   moves = formed Moves;
   lists = formed Lists;
   grades = formed Grades;
-  going = formed Leavers;
+  going = formed Going;
 }
 
-formed_at : (t : Tables) → IsWellFormed t → (n : OfficeTable) → Formed n (records_of t n)
+formed_at : (t : Tables) → IsWellFormed t → (n : TableName) → Formed n (records_of t n)
 formed_at t h Rooms = h.rooms
 formed_at t h People = h.people
 formed_at t h Rounds = h.rounds
@@ -92,31 +95,31 @@ formed_at t h Results = h.results
 formed_at t h Moves = h.moves
 formed_at t h Lists = h.lists
 formed_at t h Grades = h.grades
-formed_at t h Leavers = h.going
+formed_at t h Going = h.going
 
 -- The order of rows does not matter.
 pub well_formed_alike : (these those : Tables) → AreSameRows these those → IsWellFormed those → IsWellFormed these
 well_formed_alike these those same h = from_names these (λ n.
-    All-map-IsPermutation (columns_of n) (form_of n) _ _ (IsPermutation-sym _ _ (alike_at these those same n))
+    All-map-IsPermutation (shown_columns_of n) (form_of n) _ _ (IsPermutation-sym _ _ (alike_at these those same n))
     (formed_at those h n))
 
 module _ (t : Tables) (h : IsWellFormed t) where
   -- The records of one table are replaced.
-  one_well_formed : (name : OfficeTable) (xs : List (RecordOf name)) → Formed name xs
+  one_well_formed : (name : TableName) (xs : List (RecordOf name)) → Formed name xs
       → IsWellFormed (with_records t name xs)
   one_well_formed name xs formed = from_names (with_records t name xs)
       (at_name (λ n ys _. Formed n ys) t name xs xs formed (formed_at t h))
 
-  one_added : (name : OfficeTable) (x : RecordOf name) → HasForm name x
+  one_added : (name : TableName) (x : RecordOf name) → HasForm name x
       → IsWellFormed (with_records t name (x ∷ records_of t name))
   one_added name x form =
       one_well_formed name (x ∷ records_of t name) (All-cons (form_of name) _ _ form (formed_at t h name))
 
-  some_left : (name : OfficeTable) (q : RecordOf name → Bool)
+  some_left : (name : TableName) (q : RecordOf name → Bool)
       → IsWellFormed (with_records t name (delete_where q (records_of t name)))
   some_left name q = one_well_formed name _ (formed_left name q (records_of t name) (formed_at t h name))
 
-  some_changed : (name : OfficeTable) (q : RecordOf name → Bool) (f : RecordOf name → RecordOf name)
+  some_changed : (name : TableName) (q : RecordOf name → Bool) (f : RecordOf name → RecordOf name)
       → ((x : RecordOf name) → HasForm name x → HasForm name (f x))
       → IsWellFormed (with_records t name (update_where q f (records_of t name)))
   some_changed name q f keeps =
@@ -225,7 +228,7 @@ module _ (t : Tables) (h : IsWellFormed t) where
   pub going_well_formed : (person : Text) → IsTextOf is_person_id (value.Text person)
       → IsWellFormed (with_going person t)
   unfolding with_going
-  going_well_formed person id = one_added Leavers person id
+  going_well_formed person id = one_added Going person id
 
 pub without_round_tables_well_formed : (t : Tables) → IsWellFormed t → IsWellFormed (without_round_tables t)
 unfolding without_round_tables
@@ -233,4 +236,4 @@ without_round_tables_well_formed t h =
     let choices = one_well_formed t h Choices [] (All-nil IsChoiceRow) in
     let words = one_well_formed _ choices Words [] (All-nil IsWordRow) in
     let results = one_well_formed _ words Results [] (All-nil IsResultRow) in
-    one_well_formed _ results Leavers [] (All-nil IsGoingRow)
+    one_well_formed _ results Going [] (All-nil IsGoingRow)

@@ -47,8 +47,8 @@ use Rattle.office_schema.specs.tables.Edits.{with_word, with_result, with_move, 
 use Rattle.office_schema.specs.tables.Edits.{with_body, with_grade, without_grade_of}
 use Rattle.office_schema.specs.tables.Edits.{with_going, taking_part}
 use Rattle.office_db.proofs.alike_tables.Alike.{alike-refl, alike-trans, one_alike}
-use Rattle.office_db.specs.declared.loading.declared.OfficeTable.TheVariants.{Rooms, People, Choices, Words}
-use Rattle.office_db.specs.declared.loading.declared.OfficeTable.TheVariants.{Results, Moves, Lists, Grades, Leavers}
+use Rattle.office_schema.specs.declared.tables.names.TableName.TheVariants.{Rooms, People, Choices, Words}
+use Rattle.office_schema.specs.declared.tables.names.TableName.TheVariants.{Results, Moves, Lists, Grades, Going}
 use Rattle.office_db.proofs.changed_rows.Entries.{rows_put, rows_gone, row_gone}
 use Rattle.office_db.proofs.changed_rows.Entries.{row_added}
 use Rattle.office_db.proofs.changed_rows.Entries.{row_unknown, row_changed}
@@ -304,7 +304,7 @@ module _ (office : Office) (person : Text) where
       → AreSameRows (rows_of (applied office (PutGoing person))) (with_going person (rows_of office))
   unfolding rows_at with_going
   going_put new =
-      one_alike (rows_of office) Leavers _ _
+      one_alike (rows_of office) Going _ _
       (row_added (λ (e : Text × Unit {0}). e.0) (λ k. k) (λ e. refl) person (λ k. text_eq k person)
       (λ k. tells k person) office.going tt
       (none_if_not_some (maps.get office.going person) new))

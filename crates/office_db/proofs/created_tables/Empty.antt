@@ -1,10 +1,9 @@
 -- Ten tables without rows, and then with the rows of the empty office.
-use Rattle.std.proofs.Common.{◌≡◌, ℕ, Bool, [], ◌∷◌, List, slice_get, Some, refl, sym, subst, map as list_map}
+use Rattle.std.proofs.Common.{◌≡◌, ℕ, Bool, [], ◌∷◌, List, refl, sym, subst, map as list_map}
 use Rattle.std.specs.FinMap as map
 use Rattle.std.specs.List.{flat_map}
 use Rattle.std.specs.Cmp.{nat_cmp_total}
 use Rattle.std.specs.Cmp.Lexicographic.{nat_list_cmp_total}
-use Rattle.sqlite_value.specs.Order.{Row}
 use Rattle.sqlite.specs.Effect.{Database}
 use Rattle.room_types.specs.Texts.{Text, text_cmp}
 use Rattle.room_types.proofs.maps.Trees.{entries-empty}
@@ -16,18 +15,19 @@ use Rattle.office_state.specs.declared.office.moves.RoundMoves.{RoundMoves}
 use Rattle.office_state.specs.declared.office.person.Person.{Person}
 use Rattle.office_schema.specs.rows.Rows.{row_of_person, list_rows, round_rows}
 use Rattle.office_schema.specs.rows.Tables.{Tables, rows_at, rows_of}
-use Rattle.office_schema.specs.cells.Columns as columns
 use Rattle.std.specs.List.{AllByRecursion}
 use Rattle.sqlite.specs.State.{State, HasCleanDisk}
 use Rattle.sqlite_schema.specs.declared.schema.Table.{Table}
 use Rattle.office_schema.specs.tables.Declaring.{DeclaresFirst}
 use Rattle.office_schema.specs.tables.Edits.{with_first_round}
-use Rattle.office_schema.specs.tables.Holds.{Holds}
+use Rattle.office_schema.specs.tables.ByName.{HoldsRecords, columns_of, place_of, records_of, table_named}
 use Rattle.office_schema.specs.tables.Schema.{no_schema, office_schema}
-use Rattle.office_schema.specs.tables.Schema as schema
 use Rattle.office_schema.specs.tables.Tables.{HasTables}
+use Rattle.office_schema.specs.declared.tables.names.TableName.{TableName}
 use Rattle.sqlite_trees.proofs.ListLemmas.{all-slice_get}
+use Rattle.office_schema.proofs.statements.ByName.{each_name}
 use Rattle.office_schema.proofs.statements.Held.{none_held}
+use Rattle.office_schema.proofs.statements.OneTable.{all_held, is_found, stays}
 
 abbrev pub no_rows : Tables
 no_rows =
@@ -44,29 +44,22 @@ no_rows =
       going = [];
     }
 
-no_rows_held : {X : Type 0} (columns : X → Row) (rows : List Row) → rows ≡ [] → Holds columns rows []
-no_rows_held columns rows none = subst (λ l. Holds columns l []) (sym none) (none_held columns)
+no_records : (name : TableName) → records_of no_rows name ≡ []
+no_records = each_name (λ n. records_of no_rows n ≡ []) refl refl refl refl refl refl refl refl refl refl
 
 all_empty : (db : Database) → db.schema ≡ office_schema
     → AllByRecursion (λ t. db.trees t.tree ≡ []) office_schema.tables → HasTables db no_rows
-all_empty db has none =
-    let empty : (i : ℕ) (it : Table) → slice_get office_schema.tables i ≡ Some it → db.trees it.tree ≡ [] =
-    λ i it is. all-slice_get (λ (x : Table). db.trees x.tree ≡ []) office_schema.tables i it is none in
-    record {
-      schema = has;
-      rows = record {
-        rooms = no_rows_held columns.room_columns (db.trees 0) (empty 0 (schema.room 0) refl);
-        people = no_rows_held columns.person_columns (db.trees 2) (empty 1 (schema.person 2) refl);
-        rounds = no_rows_held columns.round_columns (db.trees 6) (empty 2 (schema.round 6) refl);
-        moves = no_rows_held columns.move_columns (db.trees 7) (empty 3 (schema.move 7) refl);
-        lists = no_rows_held columns.list_columns (db.trees 9) (empty 4 (schema.list 9) refl);
-        grades = no_rows_held columns.grade_columns (db.trees 11) (empty 5 (schema.grade 11) refl);
-        words = no_rows_held columns.word_columns (db.trees 13) (empty 6 (schema.word 13) refl);
-        results = no_rows_held columns.result_columns (db.trees 15) (empty 7 (schema.result 15) refl);
-        choices = no_rows_held columns.choice_columns (db.trees 18) (empty 8 (schema.choice 18) refl);
-        going = no_rows_held columns.going_columns (db.trees 21) (empty 9 (schema.going 21) refl);
-      };
-    }
+all_empty db has none = record { schema = has; rows = all_held db.trees no_rows held }
+  where
+    empty : (name : TableName) → db.trees (table_named name).tree ≡ []
+    empty name =
+        all-slice_get (λ (t : Table). db.trees t.tree ≡ []) office_schema.tables (place_of name) (table_named name)
+        (is_found name) none
+
+    held : (name : TableName) → HoldsRecords db.trees name (records_of no_rows name)
+    held name =
+        subst (HoldsRecords db.trees name) (sym (no_records name))
+        (stays (columns_of name) [] [] (db.trees (table_named name).tree) (empty name) (none_held (columns_of name)))
 
 -- If nothing was declared, the tables are there now, without rows.
 pub made_empty : (old new : State) → DeclaresFirst 0 10 0 old new → HasCleanDisk new → old.now.schema ≡ no_schema

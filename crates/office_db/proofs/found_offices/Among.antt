@@ -9,16 +9,17 @@ use Rattle.office_schema.specs.tables.Layouts.{table_count}
 use Rattle.office_schema.specs.declared.tables.layouts.Layout.{Layout}
 use Rattle.office_schema.specs.declared.tables.layouts.Layout.TheVariants.{Own, Documented, DocumentedSecond}
 use Rattle.office_schema.specs.declared.tables.layouts.Layout.TheVariants.{DocumentedFirst, EarlierFirst}
-use Rattle.office_db.specs.declared.loading.declared.OfficeTable.{OfficeTable}
-use Rattle.office_db.specs.declared.loading.declared.OfficeTable.TheVariants.{Rooms, People, Rounds, Choices, Words}
-use Rattle.office_db.specs.declared.loading.declared.OfficeTable.TheVariants.{Results, Moves, Lists, Grades, Leavers}
+use Rattle.office_schema.specs.declared.tables.names.TableName.{TableName}
+use Rattle.office_schema.specs.declared.tables.names.TableName.TheVariants.{Rooms, People, Rounds, Choices, Words}
+use Rattle.office_schema.specs.declared.tables.names.TableName.TheVariants.{Results, Moves, Lists, Grades, Going}
 use Rattle.office_db.specs.loading.Finding.{DeclaresTables}
-use Rattle.office_db.specs.loading.Inner.Declared.{IsAmong, office_table}
+use Rattle.office_schema.specs.tables.Schema.{office_table}
+use Rattle.office_db.specs.loading.Inner.Declared.{IsAmong}
 use Rattle.office_db.proofs.found_offices.Deciding.{same_default}
 
 -- ---- tables among others
 
-tree_of_table : (own : OfficeTable) (tree : ℕ) → (office_table own tree).tree ≡ tree
+tree_of_table : (own : TableName) (tree : ℕ) → (office_table own tree).tree ≡ tree
 tree_of_table Rooms tree = refl
 tree_of_table People tree = refl
 tree_of_table Rounds tree = refl
@@ -28,9 +29,9 @@ tree_of_table Results tree = refl
 tree_of_table Moves tree = refl
 tree_of_table Lists tree = refl
 tree_of_table Grades tree = refl
-tree_of_table Leavers tree = refl
+tree_of_table Going tree = refl
 
-module _ (own : OfficeTable) (table : Table) where
+module _ (own : TableName) (table : Table) where
   -- The table is in the tree that it names.
   pub in_own_tree : (tree : ℕ) → table ≡ office_table own tree → table ≡ office_table own table.tree
   in_own_tree tree e = e ∙ ap (office_table own) (sym (ap (λ (t : Table). t.tree) e ∙ tree_of_table own tree))
@@ -48,11 +49,11 @@ apart_or_equal a b = elim (eqb_tells a b) [
 ]
 
 -- None of the tables before this place is this table of an office.
-abbrev pub IsNotBefore : List Table → OfficeTable → ℕ → Type 0
+abbrev pub IsNotBefore : List Table → TableName → ℕ → Type 0
 IsNotBefore tables own place =
     (k tree : ℕ) → k < place → get_or tables k (office_table own tree) ≡ office_table own tree → ⊥
 
-module _ (tables : List Table) (own : OfficeTable) (k : ℕ) (table : Table) (low : k < length tables)
+module _ (tables : List Table) (own : TableName) (k : ℕ) (table : Table) (low : k < length tables)
     (here : table ≡ get_or tables k table) where
   -- The table at this place is.
   pub among_here : table ≡ office_table own table.tree → IsAmong tables own
@@ -70,14 +71,14 @@ module _ (tables : List Table) (own : OfficeTable) (k : ℕ) (table : Table) (lo
         | inr apart ↦ before j tree (omega (arith, less, apart)) is
       ]
 
-pub not_among : (tables : List Table) (own : OfficeTable) (k : ℕ) → length tables ≤ k → IsNotBefore tables own k
+pub not_among : (tables : List Table) (own : TableName) (k : ℕ) → length tables ≤ k → IsNotBefore tables own k
     → IsAmong tables own → ⊥
 not_among tables own k past before h = let below = h.1.1 in before h.1.0 h.0 (omega (arith, past, below)) h.1.2
 
 -- ---- the tables of a layout
 
-abbrev pub all_ten : List OfficeTable
-all_ten = Rooms ∷ People ∷ Rounds ∷ Choices ∷ Words ∷ Results ∷ Moves ∷ Lists ∷ Grades ∷ Leavers ∷ []
+abbrev pub all_ten : List TableName
+all_ten = Rooms ∷ People ∷ Rounds ∷ Choices ∷ Words ∷ Results ∷ Moves ∷ Lists ∷ Grades ∷ Going ∷ []
 
 pub declares-Decides : (layout : Layout) (schema : Schema) (r : Bool)
     → Decides r (AllByRecursion (IsAmong schema.tables) (take (table_count layout) all_ten))

@@ -1,6 +1,7 @@
 //! Tests whether a table is declared as a table of an office.
 ghost use Rattle.std.specs.Prelude.{◌≡◌, Decides};
-ghost use Rattle.office_db.specs.loading.Inner.Declared.{checks_of, has_columns, has_rules, office_table, table_in};
+ghost use Rattle.office_db.specs.loading.Inner.Declared.{checks_of, has_columns, has_rules, table_in};
+ghost use Rattle.office_schema.specs.tables.Schema.{office_table};
 
 mod checks;
 mod columns;
@@ -11,25 +12,11 @@ use crate::loading::declared::checks::has_checks;
 use crate::loading::declared::columns::{are_columns, is_same_key};
 use crate::loading::declared::forms::{Form, form_of};
 use crate::loading::declared::references::{are_plain, are_references, has_uniques, is_unstamped};
+use office_schema::tables::names::TableName;
 use sqlite_schema::schema::Table;
 
-/// One of the ten tables of an office.
-#[derive(Clone, Copy, Debug, PartialEq, Eq, Drop)]
-pub enum OfficeTable {
-    Rooms,
-    People,
-    Rounds,
-    Choices,
-    Words,
-    Results,
-    Moves,
-    Lists,
-    Grades,
-    Leavers,
-}
-
 /// Returns whether the table is declared as this table of an office, in whatever tree.
-pub(crate) fn is_declared(table: &Table, own: OfficeTable) -> bool
+pub(crate) fn is_declared(table: &Table, own: TableName) -> bool
     ensures { Decides result (table.now ≡ office_table own table.now.tree) }
 {
     has_form(table, form_of(own))

@@ -5,9 +5,9 @@ ghost use Rattle.office_db.specs.loading.Inner.Indexes.{has_indexes, index_count
 ghost use Rattle.office_schema.specs.tables.Layouts.{schema_of, table_count};
 ghost use Rattle.office_schema.specs.tables.Schema.{person, room, round};
 
-use crate::loading::declared::OfficeTable;
 use crate::loading::layout::{are_these_tables, has_indexes, has_tables};
 use office_schema::tables::layouts::Layout;
+use office_schema::tables::names::TableName;
 use sqlite_schema::schema::{Index, Schema, Table};
 
 /// Returns whether the first three tables are `room`, `person` and `round`, each declared as that table of an office
@@ -26,9 +26,9 @@ fn are_first(tables: &[Table]) -> bool
     ensures { Decides result (take 3 tables.now ≡ room 0 ∷ person 2 ∷ round 6 ∷ []) }
 {
     let own = [
-        (OfficeTable::Rooms, 0),
-        (OfficeTable::People, 2),
-        (OfficeTable::Rounds, 6),
+        (TableName::Rooms, 0),
+        (TableName::People, 2),
+        (TableName::Rounds, 6),
     ];
     if tables.len() < 3 {
         return false;

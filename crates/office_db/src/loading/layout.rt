@@ -2,19 +2,21 @@
 ghost use Rattle.std.specs.Prelude.{◌≡◌, ◌≢◌, None as nothing, Decides, IfSome, map};
 ghost use Rattle.std.specs.List.{AllByRecursion};
 ghost use Rattle.office_db.specs.loading.Finding.{DeclaresTables, names_round};
-ghost use Rattle.office_db.specs.loading.Inner.Declared.{IsAmong, office_table};
+ghost use Rattle.office_db.specs.loading.Inner.Declared.{IsAmong};
 ghost use Rattle.office_db.specs.loading.Inner.Indexes.{has_indexes, is_this_index, unique_index};
 ghost use Rattle.office_db.specs.loading.Inner.Lists.{pass_all};
 ghost use Rattle.office_schema.specs.tables.Layouts.{schema_of};
+ghost use Rattle.office_schema.specs.tables.Schema.{office_table};
 ghost use Rattle.office_schema.specs.declared.tables.layouts.Layout.{Layout as AnyLayout};
 
 mod orders;
 
-use crate::loading::declared::{OfficeTable, is_declared};
+use crate::loading::declared::is_declared;
 use crate::loading::layout::orders::{
     DOCUMENTED_INDEXES, DOCUMENTED_TABLES, EARLIER_INDEXES, EARLIER_TABLES, OWN_INDEXES, OWN_TABLES,
 };
 use office_schema::tables::layouts::Layout;
+use office_schema::tables::names::TableName;
 use sqlite_catalog::layout::is_used;
 use sqlite_schema::schema::{Index, Schema, Table};
 
@@ -69,22 +71,22 @@ pub fn declares_tables(schema: &Schema, layout: Layout) -> bool
     ensures { Decides result (DeclaresTables layout schema.now) }
 {
     let own = [
-        OfficeTable::Rooms,
-        OfficeTable::People,
-        OfficeTable::Rounds,
-        OfficeTable::Choices,
-        OfficeTable::Words,
-        OfficeTable::Results,
-        OfficeTable::Moves,
-        OfficeTable::Lists,
-        OfficeTable::Grades,
-        OfficeTable::Leavers,
+        TableName::Rooms,
+        TableName::People,
+        TableName::Rounds,
+        TableName::Choices,
+        TableName::Words,
+        TableName::Results,
+        TableName::Moves,
+        TableName::Lists,
+        TableName::Grades,
+        TableName::Going,
     ];
     are_declared(schema.tables.as_slice(), &own[..layout.tables()])
 }
 
 // Returns whether each of these tables of an office is among `tables`, in whatever tree.
-fn are_declared(tables: &[Table], own: &[OfficeTable]) -> bool
+fn are_declared(tables: &[Table], own: &[TableName]) -> bool
     ensures { Decides result (AllByRecursion (λ o. IsAmong tables.now o) own.now) }
 {
     for place in 0..own.len() {
@@ -96,7 +98,7 @@ fn are_declared(tables: &[Table], own: &[OfficeTable]) -> bool
 }
 
 // Returns whether this table of an office is among `tables`, in whatever tree.
-fn is_among(tables: &[Table], own: OfficeTable) -> bool
+fn is_among(tables: &[Table], own: TableName) -> bool
     ensures { Decides result (IsAmong tables.now own) }
 {
     for place in 0..tables.len() {
@@ -121,7 +123,7 @@ pub(crate) fn has_tables(tables: &[Table], layout: Layout) -> bool
 }
 
 // Returns whether the tables are those in `own`, each in its tree, in the same order.
-pub(crate) fn are_these_tables(tables: &[Table], own: &[(OfficeTable, u32)]) -> bool
+pub(crate) fn are_these_tables(tables: &[Table], own: &[(TableName, u32)]) -> bool
     ensures { Decides result (tables.now ≡ map (λ o. office_table o.0 o.1) own.now) }
 {
     if tables.len() != own.len() {
@@ -137,7 +139,7 @@ pub(crate) fn are_these_tables(tables: &[Table], own: &[(OfficeTable, u32)]) -> 
 }
 
 // Returns whether this is the table `own` of an office, in this tree.
-fn is_this_table(table: &Table, own: OfficeTable, tree: u32) -> bool
+fn is_this_table(table: &Table, own: TableName, tree: u32) -> bool
     ensures { Decides result (table.now ≡ office_table own tree) }
 {
     if !is_declared(table, own) {

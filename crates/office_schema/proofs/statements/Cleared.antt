@@ -7,9 +7,10 @@ use Rattle.sqlite_trees.specs.Tree.{Trees}
 use Rattle.sqlite_catalog.specs.Change.{next_tree, KeepsRows}
 use Rattle.sqlite.specs.Effect.{Database}
 use Rattle.sqlite.specs.State.{State, HasCleanDisk}
-use Rattle.office_schema.specs.tables.Inner.ByName.{Name, RecordOf, HoldsRecords, columns_of, place_of, table_named}
-use Rattle.office_schema.specs.tables.Inner.ByName.Name.{Rooms, People, Rounds, Choices, Words}
-use Rattle.office_schema.specs.tables.Inner.ByName.Name.{Results, Moves, Lists, Grades, Going}
+use Rattle.office_schema.specs.declared.tables.names.TableName.{TableName}
+use Rattle.office_schema.specs.tables.ByName.{RecordOf, HoldsRecords, columns_of, place_of, table_named}
+use Rattle.office_schema.specs.declared.tables.names.TableName.TheVariants.{Rooms, People, Rounds, Choices, Words}
+use Rattle.office_schema.specs.declared.tables.names.TableName.TheVariants.{Results, Moves, Lists, Grades, Going}
 use Rattle.office_schema.specs.tables.Inner.Declaring.{DropsTooFew, Rebuilds}
 use Rattle.office_schema.specs.tables.Declaring.{DeclaresFirst, LeavesFirst, CreatesTooFew, MayLackTables, ChangesSchema}
 use Rattle.office_schema.specs.tables.Inner.Texts.{drop_text}
@@ -259,30 +260,30 @@ module _ (old mid new : State) (early : HasCleanDisk new → HasCleanDisk mid) (
   -- There is one more table, without rows.
   pub one_more_made : (n : ℕ) → n < 10 → More n
   one_more_made = below_ten More
-      (more_by _ 0 (schema.room 0) (schema.room 0) refl refl room_declared)
-      (more_by _ 1 (schema.person 0) (schema.person 2) refl refl person_declared)
-      (more_by _ 2 (schema.round 0) (schema.round 6) refl refl round_declared)
-      (more_by _ 3 (schema.move 0) (schema.move 7) refl refl move_declared)
-      (more_by _ 4 (schema.list 0) (schema.list 9) refl refl list_declared)
-      (more_by _ 5 (schema.grade 0) (schema.grade 11) refl refl grade_declared)
-      (more_by _ 6 (schema.word 0) (schema.word 13) refl refl word_declared)
-      (more_by _ 7 (schema.result 0) (schema.result 15) refl refl result_declared)
-      (more_by _ 8 (schema.choice 0) (schema.choice 18) refl refl choice_declared)
-      (more_by _ 9 (schema.going 0) (schema.going 21) refl refl going_declared)
+      (more_by _ 0 (schema.room 0) _ refl refl room_declared)
+      (more_by _ 1 (schema.person 0) _ refl refl person_declared)
+      (more_by _ 2 (schema.round 0) _ refl refl round_declared)
+      (more_by _ 3 (schema.move 0) _ refl refl move_declared)
+      (more_by _ 4 (schema.list 0) _ refl refl list_declared)
+      (more_by _ 5 (schema.grade 0) _ refl refl grade_declared)
+      (more_by _ 6 (schema.word 0) _ refl refl word_declared)
+      (more_by _ 7 (schema.result 0) _ refl refl result_declared)
+      (more_by _ 8 (schema.choice 0) _ refl refl choice_declared)
+      (more_by _ 9 (schema.going 0) _ refl refl going_declared)
 
 -- ---- all tables together
 
 -- The first tables keep their rows, and the others have none.
 module _ (first : ℕ) (old new : Trees) (same : KeepsRows (take first office_schema.tables) old new)
     (none : IsEmptyIn new (drop first office_schema.tables)) where
-  kept : (name : Name) → slice_get (take first office_schema.tables) (place_of name) ≡ Some (table_named name)
+  kept : (name : TableName) → slice_get (take first office_schema.tables) (place_of name) ≡ Some (table_named name)
       → (xs : List (RecordOf name)) → HoldsRecords old name xs → HoldsRecords new name xs
   kept name here xs =
       stays (columns_of name) xs _ _
       (all-slice_get (λ (t : Table). new t.tree ≡ old t.tree) (take first office_schema.tables) (place_of name)
       (table_named name) here same)
 
-  emptied : (name : Name) (place : ℕ) → slice_get (drop first office_schema.tables) place ≡ Some (table_named name)
+  emptied : (name : TableName) (place : ℕ) → slice_get (drop first office_schema.tables) place ≡ Some (table_named name)
       → HoldsRecords new name []
   emptied name place here =
       stays (columns_of name) [] [] _

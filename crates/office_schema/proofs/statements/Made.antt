@@ -17,8 +17,8 @@ use Rattle.office_state.specs.declared.office.stored_import.StoredImport.{Stored
 use Rattle.office_state.specs.declared.office.person.Person.{Person}
 use Rattle.office_schema.specs.cells.Cells.{flag, text_or_null, wave_value}
 use Rattle.office_schema.specs.tables.Edits as edit
-use Rattle.office_schema.specs.tables.Inner.ByName.Name.{Rooms, People, Rounds, Choices, Words}
-use Rattle.office_schema.specs.tables.Inner.ByName.Name.{Results, Moves, Lists, Grades, Going}
+use Rattle.office_schema.specs.declared.tables.names.TableName.TheVariants.{Rooms, People, Rounds, Choices, Words}
+use Rattle.office_schema.specs.declared.tables.names.TableName.TheVariants.{Results, Moves, Lists, Grades, Going}
 use Rattle.office_schema.specs.tables.Makes.{Makes}
 use Rattle.office_schema.specs.tables.Steps.{HasRun}
 use Rattle.office_schema.specs.tables.Inner.Texts as text

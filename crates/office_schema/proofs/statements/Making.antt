@@ -18,8 +18,9 @@ use Rattle.sqlite.specs.Does.{OnRows, Tally}
 use Rattle.sqlite.specs.State.{State, HasCleanDisk, mode_of}
 use Rattle.sqlite.proofs.Callers.{runs_as}
 use Rattle.office_schema.specs.tables.Holds.{stored}
-use Rattle.office_schema.specs.tables.Inner.ByName.{Name, RecordOf, records_of, with_records}
-use Rattle.office_schema.specs.tables.Inner.ByName.{columns_of, place_of, table_named}
+use Rattle.office_schema.specs.declared.tables.names.TableName.{TableName}
+use Rattle.office_schema.specs.tables.ByName.{RecordOf, records_of, with_records}
+use Rattle.office_schema.specs.tables.ByName.{columns_of, place_of, table_named}
 use Rattle.office_schema.specs.tables.Makes.{Makes}
 use Rattle.office_schema.specs.tables.Schema.{office_schema}
 use Rattle.office_schema.specs.tables.Steps.{HasRun}
@@ -30,7 +31,7 @@ use Rattle.office_schema.proofs.statements.OneTable.{is_found, is_timeless, held
 use Rattle.office_schema.proofs.statements.Rows.{statement_ran, at_schema, row_inserted, rows_updated, rows_deleted}
 use Rattle.office_schema.proofs.statements.Rows.{passes, shows}
 
-module _ (name : Name) (old new : State) (text : List ℕ) (params : Row) where
+module _ (name : TableName) (old new : State) (text : List ℕ) (params : Row) where
   -- Only the records of this table change.
   abbrev pub Changes : (List (RecordOf name) → List (RecordOf name)) → Type 0
   Changes change = Makes old new (λ tables. with_records tables name (change (records_of tables name)))

@@ -9,8 +9,10 @@ use Rattle.sqlite.specs.Effect.{Database}
 use Rattle.sqlite.specs.State.{State, HasCleanDisk}
 use Rattle.office_schema.specs.rows.Tables.{Tables, own_version}
 use Rattle.office_schema.specs.declared.rows.records.OfficeRecords.{OfficeRecords}
-use Rattle.office_schema.specs.tables.Inner.ByName.{Name, RecordOf, records_of, with_records, columns_of}
-use Rattle.office_schema.specs.tables.Inner.ByName.Name.{Moves, Lists, Grades, Choices, Words, Results, Going}
+use Rattle.office_schema.specs.declared.tables.names.TableName.{TableName}
+use Rattle.office_schema.specs.tables.ByName.{RecordOf, records_of, with_records, columns_of}
+use Rattle.office_schema.specs.declared.tables.names.TableName.TheVariants.{Moves, Lists, Grades, Choices, Words}
+use Rattle.office_schema.specs.declared.tables.names.TableName.TheVariants.{Results, Going}
 use Rattle.office_schema.specs.tables.Inner.Declaring.{Rebuilds}
 use Rattle.office_schema.specs.tables.Edits as edit
 use Rattle.office_schema.specs.tables.Makes.{Makes}
@@ -34,7 +36,7 @@ one_before r rows there xs same =
 
 -- If each row is put before the others of its table, all are there at the end, in some order, and no other table
 -- changes.
-module _ (name : Name) (with_row : RecordOf name → Tables → Tables)
+module _ (name : TableName) (with_row : RecordOf name → Tables → Tables)
     (put : (r : RecordOf name) (tables : Tables) → with_row r tables ≡ with_records tables name
     (r ∷ records_of tables name)) where
   all_put : (rows : List (RecordOf name)) (tables : Tables) → (xs : List (RecordOf name))
@@ -64,7 +66,7 @@ module _ (name : Name) (with_row : RecordOf name → Tables → Tables)
 
 -- Each table may have its rows in another order.
 has_permuted : (db : Database) (tables others : Tables)
-    → ((n : Name) → IsPermutation (records_of tables n) (records_of others n)) → HasTables db others
+    → ((n : TableName) → IsPermutation (records_of tables n) (records_of others n)) → HasTables db others
     → HasTables db tables
 has_permuted db tables others same has = record {
   schema = has.schema;

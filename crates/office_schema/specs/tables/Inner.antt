@@ -1,4 +1,3 @@
 -- Definitions that only contracts of private functions and proofs use.
-pub mod ByName
 pub mod Declaring
 pub mod Texts

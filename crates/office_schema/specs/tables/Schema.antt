@@ -1,5 +1,5 @@
 -- The ten tables of an office, the statements that create them, and the schema that results.
-use Rattle.std.specs.Prelude.{true, false, ℕ, pos, List, [], ◌∷◌, ◌++◌, map, codes, take, slice_index_or}
+use Rattle.std.specs.Prelude.{true, false, ℕ, ◌+◌, pos, List, [], ◌∷◌, ◌++◌, map, codes, take, slice_index_or}
 use Rattle.std.specs.Prelude.{Option, Some, None}
 use Rattle.sqlite_value.specs.declared.keys.Collation.TheVariants.{Binary}
 use Rattle.sqlite_value.specs.declared.value.Value.TheVariants.{Null, Int}
@@ -15,6 +15,9 @@ use Rattle.sqlite_schema.specs.declared.schema.Reference.{Reference}
 use Rattle.sqlite_schema.specs.declared.schema.Kind.{Kind}
 use Rattle.sqlite_schema.specs.declared.schema.Kind.TheVariants.{Integer, Text, Blob}
 use Rattle.sqlite_schema.specs.declared.schema.Action.TheVariants.{NoAction}
+use Rattle.office_schema.specs.declared.tables.names.TableName.{TableName}
+use Rattle.office_schema.specs.declared.tables.names.TableName.TheVariants.{Rooms, People, Rounds, Choices, Words}
+use Rattle.office_schema.specs.declared.tables.names.TableName.TheVariants.{Results, Moves, Lists, Grades, Going}
 
 -- ---- the texts
 
@@ -219,6 +222,19 @@ going tree =
     table_of (codes "going") tree (required Text (codes "person") ∷ []) None first (first ∷ []) []
     (refers_to (codes "person") (codes "id") 1 ∷ [])
 
+-- the table of an office with this name, in this tree
+abbrev pub office_table : TableName → ℕ → Table
+office_table Rooms = room
+office_table People = person
+office_table Rounds = round
+office_table Choices = choice
+office_table Words = word
+office_table Results = result
+office_table Moves = move
+office_table Lists = list
+office_table Grades = grade
+office_table Going = going
+
 -- ---- the schema
 
 -- the index that enforces a constraint of a table
@@ -232,33 +248,59 @@ index_of name tree table columns = record {
   is_unique = true;
 }
 
+-- the indexes of the table of an office with this name, in this tree; each index is in the next tree
+abbrev pub indexes_of : TableName → ℕ → List Index
+indexes_of Rooms tree = index_of (codes "room_1") (tree + 1) tree first ∷ []
+indexes_of People tree =
+    index_of (codes "person_1") (tree + 1) tree first ∷ index_of (codes "person_2") (tree + 2) tree (3 ∷ [])
+    ∷ index_of (codes "person_3") (tree + 3) tree (4 ∷ []) ∷ []
+indexes_of Rounds tree = []
+indexes_of Choices tree =
+    index_of (codes "choice_1") (tree + 1) tree (1 ∷ 2 ∷ []) ∷ index_of (codes "choice_2") (tree + 2) tree (1 ∷ 3 ∷ [])
+    ∷ []
+indexes_of Words tree = index_of (codes "word_1") (tree + 1) tree first ∷ []
+indexes_of Results tree =
+    index_of (codes "result_1") (tree + 1) tree first ∷ index_of (codes "result_2") (tree + 2) tree (2 ∷ []) ∷ []
+indexes_of Moves tree = index_of (codes "move_1") (tree + 1) tree (1 ∷ 2 ∷ []) ∷ []
+indexes_of Lists tree = index_of (codes "list_1") (tree + 1) tree first ∷ []
+indexes_of Grades tree = index_of (codes "grade_1") (tree + 1) tree first ∷ []
+indexes_of Going tree = index_of (codes "going_1") (tree + 1) tree first ∷ []
+
+-- the indexes of these tables, in the order of the tables
+abbrev pub all_indexes : List (TableName × ℕ) → List Index
+all_indexes [] = []
+all_indexes (o ∷ order) = indexes_of o.0 o.1 ++ all_indexes order
+
+-- the schema of the first `tables` tables in this order, with their indexes; a table stands with the number of its tree
+abbrev pub first_in : List (TableName × ℕ) → ℕ → Schema
+first_in order tables = record {
+  tables = take tables (map (λ o. office_table o.0 o.1) order);
+  indexes = all_indexes (take tables order);
+  views = [];
+}
+
+-- the schema of all tables in this order
+abbrev pub schema_in : List (TableName × ℕ) → Schema
+schema_in order = record {
+  tables = map (λ o. office_table o.0 o.1) order;
+  indexes = all_indexes order;
+  views = [];
+}
+
 abbrev pub no_schema : Schema
 no_schema = record { tables = []; indexes = []; views = [] }
 
+-- the tables in the order in which this program creates them
+abbrev pub own_order : List (TableName × ℕ)
+own_order =
+    (Rooms, 0) ∷ (People, 2) ∷ (Rounds, 6) ∷ (Moves, 7) ∷ (Lists, 9) ∷ (Grades, 11) ∷ (Words, 13) ∷ (Results, 15)
+    ∷ (Choices, 18) ∷ (Going, 21) ∷ []
+
 -- the schema after the statements of `table_text` have run, one after another
 abbrev pub office_schema : Schema
-office_schema = record {
-  tables =
-      room 0 ∷ person 2 ∷ round 6 ∷ move 7 ∷ list 9 ∷ grade 11 ∷ word 13 ∷ result 15 ∷ choice 18
-      ∷ going 21 ∷ [];
-  indexes =
-      index_of (codes "room_1") 1 0 first ∷ index_of (codes "person_1") 3 2 first
-      ∷ index_of (codes "person_2") 4 2 (3 ∷ []) ∷ index_of (codes "person_3") 5 2 (4 ∷ [])
-      ∷ index_of (codes "move_1") 8 7 (1 ∷ 2 ∷ []) ∷ index_of (codes "list_1") 10 9 first
-      ∷ index_of (codes "grade_1") 12 11 first
-      ∷ index_of (codes "word_1") 14 13 first ∷ index_of (codes "result_1") 16 15 first
-      ∷ index_of (codes "result_2") 17 15 (2 ∷ []) ∷ index_of (codes "choice_1") 19 18 (1 ∷ 2 ∷ [])
-      ∷ index_of (codes "choice_2") 20 18 (1 ∷ 3 ∷ []) ∷ index_of (codes "going_1") 22 21 first ∷ [];
-  views = [];
-}
+office_schema = schema_in own_order
 
 -- the first `tables` tables of `office_schema`, with their indexes; the four tables of a round come after the first
 -- six
 abbrev pub first_tables : ℕ → Schema
-first_tables tables = record {
-  tables = take tables office_schema.tables;
-  indexes =
-      take (slice_index_or (0 ∷ 1 ∷ 4 ∷ 4 ∷ 5 ∷ 6 ∷ 7 ∷ 8 ∷ 10 ∷ 12 ∷ 13 ∷ []) tables 13)
-      office_schema.indexes;
-  views = [];
-}
+first_tables = first_in own_order

@@ -15,31 +15,15 @@ use Rattle.sqlite_schema.specs.declared.schema.Kind.TheVariants as kind
 use Rattle.sqlite_schema.specs.declared.schema.Reference.{Reference}
 use Rattle.sqlite_schema.specs.declared.schema.Stamps.{Stamps}
 use Rattle.sqlite_schema.specs.declared.schema.Table.{Table}
-use Rattle.office_schema.specs.tables.Schema.{equals, is_digit, is_flag, refers_to, table_of}
-use Rattle.office_schema.specs.tables.Schema.{room, person, round, choice, word, result, move, list, grade, going}
-use Rattle.office_db.specs.declared.loading.declared.OfficeTable.{OfficeTable}
-use Rattle.office_db.specs.declared.loading.declared.OfficeTable.TheVariants.{Rooms, People, Rounds, Choices, Words}
-use Rattle.office_db.specs.declared.loading.declared.OfficeTable.TheVariants.{Results, Moves, Lists, Grades, Leavers}
+use Rattle.office_schema.specs.tables.Schema.{equals, is_digit, is_flag, office_table, refers_to, table_of}
+use Rattle.office_schema.specs.declared.tables.names.TableName.{TableName}
 use Rattle.office_db.specs.declared.loading.declared.forms.Checks.{Checks}
 use Rattle.office_db.specs.declared.loading.declared.forms.Checks.TheVariants.{Free, Flag, Digit, One}
 use Rattle.office_db.specs.declared.loading.declared.forms.Form.{Form}
 use Rattle.office_db.specs.loading.Inner.Lists.{pass_all}
 
--- the table of an office, in this tree
-abbrev pub office_table : OfficeTable → ℕ → Table
-office_table Rooms = room
-office_table People = person
-office_table Rounds = round
-office_table Choices = choice
-office_table Words = word
-office_table Results = result
-office_table Moves = move
-office_table Lists = list
-office_table Grades = grade
-office_table Leavers = going
-
 -- This table of an office is among the tables, in whatever tree.
-abbrev pub IsAmong : List Table → OfficeTable → Type 0
+abbrev pub IsAmong : List Table → TableName → Type 0
 IsAmong tables own = (tree : ℕ) × Contains tables (office_table own tree)
 
 -- ---- the table of a form

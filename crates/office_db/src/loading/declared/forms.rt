@@ -1,8 +1,9 @@
 //! What each table of an office declares.
 ghost use Rattle.std.specs.Prelude.{◌≡◌, ℕ};
-ghost use Rattle.office_db.specs.loading.Inner.Declared.{office_table, table_in};
+ghost use Rattle.office_db.specs.loading.Inner.Declared.{table_in};
+ghost use Rattle.office_schema.specs.tables.Schema.{office_table};
 
-use crate::loading::declared::OfficeTable;
+use office_schema::tables::names::TableName;
 use sqlite_schema::schema::Kind;
 
 // The checks that a table declares.
@@ -147,7 +148,7 @@ const GRADE: Form<'static> = Form {
     references: &[("person", "id", 1)],
 };
 
-const LEAVER: Form<'static> = Form {
+const GOING: Form<'static> = Form {
     name: "going",
     columns: &[("person", Kind::Text, true)],
     key: None,
@@ -158,19 +159,19 @@ const LEAVER: Form<'static> = Form {
 };
 
 // Returns what this table declares.
-pub(crate) fn form_of(own: OfficeTable) -> Form<'static>
+pub(crate) fn form_of(own: TableName) -> Form<'static>
     ensures { (tree : ℕ) → table_in result tree ≡ office_table own tree }
 {
     match own {
-        OfficeTable::Rooms => ROOM,
-        OfficeTable::People => PERSON,
-        OfficeTable::Rounds => ROUND,
-        OfficeTable::Choices => CHOICE,
-        OfficeTable::Words => WORD,
-        OfficeTable::Results => RESULT,
-        OfficeTable::Moves => MOVE,
-        OfficeTable::Lists => LIST,
-        OfficeTable::Grades => GRADE,
-        OfficeTable::Leavers => LEAVER,
+        TableName::Rooms => ROOM,
+        TableName::People => PERSON,
+        TableName::Rounds => ROUND,
+        TableName::Choices => CHOICE,
+        TableName::Words => WORD,
+        TableName::Results => RESULT,
+        TableName::Moves => MOVE,
+        TableName::Lists => LIST,
+        TableName::Grades => GRADE,
+        TableName::Going => GOING,
     }
 }

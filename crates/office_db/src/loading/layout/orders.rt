@@ -1,44 +1,44 @@
 //! The tables and the indexes of each order in which the tables of an office may have been created. The versions of an
 //! order have the first of them.
-use crate::loading::declared::OfficeTable;
+use office_schema::tables::names::TableName;
 
 // Each table, with its tree.
 
-pub(crate) const OWN_TABLES: [(OfficeTable, u32); 10] = [
-    (OfficeTable::Rooms, 0),
-    (OfficeTable::People, 2),
-    (OfficeTable::Rounds, 6),
-    (OfficeTable::Moves, 7),
-    (OfficeTable::Lists, 9),
-    (OfficeTable::Grades, 11),
-    (OfficeTable::Words, 13),
-    (OfficeTable::Results, 15),
-    (OfficeTable::Choices, 18),
-    (OfficeTable::Leavers, 21),
+pub(crate) const OWN_TABLES: [(TableName, u32); 10] = [
+    (TableName::Rooms, 0),
+    (TableName::People, 2),
+    (TableName::Rounds, 6),
+    (TableName::Moves, 7),
+    (TableName::Lists, 9),
+    (TableName::Grades, 11),
+    (TableName::Words, 13),
+    (TableName::Results, 15),
+    (TableName::Choices, 18),
+    (TableName::Going, 21),
 ];
 
-pub(crate) const DOCUMENTED_TABLES: [(OfficeTable, u32); 10] = [
-    (OfficeTable::Rooms, 0),
-    (OfficeTable::People, 2),
-    (OfficeTable::Rounds, 6),
-    (OfficeTable::Choices, 7),
-    (OfficeTable::Words, 10),
-    (OfficeTable::Results, 12),
-    (OfficeTable::Moves, 15),
-    (OfficeTable::Lists, 17),
-    (OfficeTable::Grades, 19),
-    (OfficeTable::Leavers, 21),
+pub(crate) const DOCUMENTED_TABLES: [(TableName, u32); 10] = [
+    (TableName::Rooms, 0),
+    (TableName::People, 2),
+    (TableName::Rounds, 6),
+    (TableName::Choices, 7),
+    (TableName::Words, 10),
+    (TableName::Results, 12),
+    (TableName::Moves, 15),
+    (TableName::Lists, 17),
+    (TableName::Grades, 19),
+    (TableName::Going, 21),
 ];
 
-pub(crate) const EARLIER_TABLES: [(OfficeTable, u32); 8] = [
-    (OfficeTable::Rooms, 0),
-    (OfficeTable::People, 2),
-    (OfficeTable::Rounds, 6),
-    (OfficeTable::Moves, 7),
-    (OfficeTable::Lists, 9),
-    (OfficeTable::Words, 11),
-    (OfficeTable::Results, 13),
-    (OfficeTable::Choices, 16),
+pub(crate) const EARLIER_TABLES: [(TableName, u32); 8] = [
+    (TableName::Rooms, 0),
+    (TableName::People, 2),
+    (TableName::Rounds, 6),
+    (TableName::Moves, 7),
+    (TableName::Lists, 9),
+    (TableName::Words, 11),
+    (TableName::Results, 13),
+    (TableName::Choices, 16),
 ];
 
 // Each index, with its name, its tree, the tree of its table, and its columns.

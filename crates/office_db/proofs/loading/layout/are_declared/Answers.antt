@@ -1,6 +1,6 @@
 use Rattle.std.proofs.Common.{arith, refl}
 use Rattle.std.proofs.lemmas.Bool.Decides.{not_from_Decides}
-use Rattle.office_db.specs.declared.loading.declared.OfficeTable.TheVariants.{Rooms}
+use Rattle.office_schema.specs.declared.tables.names.TableName.TheVariants.{Rooms}
 use Rattle.office_db.specs.loading.Inner.Declared.{IsAmong}
 use Rattle.office_db.proofs.found_offices.Deciding.{never}
 use Rattle.office_db.proofs.found_offices.Passing.{all_here, all_more, all_tested}

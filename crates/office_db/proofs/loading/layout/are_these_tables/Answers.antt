@@ -1,6 +1,6 @@
 use Rattle.std.proofs.Common.{arith, refl}
 use Rattle.std.proofs.lemmas.Bool.Decides.{not_from_Decides}
-use Rattle.office_db.specs.loading.Inner.Declared.{office_table}
+use Rattle.office_schema.specs.tables.Schema.{office_table}
 use Rattle.office_db.proofs.found_offices.Deciding.{never}
 use Rattle.office_db.proofs.found_offices.Passing.{agree_all, agree_at, differ_at}
 use Rattle.office_db.proofs.loading.layout.are_these_tables.Goals as goal

@@ -1,5 +1,5 @@
 use Rattle.std.proofs.Common.{◌≡◌, drop, length, map}
-use Rattle.office_db.specs.loading.Inner.Declared.{office_table}
+use Rattle.office_schema.specs.tables.Schema.{office_table}
 use Rattle.office_db.proofs.loading.layout.are_these_tables.Given as goal
 
 -- The lists are equal if their rests are.
