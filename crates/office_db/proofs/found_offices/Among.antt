@@ -5,7 +5,7 @@ use Rattle.std.specs.List.{AllByRecursion}
 use Rattle.std.proofs.lemmas.Bool.Decides.{eqb_tells}
 use Rattle.sqlite_schema.specs.declared.schema.Table.{Table}
 use Rattle.sqlite_schema.specs.declared.schema.Schema.{Schema}
-use Rattle.office_schema.specs.tables.Layouts.{table_count}
+use Rattle.office_schema.specs.tables.Layouts.{documented_order, table_count}
 use Rattle.office_schema.specs.declared.tables.layouts.Layout.{Layout}
 use Rattle.office_schema.specs.declared.tables.layouts.Layout.TheVariants.{Own, Documented, DocumentedSecond}
 use Rattle.office_schema.specs.declared.tables.layouts.Layout.TheVariants.{DocumentedFirst, EarlierFirst}
@@ -77,11 +77,8 @@ not_among tables own k past before h = let below = h.1.1 in before h.1.0 h.0 (om
 
 -- ---- the tables of a layout
 
-abbrev pub all_ten : List TableName
-all_ten = Rooms ∷ People ∷ Rounds ∷ Choices ∷ Words ∷ Results ∷ Moves ∷ Lists ∷ Grades ∷ Going ∷ []
-
 pub declares-Decides : (layout : Layout) (schema : Schema) (r : Bool)
-    → Decides r (AllByRecursion (IsAmong schema.tables) (take (table_count layout) all_ten))
+    → Decides r (AllByRecursion (λ o. IsAmong schema.tables o.0) (take (table_count layout) documented_order))
     → Decides r (DeclaresTables layout schema)
 declares-Decides Own schema r d = d
 declares-Decides Documented schema r d = d

@@ -63,13 +63,6 @@ none_if : {A : Type 0} (xs : List A) → (length xs == 0) ≡ true → xs ≡ []
 none_if [] e = refl
 none_if (x ∷ xs) e = absurd (omega (arith, eqb-true (length (x ∷ xs)) 0 e))
 
-no_views : (layout : Layout) → (schema_of layout).views ≡ []
-no_views Own = refl
-no_views Documented = refl
-no_views DocumentedSecond = refl
-no_views DocumentedFirst = refl
-no_views EarlierFirst = refl
-
 module _ (layout : Layout) (schema : Schema) where
   -- The schema is that of the layout if its tables, its indexes and its views are.
   pub schema_is : (length schema.views == 0) ≡ true → schema.tables ≡ (schema_of layout).tables
@@ -79,12 +72,11 @@ module _ (layout : Layout) (schema : Schema) where
       ap (λ (ts : List Table). record schema { tables = ts }) tables
       ∙ ap (λ (is : List Index). record schema { tables = own.tables; indexes = is })
       (indexes_are own.indexes schema.indexes indexes)
-      ∙ ap (λ (vs : List View). record own { views = vs }) (none_if schema.views views ∙ sym (no_views layout))
+      ∙ ap (λ (vs : List View). record own { views = vs }) (none_if schema.views views)
 
   module _ (has : schema ≡ schema_of layout) where
     pub has_no_views : (length schema.views == 0) ≡ true
-    has_no_views = ap (λ (s : Schema). length s.views == 0) has ∙ ap (λ (vs : List View). length vs == 0)
-        (no_views layout)
+    has_no_views = ap (λ (s : Schema). length s.views == 0) has
 
     pub has_own_indexes : has_indexes layout schema.indexes ≡ true
     has_own_indexes = ap (λ (s : Schema). has_indexes layout s.indexes) has ∙ own_indexes layout

@@ -2,6 +2,7 @@
 use Rattle.std.proofs.Common.{◌≡◌, ◌<◌, ◌≤◌, ℤ, Bool, true, false, true≢false, List, [], ◌∷◌, map, All, IsTrue, refl}
 use Rattle.std.proofs.Common.{sym, ap, ap₂, ◌∙◌, subst, IsPermutation, arith}
 use Rattle.std.specs.List.{AllByRecursion}
+use Rattle.std.proofs.lemmas.Bool.{leb-true}
 use Rattle.std.proofs.lemmas.List.Sorted.{IsPermutation-sym}
 use Rattle.sqlite_value.specs.Order.{Row, column}
 use Rattle.sqlite_value.specs.declared.value.Value.TheVariants.{Null}
@@ -17,7 +18,7 @@ use Rattle.office_schema.specs.cells.Columns as columns
 use Rattle.office_schema.specs.cells.WellFormed.{IsWellFormed}
 use Rattle.office_schema.specs.tables.Holds.{Holds, stored}
 use Rattle.std.proofs.lemmas.List.Elements.{All-from_recursion}
-use Rattle.office_schema.specs.tables.Layouts.{has_grades, has_leavers, table_count}
+use Rattle.office_schema.specs.tables.Layouts.{has_grades, has_leavers, table_count, version_of}
 use Rattle.office_schema.specs.tables.Tables.{HoldsIf}
 use Rattle.office_schema.specs.tables.InLayout.{AreHeldIn, HasTablesIn}
 use Rattle.office_schema.specs.declared.tables.layouts.Layout.{Layout}
@@ -113,18 +114,10 @@ held_if false columns IsForm project Whole keeps rows records whole numbered h =
 
 -- Where a layout has grades, or leavers, its number of tables includes theirs.
 reach_grades : (layout : Layout) → has_grades layout ≡ true → 8 < table_count layout
-reach_grades Own e = omega arith
-reach_grades Documented e = omega arith
-reach_grades DocumentedSecond e = omega arith
-reach_grades DocumentedFirst e = absurd (true≢false (sym e))
-reach_grades EarlierFirst e = absurd (true≢false (sym e))
+reach_grades layout there = omega (arith, leb-true 2 (version_of layout) there)
 
 reach_leavers : (layout : Layout) → has_leavers layout ≡ true → 9 < table_count layout
-reach_leavers Own e = omega arith
-reach_leavers Documented e = omega arith
-reach_leavers DocumentedSecond e = absurd (true≢false (sym e))
-reach_leavers DocumentedFirst e = absurd (true≢false (sym e))
-reach_leavers EarlierFirst e = absurd (true≢false (sym e))
+reach_leavers layout there = omega (arith, leb-true 3 (version_of layout) there)
 
 -- Each layout has at least eight tables.
 eight_tables : (layout : Layout) → 8 ≤ table_count layout

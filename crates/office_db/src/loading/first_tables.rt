@@ -5,9 +5,8 @@ ghost use Rattle.office_db.specs.loading.Inner.Indexes.{has_indexes, index_count
 ghost use Rattle.office_schema.specs.tables.Layouts.{schema_of, table_count};
 ghost use Rattle.office_schema.specs.tables.Schema.{person, room, round};
 
-use crate::loading::layout::{are_these_tables, has_indexes, has_tables};
+use crate::loading::layout::{are_these_tables, has_indexes, has_tables, own_indexes};
 use office_schema::tables::layouts::Layout;
-use office_schema::tables::names::TableName;
 use sqlite_schema::schema::{Index, Schema, Table};
 
 /// Returns whether the first three tables are `room`, `person` and `round`, each declared as that table of an office
@@ -25,15 +24,10 @@ pub fn begins_office(schema: &Schema) -> bool
 fn are_first(tables: &[Table]) -> bool
     ensures { Decides result (take 3 tables.now ≡ room 0 ∷ person 2 ∷ round 6 ∷ []) }
 {
-    let own = [
-        (TableName::Rooms, 0),
-        (TableName::People, 2),
-        (TableName::Rounds, 6),
-    ];
     if tables.len() < 3 {
         return false;
     }
-    are_these_tables(&tables[..3], &own)
+    are_these_tables(&tables[..3], &Layout::Own.order()[..3])
 }
 
 /// Returns whether the schema begins with the tables and the indexes of the layout, and has no views. Others may
@@ -74,11 +68,5 @@ fn has_first_indexes(indexes: &[Index], layout: Layout) -> bool
 fn index_count(layout: Layout) -> usize
     ensures { result ≡ index_count layout }
 {
-    match layout {
-        Layout::Own => 13,
-        Layout::Documented => 13,
-        Layout::DocumentedSecond => 12,
-        Layout::DocumentedFirst => 11,
-        Layout::EarlierFirst => 11,
-    }
+    own_indexes(layout).len()
 }

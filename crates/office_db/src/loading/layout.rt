@@ -1,20 +1,18 @@
 //! Determines which layout the tables of a database have.
-ghost use Rattle.std.specs.Prelude.{◌≡◌, ◌≢◌, None as nothing, Decides, IfSome, map};
+ghost use Rattle.std.specs.Prelude.{◌≡◌, ◌≢◌, None as nothing, Decides, IfSome, length, map};
 ghost use Rattle.std.specs.List.{AllByRecursion};
 ghost use Rattle.office_db.specs.loading.Finding.{DeclaresTables, names_round};
 ghost use Rattle.office_db.specs.loading.Inner.Declared.{IsAmong};
-ghost use Rattle.office_db.specs.loading.Inner.Indexes.{has_indexes, is_this_index, unique_index};
+ghost use Rattle.office_db.specs.loading.Inner.Indexes.{has_indexes, index_count, is_this_index, unique_index};
 ghost use Rattle.office_db.specs.loading.Inner.Lists.{pass_all};
 ghost use Rattle.office_schema.specs.tables.Layouts.{schema_of};
 ghost use Rattle.office_schema.specs.tables.Schema.{office_table};
 ghost use Rattle.office_schema.specs.declared.tables.layouts.Layout.{Layout as AnyLayout};
 
-mod orders;
+mod indexes;
 
 use crate::loading::declared::is_declared;
-use crate::loading::layout::orders::{
-    DOCUMENTED_INDEXES, DOCUMENTED_TABLES, EARLIER_INDEXES, EARLIER_TABLES, OWN_INDEXES, OWN_TABLES,
-};
+use crate::loading::layout::indexes::{DOCUMENTED, EARLIER, OWN, OwnIndex};
 use office_schema::tables::layouts::Layout;
 use office_schema::tables::names::TableName;
 use sqlite_catalog::layout::is_used;
@@ -70,27 +68,15 @@ fn is_laid_out(schema: &Schema, layout: Layout) -> bool
 pub fn declares_tables(schema: &Schema, layout: Layout) -> bool
     ensures { Decides result (DeclaresTables layout schema.now) }
 {
-    let own = [
-        TableName::Rooms,
-        TableName::People,
-        TableName::Rounds,
-        TableName::Choices,
-        TableName::Words,
-        TableName::Results,
-        TableName::Moves,
-        TableName::Lists,
-        TableName::Grades,
-        TableName::Going,
-    ];
-    are_declared(schema.tables.as_slice(), &own[..layout.tables()])
+    are_declared(schema.tables.as_slice(), &Layout::Documented.order()[..layout.tables()])
 }
 
 // Returns whether each of these tables of an office is among `tables`, in whatever tree.
-fn are_declared(tables: &[Table], own: &[TableName]) -> bool
-    ensures { Decides result (AllByRecursion (λ o. IsAmong tables.now o) own.now) }
+fn are_declared(tables: &[Table], own: &[(TableName, u32)]) -> bool
+    ensures { Decides result (AllByRecursion (λ o. IsAmong tables.now o.0) own.now) }
 {
     for place in 0..own.len() {
-        if !is_among(tables, own[place]) {
+        if !is_among(tables, own[place].0) {
             return false;
         }
     }
@@ -113,13 +99,7 @@ fn is_among(tables: &[Table], own: TableName) -> bool
 pub(crate) fn has_tables(tables: &[Table], layout: Layout) -> bool
     ensures { Decides result (tables.now ≡ (schema_of layout).tables) }
 {
-    match layout {
-        Layout::Own => are_these_tables(tables, &OWN_TABLES),
-        Layout::Documented => are_these_tables(tables, &DOCUMENTED_TABLES),
-        Layout::DocumentedSecond => are_these_tables(tables, &DOCUMENTED_TABLES[..9]),
-        Layout::DocumentedFirst => are_these_tables(tables, &DOCUMENTED_TABLES[..8]),
-        Layout::EarlierFirst => are_these_tables(tables, &EARLIER_TABLES),
-    }
+    are_these_tables(tables, &layout.order()[..layout.tables()])
 }
 
 // Returns whether the tables are those in `own`, each in its tree, in the same order.
@@ -152,18 +132,26 @@ fn is_this_table(table: &Table, own: TableName, tree: u32) -> bool
 pub(crate) fn has_indexes(indexes: &[Index], layout: Layout) -> bool
     ensures { result ≡ has_indexes layout indexes.now }
 {
+    are_these_indexes(indexes, own_indexes(layout))
+}
+
+// Returns the indexes that enforce the constraints of the layout's tables.
+pub(crate) fn own_indexes(layout: Layout) -> &'static [OwnIndex]
+    ensures own { map (λ o. unique_index (o.0.now, o.1, o.2, o.3.now)) result.now
+        ≡ (schema_of layout).indexes }
+    ensures count { length result.now ≡ index_count layout }
+{
     match layout {
-        Layout::Own => are_these_indexes(indexes, &OWN_INDEXES),
-        Layout::Documented => are_these_indexes(indexes, &DOCUMENTED_INDEXES),
-        Layout::DocumentedSecond => are_these_indexes(indexes, &DOCUMENTED_INDEXES[..12]),
-        Layout::DocumentedFirst => are_these_indexes(indexes, &DOCUMENTED_INDEXES[..11]),
-        Layout::EarlierFirst => are_these_indexes(indexes, &EARLIER_INDEXES),
+        Layout::Own => &OWN,
+        Layout::Documented => &DOCUMENTED,
+        Layout::DocumentedSecond => &DOCUMENTED[..12],
+        Layout::DocumentedFirst => &DOCUMENTED[..11],
+        Layout::EarlierFirst => &EARLIER,
     }
 }
 
-// Returns whether the indexes are the unique indexes in `own`, in the same order. An entry of `own` has the name of
-// an index, the tree of the index, the tree of its table, and its columns.
-fn are_these_indexes(indexes: &[Index], own: &[(&str, u32, u32, &[usize])]) -> bool
+// Returns whether the indexes are the unique indexes in `own`, in the same order.
+fn are_these_indexes(indexes: &[Index], own: &[OwnIndex]) -> bool
     ensures { result ≡ pass_all is_this_index
         (map (λ o. unique_index (o.0.now, o.1, o.2, o.3.now)) own.now) indexes.now }
 {

@@ -1,5 +1,6 @@
 -- Dropping tables and creating them again.
-use Rattle.std.proofs.Common.{◌≡◌, ◌⊎◌, ◌≤◌, ◌<◌, ◌+◌, ℕ, zero, suc, List, [], ◌∷◌, drop, take, slice_get, Some, refl, sym, ◌∙◌, subst, inl, inr, arith}
+use Rattle.std.proofs.Common.{◌≡◌, ◌⊎◌, ◌≤◌, ◌<◌, ◌+◌, ℕ, zero, suc, List, [], ◌∷◌, drop, take, slice_get, Some, refl}
+use Rattle.std.proofs.Common.{sym, ◌∙◌, subst, inl, inr, arith}
 use Rattle.std.specs.List.{AllByRecursion}
 use Rattle.sqlite_schema.specs.declared.schema.Schema.{Schema}
 use Rattle.sqlite_schema.specs.declared.schema.Table.{Table}
@@ -12,23 +13,34 @@ use Rattle.office_schema.specs.tables.ByName.{RecordOf, HoldsRecords, columns_of
 use Rattle.office_schema.specs.declared.tables.names.TableName.TheVariants.{Rooms, People, Rounds, Choices, Words}
 use Rattle.office_schema.specs.declared.tables.names.TableName.TheVariants.{Results, Moves, Lists, Grades, Going}
 use Rattle.office_schema.specs.tables.Inner.Declaring.{DropsTooFew, Rebuilds}
-use Rattle.office_schema.specs.tables.Declaring.{DeclaresFirst, LeavesFirst, CreatesTooFew, MayLackTables, ChangesSchema}
+use Rattle.office_schema.specs.tables.Declaring.{DeclaresFirst, LeavesFirst, CreatesTooFew, MayLackTables}
+use Rattle.office_schema.specs.tables.Declaring.{ChangesSchema}
 use Rattle.office_schema.specs.tables.Inner.Texts.{drop_text}
-use Rattle.office_schema.specs.tables.Layouts.{schema_of, table_count, tables_of}
+use Rattle.office_schema.specs.tables.Layouts.{order_of, schema_of, table_count, tables_of}
 use Rattle.office_schema.specs.declared.tables.layouts.Layout.{Layout}
-use Rattle.office_schema.specs.declared.tables.layouts.Layout.TheVariants.{Own, Documented, DocumentedSecond, DocumentedFirst, EarlierFirst}
+use Rattle.office_schema.specs.declared.tables.layouts.Layout.TheVariants.{Own, Documented, DocumentedSecond}
+use Rattle.office_schema.specs.declared.tables.layouts.Layout.TheVariants.{DocumentedFirst, EarlierFirst}
 use Rattle.sqlite_value.specs.Order.{Row}
 use Rattle.office_schema.specs.tables.Edits as edit
 use Rattle.office_schema.specs.tables.Holds.{Holds}
 use Rattle.office_schema.specs.tables.Makes.{Makes}
-use Rattle.office_schema.specs.tables.Schema.{office_schema, first_tables}
-use Rattle.office_schema.specs.tables.Layouts.{documented_schema, earlier_schema, documented_tables}
+use Rattle.office_schema.specs.tables.Schema.{office_schema, first_tables, schema_in}
 use Rattle.office_schema.specs.tables.Schema as schema
 use Rattle.office_schema.specs.tables.Steps.{HasRun, StaysInside, RollsBack, IsIntact, IsUndone}
 use Rattle.sqlite_trees.proofs.ListLemmas.{all-slice_get}
 use Rattle.office_schema.proofs.statements.Held.{none_held}
 use Rattle.office_schema.proofs.statements.OneTable.{stays}
-use Rattle.office_schema.proofs.statements.Declared.{IsDeclaredBy, IsDroppedBy, gains, loses, room_declared, person_declared, round_declared, move_declared, list_declared, grade_declared, word_declared, result_declared, choice_declared, going_declared, own_move_dropped, own_list_dropped, own_grade_dropped, own_word_dropped, own_result_dropped, own_choice_dropped, own_going_dropped, documented_choice_dropped, documented_word_dropped, documented_result_dropped, documented_move_dropped, documented_list_dropped, documented_grade_dropped, documented_going_dropped, earlier_move_dropped, earlier_list_dropped, earlier_word_dropped, earlier_result_dropped, earlier_choice_dropped}
+use Rattle.office_schema.proofs.statements.Declared.{IsDeclaredBy, IsDroppedBy, gains, loses, room_declared}
+use Rattle.office_schema.proofs.statements.Declared.{person_declared, round_declared, move_declared, list_declared}
+use Rattle.office_schema.proofs.statements.Declared.{grade_declared, word_declared, result_declared, choice_declared}
+use Rattle.office_schema.proofs.statements.Declared.{going_declared, own_move_dropped, own_list_dropped}
+use Rattle.office_schema.proofs.statements.Declared.{own_grade_dropped, own_word_dropped, own_result_dropped}
+use Rattle.office_schema.proofs.statements.Declared.{own_choice_dropped, own_going_dropped, documented_choice_dropped}
+use Rattle.office_schema.proofs.statements.Declared.{documented_word_dropped, documented_result_dropped}
+use Rattle.office_schema.proofs.statements.Declared.{documented_move_dropped, documented_list_dropped}
+use Rattle.office_schema.proofs.statements.Declared.{documented_grade_dropped, documented_going_dropped}
+use Rattle.office_schema.proofs.statements.Declared.{earlier_move_dropped, earlier_list_dropped, earlier_word_dropped}
+use Rattle.office_schema.proofs.statements.Declared.{earlier_result_dropped, earlier_choice_dropped}
 
 abbrev pub IsEmptyIn : Trees → List Table → Type 0
 IsEmptyIn trees = AllByRecursion (λ t. trees t.tree ≡ [])
@@ -41,12 +53,14 @@ keeps_same : (tables : List Table) (a : Trees) → KeepsRows tables a a
 keeps_same [] a = tt
 keeps_same (t ∷ tables) a = (refl, keeps_same tables a)
 
-pub keeps_fewer : (few many : ℕ) (tables : List Table) (a b : Trees) → few ≤ many → KeepsRows (take many tables) a b → KeepsRows (take few tables) a b
+pub keeps_fewer : (few many : ℕ) (tables : List Table) (a b : Trees) → few ≤ many → KeepsRows (take many tables) a b
+    → KeepsRows (take few tables) a b
 keeps_fewer zero many [] a b low p = tt
 keeps_fewer zero many (t ∷ tables) a b low p = tt
 keeps_fewer (suc few) many [] a b low p = tt
 keeps_fewer (suc few) zero (t ∷ tables) a b low p = absurd (omega (arith, low))
-keeps_fewer (suc few) (suc many) (t ∷ tables) a b low p = (p.0, keeps_fewer few many tables a b (omega (arith, low)) p.1)
+keeps_fewer (suc few) (suc many) (t ∷ tables) a b low p = (p.0, keeps_fewer few many tables a b (omega (arith, low))
+    p.1)
 
 keeps_later : (few : ℕ) (tables : List Table) (a b : Trees) → KeepsRows tables a b → KeepsRows (drop few tables) a b
 keeps_later zero [] a b p = tt
@@ -64,11 +78,13 @@ none_past P zero (t ∷ tables) = tt
 none_past P (suc n) [] = tt
 none_past P (suc n) (t ∷ tables) = none_past P n tables
 
-one_more : (P : Table → Type 0) (few n : ℕ) (tables : List Table) (t : Table) → slice_get tables n ≡ Some t → few ≤ n → AllByRecursion P (drop few (take n tables)) → P t → AllByRecursion P (drop few (take (suc n) tables))
+one_more : (P : Table → Type 0) (few n : ℕ) (tables : List Table) (t : Table) → slice_get tables n ≡ Some t → few ≤ n
+    → AllByRecursion P (drop few (take n tables)) → P t → AllByRecursion P (drop few (take (suc n) tables))
 one_more P few n [] t here low all p = cc
 one_more P zero zero (x ∷ tables) t here low all p = let same : x ≡ t = cc in (subst P (sym same) p, tt)
 one_more P (suc few) zero (x ∷ tables) t here low all p = absurd (omega (arith, low))
-one_more P zero (suc n) (x ∷ tables) t here low all p = (all.0, from_first (one_more P zero n tables t here (omega arith) (to_first all.1) p))
+one_more P zero (suc n) (x ∷ tables) t here low all p = (all.0, from_first
+    (one_more P zero n tables t here (omega arith) (to_first all.1) p))
   where
     from_first : AllByRecursion P (drop zero (take (suc n) tables)) → AllByRecursion P (take (suc n) tables)
     from_first h = h
@@ -79,35 +95,45 @@ one_more P (suc few) (suc n) (x ∷ tables) t here low all p = one_more P few n 
 
 module _ (old mid new : State) (early : HasCleanDisk new → HasCleanDisk mid) where
   -- A first effect still holds after a second one that does not touch its tables.
-  pub and_then : (a b c : Schema) (many few fresh later : List Table) → ((x y : Trees) → KeepsRows many x y → KeepsRows few x y) → ChangesSchema a b many fresh old mid → ChangesSchema b c few later mid new → ChangesSchema a c few later old new
+  pub and_then : (a b c : Schema) (many few fresh later : List Table)
+      → ((x y : Trees) → KeepsRows many x y → KeepsRows few x y) → ChangesSchema a b many fresh old mid
+      → ChangesSchema b c few later mid new → ChangesSchema a c few later old new
   and_then a b c many few fresh later narrow first second = record {
     shown = λ clean has.
         let p = first.shown (early clean) has in
         let q = second.shown clean p.0 in
-        (q.0, keeps_then few old.now.trees mid.now.trees new.now.trees (narrow old.now.trees mid.now.trees p.1) q.1, q.2);
+        (q.0, keeps_then few old.now.trees mid.now.trees new.now.trees (narrow old.now.trees mid.now.trees p.1) q.1,
+            q.2);
     mode = λ clean. second.mode clean ∙ first.mode (early clean);
   }
 
   -- One more table is created.
-  pub one_made : (before : Schema) (kept few n : ℕ) (t : Table) → slice_get office_schema.tables n ≡ Some t → few ≤ n → kept ≤ n
-      → ChangesSchema before (first_tables n) (take kept office_schema.tables) (drop few (take n office_schema.tables)) old mid
+  pub one_made : (before : Schema) (kept few n : ℕ) (t : Table) → slice_get office_schema.tables n ≡ Some t → few ≤ n
+      → kept ≤ n
+      → ChangesSchema before (first_tables n) (take kept office_schema.tables) (drop few (take n office_schema.tables))
+      old mid
       → ChangesSchema (first_tables n) (first_tables (suc n)) (take n office_schema.tables) (t ∷ []) mid new
-      → ChangesSchema before (first_tables (suc n)) (take kept office_schema.tables) (drop few (take (suc n) office_schema.tables)) old new
+      → ChangesSchema before (first_tables (suc n)) (take kept office_schema.tables)
+      (drop few (take (suc n) office_schema.tables)) old new
   one_made before kept few n t here low lower first second = record {
     shown = λ clean has.
         let p = first.shown (early clean) has in
         let q = second.shown clean p.0 in
         let tables = take n office_schema.tables in
-        let still = empty_still (drop few tables) mid.now.trees new.now.trees (keeps_later few tables mid.now.trees new.now.trees q.1) p.2 in (
+        let still = empty_still (drop few tables) mid.now.trees new.now.trees
+            (keeps_later few tables mid.now.trees new.now.trees q.1) p.2 in (
           q.0,
-          keeps_then (take kept office_schema.tables) old.now.trees mid.now.trees new.now.trees p.1 (keeps_fewer kept n office_schema.tables mid.now.trees new.now.trees lower q.1),
+          keeps_then (take kept office_schema.tables) old.now.trees mid.now.trees new.now.trees p.1
+              (keeps_fewer kept n office_schema.tables mid.now.trees new.now.trees lower q.1),
           one_more (λ x. new.now.trees x.tree ≡ []) few n office_schema.tables t here low still q.2.0,
         );
     mode = λ clean. second.mode clean ∙ first.mode (early clean);
   }
 
   -- A statement is refused or fails after others.
-  pub cut_short : (a b : Schema) (kept fresh : List Table) → StaysInside old mid → StaysInside mid new → ChangesSchema a b kept fresh old mid → IsUndone mid new → IsIntact new → ChangesSchema a b kept fresh old new ⊎ RollsBack old new
+  pub cut_short : (a b : Schema) (kept fresh : List Table) → StaysInside old mid → StaysInside mid new
+      → ChangesSchema a b kept fresh old mid → IsUndone mid new → IsIntact new
+      → ChangesSchema a b kept fresh old new ⊎ RollsBack old new
   cut_short a b kept fresh before later first undone intact =
       elim (undone intact) [
         | inl same ↦ inl (record {
@@ -122,17 +148,21 @@ module _ (old mid new : State) (early : HasCleanDisk new → HasCleanDisk mid) w
       ]
 
 -- A rollback goes back to the state before all of it.
-pub rolled_before : (old mid new : State) → StaysInside old mid → StaysInside mid new → IsIntact new → RollsBack mid new → RollsBack old new
+pub rolled_before : (old mid new : State) → StaysInside old mid → StaysInside mid new → IsIntact new
+    → RollsBack mid new → RollsBack old new
 rolled_before old mid new before later intact rolled =
     let early : HasCleanDisk mid = omega (arith, intact.0, later.survives.clean) in
     (rolled.0 ∙ (before.kept early).committed ((later.kept intact.0).was_open intact.1), rolled.1)
 
 -- The tables of a round were dropped, and one of them could not be created again.
-pub made_too_few : (old mid new : State) → StaysInside old mid → StaysInside mid new → LeavesFirst Own 6 old mid → CreatesTooFew 6 mid new → MayLackTables old new
+pub made_too_few : (old mid new : State) → StaysInside old mid → StaysInside mid new → LeavesFirst Own 6 old mid
+    → CreatesTooFew 6 mid new → MayLackTables old new
 made_too_few old mid new before later lost few intact =
     let early : HasCleanDisk new → HasCleanDisk mid = λ clean. omega (arith, clean, later.survives.clean) in
     elim (few intact) [
-      | inl some ↦ inl (inr (some.0, some.1, some.2, and_then old mid new early (first_tables 10) (first_tables 6) (first_tables some.0) (take 6 office_schema.tables) (take 6 office_schema.tables) _ (drop 6 (take some.0 office_schema.tables)) (λ x y h. h) lost some.3))
+      | inl some ↦ inl (inr (some.0, some.1, some.2, and_then old mid new early (first_tables 10) (first_tables 6)
+          (first_tables some.0) (take 6 office_schema.tables) (take 6 office_schema.tables) _
+              (drop 6 (take some.0 office_schema.tables)) (λ x y h. h) lost some.3))
       | inr rolled ↦ inr (rolled_before old mid new before later intact rolled)
     ]
 
@@ -141,7 +171,8 @@ pub dropped_too_few : (old new : State) → DropsTooFew Own 6 old new → MayLac
 dropped_too_few old new few intact = elim (few intact) [ inl some ↦ inl (inl some) | inr rolled ↦ inr rolled ]
 
 -- Nothing has been done yet.
-pub schema_unchanged : (schema : Schema) (kept fresh : List Table) (state : State) → ((trees : Trees) → IsEmptyIn trees fresh) → ChangesSchema schema schema kept fresh state state
+pub schema_unchanged : (schema : Schema) (kept fresh : List Table) (state : State)
+    → ((trees : Trees) → IsEmptyIn trees fresh) → ChangesSchema schema schema kept fresh state state
 schema_unchanged schema kept fresh state none = record {
   shown = λ clean has. (has, keeps_same kept state.now.trees, none state.now.trees);
   mode = λ clean. refl;
@@ -150,84 +181,14 @@ schema_unchanged schema kept fresh state none = record {
 -- ---- dropping one table after another
 
 -- The remaining tables keep their rows when one goes.
-keeps_one_fewer : (layout : Layout) (n : ℕ) (x y : Trees) → KeepsRows (tables_of layout (suc n)).tables x y → KeepsRows (tables_of layout n).tables x y
-keeps_one_fewer Own n x y h = keeps_fewer n (suc n) office_schema.tables x y (omega arith) h
-keeps_one_fewer Documented n x y h = keeps_fewer n (suc n) documented_schema.tables x y (omega arith) h
-keeps_one_fewer DocumentedSecond n x y h = keeps_fewer n (suc n) documented_schema.tables x y (omega arith) h
-keeps_one_fewer DocumentedFirst n x y h = keeps_fewer n (suc n) documented_schema.tables x y (omega arith) h
-keeps_one_fewer EarlierFirst n x y h = keeps_fewer n (suc n) earlier_schema.tables x y (omega arith) h
+keeps_one_fewer : (layout : Layout) (n : ℕ) (x y : Trees) → KeepsRows (tables_of layout (suc n)).tables x y
+    → KeepsRows (tables_of layout n).tables x y
+keeps_one_fewer layout n x y h = keeps_fewer n (suc n) (schema_in (order_of layout)).tables x y (omega arith) h
 
 -- All tables of a layout are there before any is dropped.
 pub whole_layout : (layout : Layout) (state : State) → LeavesFirst layout (table_count layout) state state
-whole_layout Own state = schema_unchanged office_schema office_schema.tables [] state (λ trees. tt)
-whole_layout Documented state = schema_unchanged documented_schema documented_schema.tables [] state (λ trees. tt)
-whole_layout DocumentedSecond state = schema_unchanged (documented_tables 9) (documented_tables 9).tables [] state (λ trees. tt)
-whole_layout DocumentedFirst state = schema_unchanged (documented_tables 8) (documented_tables 8).tables [] state (λ trees. tt)
-whole_layout EarlierFirst state = schema_unchanged earlier_schema earlier_schema.tables [] state (λ trees. tt)
-
-module _ (old mid new : State) (early : HasCleanDisk new → HasCleanDisk mid) where
-  abbrev Fewer : Layout → ℕ → Type 0
-  Fewer layout n = (HasCleanDisk new → HasRun (drop_text layout n) [] mid new) → LeavesFirst layout (suc n) old mid → LeavesFirst layout n old new
-
-  fewer_by : (layout : Layout) (text : List ℕ) (n : ℕ) (t : Table) → IsDroppedBy text (tables_of layout (suc n)) (tables_of layout n) n t → (HasCleanDisk new → HasRun text [] mid new) → LeavesFirst layout (suc n) old mid → LeavesFirst layout n old new
-  fewer_by layout text n t it runs first =
-      and_then old mid new early (schema_of layout) (tables_of layout (suc n)) (tables_of layout n) (tables_of layout (suc n)).tables (tables_of layout n).tables [] []
-      (keeps_one_fewer layout n) first (loses text (tables_of layout (suc n)) (tables_of layout n) n t it mid new runs)
-
-  -- There is one table less.
-  pub one_fewer : (layout : Layout) (n : ℕ) → 3 ≤ n → n < table_count layout → Fewer layout n
-  one_fewer Own (suc (suc (suc zero))) high low = fewer_by Own _ 3 _ own_move_dropped
-  one_fewer Own (suc (suc (suc (suc zero)))) high low = fewer_by Own _ 4 _ own_list_dropped
-  one_fewer Own (suc (suc (suc (suc (suc zero))))) high low = fewer_by Own _ 5 _ own_grade_dropped
-  one_fewer Own (suc (suc (suc (suc (suc (suc zero)))))) high low = fewer_by Own _ 6 _ own_word_dropped
-  one_fewer Own (suc (suc (suc (suc (suc (suc (suc zero))))))) high low = fewer_by Own _ 7 _ own_result_dropped
-  one_fewer Own (suc (suc (suc (suc (suc (suc (suc (suc zero)))))))) high low = fewer_by Own _ 8 _ own_choice_dropped
-  one_fewer Own (suc (suc (suc (suc (suc (suc (suc (suc (suc zero))))))))) high low = fewer_by Own _ 9 _ own_going_dropped
-  one_fewer Own zero high low = absurd (omega (arith, high))
-  one_fewer Own (suc zero) high low = absurd (omega (arith, high))
-  one_fewer Own (suc (suc zero)) high low = absurd (omega (arith, high))
-  one_fewer Own (suc (suc (suc (suc (suc (suc (suc (suc (suc (suc n)))))))))) high low = absurd (omega (arith, low))
-  one_fewer Documented (suc (suc (suc zero))) high low = fewer_by Documented _ 3 _ documented_choice_dropped
-  one_fewer Documented (suc (suc (suc (suc zero)))) high low = fewer_by Documented _ 4 _ documented_word_dropped
-  one_fewer Documented (suc (suc (suc (suc (suc zero))))) high low = fewer_by Documented _ 5 _ documented_result_dropped
-  one_fewer Documented (suc (suc (suc (suc (suc (suc zero)))))) high low = fewer_by Documented _ 6 _ documented_move_dropped
-  one_fewer Documented (suc (suc (suc (suc (suc (suc (suc zero))))))) high low = fewer_by Documented _ 7 _ documented_list_dropped
-  one_fewer Documented (suc (suc (suc (suc (suc (suc (suc (suc zero)))))))) high low = fewer_by Documented _ 8 _ documented_grade_dropped
-  one_fewer Documented (suc (suc (suc (suc (suc (suc (suc (suc (suc zero))))))))) high low = fewer_by Documented _ 9 _ documented_going_dropped
-  one_fewer Documented zero high low = absurd (omega (arith, high))
-  one_fewer Documented (suc zero) high low = absurd (omega (arith, high))
-  one_fewer Documented (suc (suc zero)) high low = absurd (omega (arith, high))
-  one_fewer Documented (suc (suc (suc (suc (suc (suc (suc (suc (suc (suc n)))))))))) high low = absurd (omega (arith, low))
-  one_fewer DocumentedSecond (suc (suc (suc zero))) high low = fewer_by DocumentedSecond _ 3 _ documented_choice_dropped
-  one_fewer DocumentedSecond (suc (suc (suc (suc zero)))) high low = fewer_by DocumentedSecond _ 4 _ documented_word_dropped
-  one_fewer DocumentedSecond (suc (suc (suc (suc (suc zero))))) high low = fewer_by DocumentedSecond _ 5 _ documented_result_dropped
-  one_fewer DocumentedSecond (suc (suc (suc (suc (suc (suc zero)))))) high low = fewer_by DocumentedSecond _ 6 _ documented_move_dropped
-  one_fewer DocumentedSecond (suc (suc (suc (suc (suc (suc (suc zero))))))) high low = fewer_by DocumentedSecond _ 7 _ documented_list_dropped
-  one_fewer DocumentedSecond (suc (suc (suc (suc (suc (suc (suc (suc zero)))))))) high low = fewer_by DocumentedSecond _ 8 _ documented_grade_dropped
-  one_fewer DocumentedSecond zero high low = absurd (omega (arith, high))
-  one_fewer DocumentedSecond (suc zero) high low = absurd (omega (arith, high))
-  one_fewer DocumentedSecond (suc (suc zero)) high low = absurd (omega (arith, high))
-  one_fewer DocumentedSecond (suc (suc (suc (suc (suc (suc (suc (suc (suc n))))))))) high low = absurd (omega (arith, low))
-  one_fewer DocumentedFirst (suc (suc (suc zero))) high low = fewer_by DocumentedFirst _ 3 _ documented_choice_dropped
-  one_fewer DocumentedFirst (suc (suc (suc (suc zero)))) high low = fewer_by DocumentedFirst _ 4 _ documented_word_dropped
-  one_fewer DocumentedFirst (suc (suc (suc (suc (suc zero))))) high low = fewer_by DocumentedFirst _ 5 _ documented_result_dropped
-  one_fewer DocumentedFirst (suc (suc (suc (suc (suc (suc zero)))))) high low = fewer_by DocumentedFirst _ 6 _ documented_move_dropped
-  one_fewer DocumentedFirst (suc (suc (suc (suc (suc (suc (suc zero))))))) high low = fewer_by DocumentedFirst _ 7 _ documented_list_dropped
-  one_fewer DocumentedFirst zero high low = absurd (omega (arith, high))
-  one_fewer DocumentedFirst (suc zero) high low = absurd (omega (arith, high))
-  one_fewer DocumentedFirst (suc (suc zero)) high low = absurd (omega (arith, high))
-  one_fewer DocumentedFirst (suc (suc (suc (suc (suc (suc (suc (suc n)))))))) high low = absurd (omega (arith, low))
-  one_fewer EarlierFirst (suc (suc (suc zero))) high low = fewer_by EarlierFirst _ 3 _ earlier_move_dropped
-  one_fewer EarlierFirst (suc (suc (suc (suc zero)))) high low = fewer_by EarlierFirst _ 4 _ earlier_list_dropped
-  one_fewer EarlierFirst (suc (suc (suc (suc (suc zero))))) high low = fewer_by EarlierFirst _ 5 _ earlier_word_dropped
-  one_fewer EarlierFirst (suc (suc (suc (suc (suc (suc zero)))))) high low = fewer_by EarlierFirst _ 6 _ earlier_result_dropped
-  one_fewer EarlierFirst (suc (suc (suc (suc (suc (suc (suc zero))))))) high low = fewer_by EarlierFirst _ 7 _ earlier_choice_dropped
-  one_fewer EarlierFirst zero high low = absurd (omega (arith, high))
-  one_fewer EarlierFirst (suc zero) high low = absurd (omega (arith, high))
-  one_fewer EarlierFirst (suc (suc zero)) high low = absurd (omega (arith, high))
-  one_fewer EarlierFirst (suc (suc (suc (suc (suc (suc (suc (suc n)))))))) high low = absurd (omega (arith, low))
-
--- ---- creating one table after another
+whole_layout layout state =
+    schema_unchanged (schema_of layout) (schema_of layout).tables [] state (λ trees. tt)
 
 below_ten : (P : ℕ → Type 0) → P 0 → P 1 → P 2 → P 3 → P 4 → P 5 → P 6 → P 7 → P 8 → P 9 → (i : ℕ) → i < 10 → P i
 below_ten P a b c d e f g h i j zero low = a
@@ -242,20 +203,73 @@ below_ten P a b c d e f g h i j (suc (suc (suc (suc (suc (suc (suc (suc zero))))
 below_ten P a b c d e f g h i j (suc (suc (suc (suc (suc (suc (suc (suc (suc zero))))))))) low = j
 below_ten P a b c d e f g h i j (suc (suc (suc (suc (suc (suc (suc (suc (suc (suc n)))))))))) low = absurd (omega arith)
 
+-- The statement drops the table at this place, if the tables before it are the only others.
+abbrev Drops : Layout → ℕ → Type 0
+Drops layout n =
+    (t : Table) × IsDroppedBy (drop_text layout n) (tables_of layout (suc n)) (tables_of layout n) n t
+
+own_drops : (n : ℕ) → n < 10 → 3 ≤ n → Drops Own n
+own_drops = below_ten (λ n. 3 ≤ n → Drops Own n)
+    (λ high. absurd (omega (arith, high))) (λ high. absurd (omega (arith, high))) (λ high. absurd (omega (arith, high)))
+    (λ _. (_, own_move_dropped)) (λ _. (_, own_list_dropped)) (λ _. (_, own_grade_dropped))
+    (λ _. (_, own_word_dropped)) (λ _. (_, own_result_dropped)) (λ _. (_, own_choice_dropped))
+    (λ _. (_, own_going_dropped))
+
+documented_drops : (n : ℕ) → n < 10 → 3 ≤ n → Drops Documented n
+documented_drops = below_ten (λ n. 3 ≤ n → Drops Documented n)
+    (λ high. absurd (omega (arith, high))) (λ high. absurd (omega (arith, high))) (λ high. absurd (omega (arith, high)))
+    (λ _. (_, documented_choice_dropped)) (λ _. (_, documented_word_dropped)) (λ _. (_, documented_result_dropped))
+    (λ _. (_, documented_move_dropped)) (λ _. (_, documented_list_dropped)) (λ _. (_, documented_grade_dropped))
+    (λ _. (_, documented_going_dropped))
+
+earlier_drops : (n : ℕ) → n < 10 → 3 ≤ n → n < 8 → Drops EarlierFirst n
+earlier_drops = below_ten (λ n. 3 ≤ n → n < 8 → Drops EarlierFirst n)
+    (λ high _. absurd (omega (arith, high))) (λ high _. absurd (omega (arith, high)))
+    (λ high _. absurd (omega (arith, high)))
+    (λ _ _. (_, earlier_move_dropped)) (λ _ _. (_, earlier_list_dropped)) (λ _ _. (_, earlier_word_dropped))
+    (λ _ _. (_, earlier_result_dropped)) (λ _ _. (_, earlier_choice_dropped))
+    (λ _ low. absurd (omega (arith, low))) (λ _ low. absurd (omega (arith, low)))
+
+drops : (layout : Layout) (n : ℕ) → 3 ≤ n → n < table_count layout → Drops layout n
+drops Own n high low = own_drops n low high
+drops Documented n high low = documented_drops n low high
+drops DocumentedSecond n high low = documented_drops n (omega (arith, low)) high
+drops DocumentedFirst n high low = documented_drops n (omega (arith, low)) high
+drops EarlierFirst n high low = earlier_drops n (omega (arith, low)) high low
+
+module _ (old mid new : State) (early : HasCleanDisk new → HasCleanDisk mid) where
+  -- There is one table less.
+  pub one_fewer : (layout : Layout) (n : ℕ) → 3 ≤ n → n < table_count layout
+      → (HasCleanDisk new → HasRun (drop_text layout n) [] mid new) → LeavesFirst layout (suc n) old mid
+      → LeavesFirst layout n old new
+  one_fewer layout n high low runs first =
+      and_then old mid new early (schema_of layout) (tables_of layout (suc n)) (tables_of layout n)
+      (tables_of layout (suc n)).tables (tables_of layout n).tables [] [] (keeps_one_fewer layout n) first
+      (loses _ _ _ n _ (drops layout n high low).1 mid new runs)
+
+-- ---- creating one table after another
+
 module _ (old mid new : State) (early : HasCleanDisk new → HasCleanDisk mid) (before : Schema) (kept few : ℕ) where
   abbrev More : ℕ → Type 0
   More n =
       kept ≤ n → few ≤ n → (HasCleanDisk new → HasRun (schema.table_text n) [] mid new)
-      → ChangesSchema before (first_tables n) (take kept office_schema.tables) (drop few (take n office_schema.tables)) old mid
-      → ChangesSchema before (first_tables (n + 1)) (take kept office_schema.tables) (drop few (take (n + 1) office_schema.tables)) old new
+      → ChangesSchema before (first_tables n) (take kept office_schema.tables) (drop few (take n office_schema.tables))
+      old mid
+      → ChangesSchema before (first_tables (n + 1)) (take kept office_schema.tables)
+      (drop few (take (n + 1) office_schema.tables)) old new
 
-  more_by : (text : List ℕ) (n : ℕ) (declared t : Table) → slice_get office_schema.tables n ≡ Some t → record declared { tree = next_tree (first_tables n) } ≡ t
-      → IsDeclaredBy text (first_tables n) (first_tables (suc n)) declared → kept ≤ n → few ≤ n → (HasCleanDisk new → HasRun text [] mid new)
-      → ChangesSchema before (first_tables n) (take kept office_schema.tables) (drop few (take n office_schema.tables)) old mid
-      → ChangesSchema before (first_tables (suc n)) (take kept office_schema.tables) (drop few (take (suc n) office_schema.tables)) old new
+  more_by : (text : List ℕ) (n : ℕ) (declared t : Table) → slice_get office_schema.tables n ≡ Some t
+      → record declared { tree = next_tree (first_tables n) } ≡ t
+      → IsDeclaredBy text (first_tables n) (first_tables (suc n)) declared → kept ≤ n → few ≤ n
+      → (HasCleanDisk new → HasRun text [] mid new)
+      → ChangesSchema before (first_tables n) (take kept office_schema.tables) (drop few (take n office_schema.tables))
+      old mid
+      → ChangesSchema before (first_tables (suc n)) (take kept office_schema.tables)
+      (drop few (take (suc n) office_schema.tables)) old new
   more_by text n declared t here is it lower low runs first =
       one_made old mid new early before kept few n t here low lower first
-      (subst (λ x. ChangesSchema (first_tables n) (first_tables (suc n)) (take n office_schema.tables) (x ∷ []) mid new) is (gains text (first_tables n) (first_tables (suc n)) declared it mid new runs))
+      (subst (λ x. ChangesSchema (first_tables n) (first_tables (suc n)) (take n office_schema.tables) (x ∷ []) mid
+          new) is (gains text (first_tables n) (first_tables (suc n)) declared it mid new runs))
 
   -- There is one more table, without rows.
   pub one_more_made : (n : ℕ) → n < 10 → More n
@@ -287,7 +301,8 @@ module _ (first : ℕ) (old new : Trees) (same : KeepsRows (take first office_sc
       → HoldsRecords new name []
   emptied name place here =
       stays (columns_of name) [] [] _
-      (all-slice_get (λ (t : Table). new t.tree ≡ []) (drop first office_schema.tables) place (table_named name) here none)
+      (all-slice_get (λ (t : Table). new t.tree ≡ []) (drop first office_schema.tables) place (table_named name) here
+          none)
       (none_held (columns_of name))
 
 -- The tables of a round are there, without rows.
@@ -317,7 +332,8 @@ clears old new change = record {
 }
 
 -- The first three tables have the same places in every layout.
-pub first_three : (layout : Layout) (old new : State) → LeavesFirst layout 3 old new → ChangesSchema (schema_of layout) (first_tables 3) (take 3 office_schema.tables) [] old new
+pub first_three : (layout : Layout) (old new : State) → LeavesFirst layout 3 old new
+    → ChangesSchema (schema_of layout) (first_tables 3) (take 3 office_schema.tables) [] old new
 first_three Own old new h = h
 first_three Documented old new h = h
 first_three DocumentedSecond old new h = h
@@ -325,7 +341,9 @@ first_three DocumentedFirst old new h = h
 first_three EarlierFirst old new h = h
 
 -- The tables after the first three are those that this program creates, and empty.
-pub rebuilds : (layout : Layout) (old new : State) → ChangesSchema (schema_of layout) office_schema (take 3 office_schema.tables) (drop 3 office_schema.tables) old new → Rebuilds layout old new
+pub rebuilds : (layout : Layout) (old new : State)
+    → ChangesSchema (schema_of layout) office_schema (take 3 office_schema.tables) (drop 3 office_schema.tables) old
+    new → Rebuilds layout old new
 rebuilds layout old new change = record {
   shown = λ tables clean was.
       let all = change.shown clean was.schema in

@@ -19,9 +19,10 @@ use Rattle.sqlite.proofs.Callers.{IsPlain, command_of, statement_of, runs_as}
 use Rattle.office_schema.specs.tables.Inner.Declaring.{Adds}
 use Rattle.office_schema.specs.tables.Declaring.{ChangesSchema}
 use Rattle.office_schema.specs.tables.Schema.{first_tables}
-use Rattle.office_schema.specs.tables.Layouts.{documented_tables, earlier_tables}
+use Rattle.office_schema.specs.tables.Layouts.{tables_of}
 use Rattle.office_schema.specs.tables.Schema as schema
 use Rattle.office_schema.specs.tables.Steps.{HasRun}
+use Rattle.office_schema.specs.declared.tables.layouts.Layout.TheVariants.{Documented, EarlierFirst}
 use Rattle.office_schema.specs.tables.Inner.Texts.{drop_table_text}
 use Rattle.office_schema.proofs.statements.Rows.{continued, same_value}
 
@@ -213,74 +214,74 @@ unfolding understood everything
 own_going_dropped =
     record { is = refl; plain = (refl, refl); found = refl; unmoved = refl; uncounted = refl; left = refl }
 
-pub documented_choice_dropped : IsDroppedBy (drop_table_text (codes "choice")) (documented_tables 4)
-    (documented_tables 3) 3 (schema.choice 7)
+pub documented_choice_dropped : IsDroppedBy (drop_table_text (codes "choice")) (tables_of Documented 4)
+    (tables_of Documented 3) 3 (schema.choice 7)
 unfolding understood everything
 documented_choice_dropped =
     record { is = refl; plain = (refl, refl); found = refl; unmoved = refl; uncounted = refl; left = refl }
 
-pub documented_word_dropped : IsDroppedBy (drop_table_text (codes "word")) (documented_tables 5) (documented_tables 4) 4
-    (schema.word 10)
+pub documented_word_dropped : IsDroppedBy (drop_table_text (codes "word")) (tables_of Documented 5)
+    (tables_of Documented 4) 4 (schema.word 10)
 unfolding understood everything
 documented_word_dropped =
     record { is = refl; plain = (refl, refl); found = refl; unmoved = refl; uncounted = refl; left = refl }
 
-pub documented_result_dropped : IsDroppedBy (drop_table_text (codes "result")) (documented_tables 6)
-    (documented_tables 5) 5 (schema.result 12)
+pub documented_result_dropped : IsDroppedBy (drop_table_text (codes "result")) (tables_of Documented 6)
+    (tables_of Documented 5) 5 (schema.result 12)
 unfolding understood everything
 documented_result_dropped =
     record { is = refl; plain = (refl, refl); found = refl; unmoved = refl; uncounted = refl; left = refl }
 
-pub documented_move_dropped : IsDroppedBy (drop_table_text (codes "move")) (documented_tables 7) (documented_tables 6) 6
-    (schema.move 15)
+pub documented_move_dropped : IsDroppedBy (drop_table_text (codes "move")) (tables_of Documented 7)
+    (tables_of Documented 6) 6 (schema.move 15)
 unfolding understood everything
 documented_move_dropped =
     record { is = refl; plain = (refl, refl); found = refl; unmoved = refl; uncounted = refl; left = refl }
 
-pub documented_list_dropped : IsDroppedBy (drop_table_text (codes "list")) (documented_tables 8) (documented_tables 7) 7
-    (schema.list 17)
+pub documented_list_dropped : IsDroppedBy (drop_table_text (codes "list")) (tables_of Documented 8)
+    (tables_of Documented 7) 7 (schema.list 17)
 unfolding understood everything
 documented_list_dropped =
     record { is = refl; plain = (refl, refl); found = refl; unmoved = refl; uncounted = refl; left = refl }
 
-pub documented_grade_dropped : IsDroppedBy (drop_table_text (codes "grade")) (documented_tables 9)
-    (documented_tables 8) 8 (schema.grade 19)
+pub documented_grade_dropped : IsDroppedBy (drop_table_text (codes "grade")) (tables_of Documented 9)
+    (tables_of Documented 8) 8 (schema.grade 19)
 unfolding understood everything
 documented_grade_dropped =
     record { is = refl; plain = (refl, refl); found = refl; unmoved = refl; uncounted = refl; left = refl }
 
-pub documented_going_dropped : IsDroppedBy (drop_table_text (codes "going")) (documented_tables 10)
-    (documented_tables 9) 9 (schema.going 21)
+pub documented_going_dropped : IsDroppedBy (drop_table_text (codes "going")) (tables_of Documented 10)
+    (tables_of Documented 9) 9 (schema.going 21)
 unfolding understood everything
 documented_going_dropped =
     record { is = refl; plain = (refl, refl); found = refl; unmoved = refl; uncounted = refl; left = refl }
 
-pub earlier_move_dropped : IsDroppedBy (drop_table_text (codes "move")) (earlier_tables 4) (earlier_tables 3) 3
-    (schema.move 7)
+pub earlier_move_dropped : IsDroppedBy (drop_table_text (codes "move")) (tables_of EarlierFirst 4)
+    (tables_of EarlierFirst 3) 3 (schema.move 7)
 unfolding understood everything
 earlier_move_dropped =
     record { is = refl; plain = (refl, refl); found = refl; unmoved = refl; uncounted = refl; left = refl }
 
-pub earlier_list_dropped : IsDroppedBy (drop_table_text (codes "list")) (earlier_tables 5) (earlier_tables 4) 4
-    (schema.list 9)
+pub earlier_list_dropped : IsDroppedBy (drop_table_text (codes "list")) (tables_of EarlierFirst 5)
+    (tables_of EarlierFirst 4) 4 (schema.list 9)
 unfolding understood everything
 earlier_list_dropped =
     record { is = refl; plain = (refl, refl); found = refl; unmoved = refl; uncounted = refl; left = refl }
 
-pub earlier_word_dropped : IsDroppedBy (drop_table_text (codes "word")) (earlier_tables 6) (earlier_tables 5) 5
-    (schema.word 11)
+pub earlier_word_dropped : IsDroppedBy (drop_table_text (codes "word")) (tables_of EarlierFirst 6)
+    (tables_of EarlierFirst 5) 5 (schema.word 11)
 unfolding understood everything
 earlier_word_dropped =
     record { is = refl; plain = (refl, refl); found = refl; unmoved = refl; uncounted = refl; left = refl }
 
-pub earlier_result_dropped : IsDroppedBy (drop_table_text (codes "result")) (earlier_tables 7) (earlier_tables 6) 6
-    (schema.result 13)
+pub earlier_result_dropped : IsDroppedBy (drop_table_text (codes "result")) (tables_of EarlierFirst 7)
+    (tables_of EarlierFirst 6) 6 (schema.result 13)
 unfolding understood everything
 earlier_result_dropped =
     record { is = refl; plain = (refl, refl); found = refl; unmoved = refl; uncounted = refl; left = refl }
 
-pub earlier_choice_dropped : IsDroppedBy (drop_table_text (codes "choice")) (earlier_tables 8) (earlier_tables 7) 7
-    (schema.choice 16)
+pub earlier_choice_dropped : IsDroppedBy (drop_table_text (codes "choice")) (tables_of EarlierFirst 8)
+    (tables_of EarlierFirst 7) 7 (schema.choice 16)
 unfolding understood everything
 earlier_choice_dropped =
     record { is = refl; plain = (refl, refl); found = refl; unmoved = refl; uncounted = refl; left = refl }

@@ -1,5 +1,5 @@
 -- The tables of an office in a database.
-use Rattle.std.specs.Prelude.{◌≡◌, ℕ, Bool, true, false, List, []}
+use Rattle.std.specs.Prelude.{◌≡◌, ◌==◌, ℕ, Bool, true, false, cond, List, [], ◌∷◌}
 use Rattle.sqlite_value.specs.Order.{Row}
 use Rattle.sqlite_trees.specs.Tree.{Trees}
 use Rattle.sqlite_schema.specs.declared.schema.Schema.{Schema}
@@ -10,7 +10,11 @@ use Rattle.office_schema.specs.cells.Columns.{room_columns, person_columns, roun
 use Rattle.office_schema.specs.cells.Columns.{word_columns, result_columns, move_columns, list_columns}
 use Rattle.office_schema.specs.cells.Columns.{grade_columns, going_columns}
 use Rattle.office_schema.specs.tables.Holds.{Holds}
-use Rattle.office_schema.specs.tables.Schema.{office_schema}
+use Rattle.office_schema.specs.tables.ByName.{place_of}
+use Rattle.office_schema.specs.tables.Schema.{office_schema, own_order}
+use Rattle.office_schema.specs.declared.tables.names.TableName.{TableName}
+use Rattle.office_schema.specs.declared.tables.names.TableName.TheVariants.{Choices, Words, Results, Moves, Lists}
+use Rattle.office_schema.specs.declared.tables.names.TableName.TheVariants.{Grades, Going}
 
 -- If the table exists, it holds these records. If the table does not exist, there are no records.
 abbrev pub HoldsIf : {X : Type 0} → Bool → (X → Row) → List Row → List X → Type 0
@@ -26,6 +30,23 @@ pub record TableTrees : Type 0 where
   pub lists : ℕ
   pub grades : ℕ
   pub going : ℕ
+
+-- the tree of the table with this name among the tables in an order, or 0 if it is not among them
+abbrev pub tree_in : List (TableName × ℕ) → TableName → ℕ
+tree_in [] name = 0
+tree_in (o ∷ order) name = cond (place_of o.0 == place_of name) o.1 (tree_in order name)
+
+-- the trees of the tables in an order; if a table is not among them, the number of its tree means nothing
+abbrev pub trees_in : List (TableName × ℕ) → TableTrees
+trees_in order = record {
+  choices = tree_in order Choices;
+  words = tree_in order Words;
+  results = tree_in order Results;
+  moves = tree_in order Moves;
+  lists = tree_in order Lists;
+  grades = tree_in order Grades;
+  going = tree_in order Going;
+}
 
 -- The tree of each table holds the records of this table. The two flags say whether there are tables of grades and of
 -- leavers.
@@ -51,15 +72,7 @@ pub record HasTablesAt (declared : Schema) (at : TableTrees) (has_grades has_lea
 -- ---- the tables that this program creates
 
 abbrev pub own_trees : TableTrees
-own_trees = record {
-  choices = 18;
-  words = 13;
-  results = 15;
-  moves = 7;
-  lists = 9;
-  grades = 11;
-  going = 21;
-}
+own_trees = trees_in own_order
 
 abbrev pub AreHeld : Trees → Tables → Type 0
 AreHeld = AreHeldAt own_trees true true

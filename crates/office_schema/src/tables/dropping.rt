@@ -3,12 +3,12 @@ ghost use Rattle.std.specs.Prelude.{◌≡◌, ◌<◌, ◌≤◌, OnOk, OnErr};
 ghost use Rattle.sqlite.specs.Held.{state};
 ghost use Rattle.office_schema.specs.tables.Inner.Declaring.{DropsTooFew};
 ghost use Rattle.office_schema.specs.tables.Declaring.{LeavesFirst};
-ghost use Rattle.office_schema.specs.tables.Inner.Texts.{drop_text};
+ghost use Rattle.office_schema.specs.tables.Inner.Texts.{drop_text, drop_text_named};
 ghost use Rattle.office_schema.specs.tables.Layouts.{table_count};
 ghost use Rattle.office_schema.specs.tables.Steps.{StaysInside};
-ghost use Rattle.office_schema.specs.declared.tables.layouts.Layout.TheVariants.{Documented, EarlierFirst, Own};
 
 use crate::tables::layouts::Layout;
+use crate::tables::names::TableName;
 use crate::tables::running::run;
 use sqlite::{Alter, Error, Transaction};
 
@@ -34,67 +34,28 @@ pub(crate) fn drop_tables_to<S: Alter>(
     Ok(())
 }
 
-// Returns the statement that drops the table at this place. There is none for the first three tables, which are never
-// dropped.
+// Returns the statement that drops the table at this place of the layout.
 fn drop_text(layout: Layout, place: usize) -> &'static str
-    requires low { 3 ≤ place }
-    requires high { place < table_count layout }
+    requires { place < table_count layout }
     ensures { result.now ≡ drop_text layout place }
 {
-    match layout {
-        Layout::Own => own_drop_text(place),
-        Layout::Documented => documented_drop_text(place),
-        Layout::DocumentedSecond => documented_drop_text(place),
-        Layout::DocumentedFirst => documented_drop_text(place),
-        Layout::EarlierFirst => earlier_drop_text(place),
-    }
+    text_named(layout.order()[place].0)
 }
 
-// Returns the statement that drops the table at this place of the layout `Own`.
-fn own_drop_text(place: usize) -> &'static str
-    requires low { 3 ≤ place }
-    requires high { place < 10 }
-    ensures { result.now ≡ drop_text Own place }
+// Returns the statement that drops the table with this name.
+fn text_named(name: TableName) -> &'static str
+    ensures { result.now ≡ drop_text_named name }
 {
-    match place {
-        3 => "DROP TABLE move",
-        4 => "DROP TABLE list",
-        5 => "DROP TABLE grade",
-        6 => "DROP TABLE word",
-        7 => "DROP TABLE result",
-        8 => "DROP TABLE choice",
-        _ => "DROP TABLE going",
-    }
-}
-
-// Returns the statement that drops the table at this place of a layout in the order of `docs/formats.md`.
-fn documented_drop_text(place: usize) -> &'static str
-    requires low { 3 ≤ place }
-    requires high { place < 10 }
-    ensures { result.now ≡ drop_text Documented place }
-{
-    match place {
-        3 => "DROP TABLE choice",
-        4 => "DROP TABLE word",
-        5 => "DROP TABLE result",
-        6 => "DROP TABLE move",
-        7 => "DROP TABLE list",
-        8 => "DROP TABLE grade",
-        _ => "DROP TABLE going",
-    }
-}
-
-// Returns the statement that drops the table at this place of the layout `EarlierFirst`.
-fn earlier_drop_text(place: usize) -> &'static str
-    requires low { 3 ≤ place }
-    requires high { place < 8 }
-    ensures { result.now ≡ drop_text EarlierFirst place }
-{
-    match place {
-        3 => "DROP TABLE move",
-        4 => "DROP TABLE list",
-        5 => "DROP TABLE word",
-        6 => "DROP TABLE result",
-        _ => "DROP TABLE choice",
+    match name {
+        TableName::Rooms => "DROP TABLE room",
+        TableName::People => "DROP TABLE person",
+        TableName::Rounds => "DROP TABLE round",
+        TableName::Choices => "DROP TABLE choice",
+        TableName::Words => "DROP TABLE word",
+        TableName::Results => "DROP TABLE result",
+        TableName::Moves => "DROP TABLE move",
+        TableName::Lists => "DROP TABLE list",
+        TableName::Grades => "DROP TABLE grade",
+        TableName::Going => "DROP TABLE going",
     }
 }

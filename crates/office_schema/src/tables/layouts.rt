@@ -1,6 +1,11 @@
 //! The layouts that the tables of an office may have in a database.
-ghost use Rattle.std.specs.Prelude.{◌≡◌};
-ghost use Rattle.office_schema.specs.tables.Layouts.{has_grades, has_leavers, table_count, version_of};
+ghost use Rattle.std.specs.Prelude.{◌≡◌, ◌≤◌, length};
+ghost use Rattle.office_schema.specs.tables.Layouts.{has_grades, has_leavers, order_of, table_count, version_of};
+
+mod orders;
+
+use crate::tables::layouts::orders::{DOCUMENTED, EARLIER, OWN};
+use crate::tables::names::TableName;
 
 /// A layout of an office's tables in a database: their version, and the order in which they were created.
 #[derive(Clone, Copy, Debug, PartialEq, Eq, Drop)]
@@ -32,42 +37,39 @@ impl Layout {
         }
     }
 
-    /// Returns the number of tables.
+    /// Returns the tables in the order of the layout, each with the number of its tree. The layout has the first
+    /// `tables()` of them.
+    pub fn order(self) -> &'static [(TableName, u32)]
+        ensures order { result.now ≡ order_of self }
+        ensures whole { table_count self ≤ length result.now }
+    {
+        match self {
+            Layout::Own => &OWN,
+            Layout::Documented => &DOCUMENTED,
+            Layout::DocumentedSecond => &DOCUMENTED,
+            Layout::DocumentedFirst => &DOCUMENTED,
+            Layout::EarlierFirst => &EARLIER,
+        }
+    }
+
+    /// Returns the number of tables. Version 1 has eight tables, and each later version has one more.
     pub fn tables(self) -> usize
         ensures { result ≡ table_count self }
     {
-        match self {
-            Layout::Own => 10,
-            Layout::Documented => 10,
-            Layout::DocumentedSecond => 9,
-            Layout::DocumentedFirst => 8,
-            Layout::EarlierFirst => 8,
-        }
+        7 + usize::from(self.version())
     }
 
     /// Returns whether the layout has a table of grades.
     pub fn has_grades(self) -> bool
         ensures { result ≡ has_grades self }
     {
-        match self {
-            Layout::Own => true,
-            Layout::Documented => true,
-            Layout::DocumentedSecond => true,
-            Layout::DocumentedFirst => false,
-            Layout::EarlierFirst => false,
-        }
+        self.version() >= 2
     }
 
     /// Returns whether the layout has a table of leavers.
     pub fn has_leavers(self) -> bool
         ensures { result ≡ has_leavers self }
     {
-        match self {
-            Layout::Own => true,
-            Layout::Documented => true,
-            Layout::DocumentedSecond => false,
-            Layout::DocumentedFirst => false,
-            Layout::EarlierFirst => false,
-        }
+        self.version() >= 3
     }
 }

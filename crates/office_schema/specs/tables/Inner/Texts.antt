@@ -4,8 +4,10 @@ use Rattle.sqlite_sql.specs.Term.{Term, col, op2}
 use Rattle.sqlite_sql.specs.declared.ops.BinaryOp.TheVariants.{Compare}
 use Rattle.sqlite_sql.specs.declared.ops.CompareOp.TheVariants.{Eq}
 use Rattle.sqlite_value.specs.declared.keys.Collation.TheVariants.{Binary}
-use Rattle.office_schema.specs.tables.Layouts.{table_at}
+use Rattle.office_schema.specs.tables.Layouts.{name_at}
+use Rattle.office_schema.specs.tables.Schema.{office_table}
 use Rattle.office_schema.specs.declared.tables.layouts.Layout.{Layout}
+use Rattle.office_schema.specs.declared.tables.names.TableName.{TableName}
 
 -- the test that the column at this place equals the parameter
 abbrev pub by_parameter : ℕ → ℕ → Term
@@ -101,6 +103,10 @@ add_list_text = codes "INSERT INTO list(label, kind, body, added) VALUES (?1, ?2
 abbrev pub set_body_text : List ℕ
 set_body_text = codes "UPDATE list SET body = ?2 WHERE label = ?1"
 
--- the statement that drops the table at this place
+-- the statement that drops the table with this name
+abbrev pub drop_text_named : TableName → List ℕ
+drop_text_named name = drop_table_text (office_table name 0).name
+
+-- the statement that drops the table at this place of the layout
 abbrev pub drop_text : Layout → ℕ → List ℕ
-drop_text layout place = drop_table_text (table_at layout place).name
+drop_text layout place = drop_text_named (name_at layout place)

@@ -6,6 +6,8 @@ use Rattle.office_db.proofs.loading.layout.are_declared.Given as goal
 -- All are there if and only if the rest are.
 abbrev pub invariant-loop-place : goal.invariant-loop-place
 invariant-loop-place l = record {
-  left : AllByRecursion (IsAmong l.tables) (drop l.place l.own) → AllByRecursion (IsAmong l.tables) l.own;
-  whole : AllByRecursion (IsAmong l.tables) l.own → AllByRecursion (IsAmong l.tables) (drop l.place l.own);
+  left : AllByRecursion (λ o. IsAmong l.tables o.0) (drop l.place l.own)
+      → AllByRecursion (λ o. IsAmong l.tables o.0) l.own;
+  whole : AllByRecursion (λ o. IsAmong l.tables o.0) l.own
+      → AllByRecursion (λ o. IsAmong l.tables o.0) (drop l.place l.own);
 }

@@ -1,10 +1,11 @@
-use Rattle.std.proofs.Common.{◌≡◌, ◌-◌, ◌+◌, ◌∙◌, suc, refl, subst, arith}
+use Rattle.std.proofs.Common.{◌≡◌, ◌-◌, ◌+◌, ◌∙◌, suc, [], refl, subst, inl, inr, arith}
+use Rattle.std.proofs.lemmas.Result.{err_from_is_err_and}
 use native.Mathlib.Numerals.{unary_clauses}
 use Rattle.sqlite.specs.Held.{state}
 use Rattle.sqlite.specs.State.{HasCleanDisk}
 use Rattle.office_schema.specs.tables.Declaring.{LeavesFirst}
-use Rattle.office_schema.specs.tables.Layouts.{table_count}
-use Rattle.office_schema.proofs.statements.Cleared.{one_fewer, whole_layout}
+use Rattle.office_schema.specs.tables.Layouts.{schema_of, table_count, tables_of}
+use Rattle.office_schema.proofs.statements.Cleared.{cut_short, one_fewer, whole_layout}
 use Rattle.office_schema.proofs.statements.Steps.{inside_none, inside_then}
 use Rattle.office_schema.proofs.tables.dropping.drop_tables_to.Goals as goal
 
@@ -35,3 +36,19 @@ loop-step-preserved g c =
           (subst (λ n. LeavesFirst c.args.layout n old mid) before c.loop-step.invariant.change));
       inside = inside_then _ _ _ c.loop-step.invariant.inside c.run.ensures.inside;
     }
+
+pub returns-in_err-run-clause-undone : goal.returns-in_err-run-clause-undone
+returns-in_err-run-clause-undone g c =
+    let old = state g.S.Store c.args.tx.now.conn.now in
+    let mid = state g.S.Store c.loop-step.tx.conn.now in
+    let new = state g.S.Store c.run.new.tx.conn.now in
+    let layout = c.args.layout in
+    let left = table_count layout - c.loop-step.step in
+    let early : HasCleanDisk new → HasCleanDisk mid = λ clean. omega (arith, c.run.ensures.inside.survives.clean) in
+    let p = err_from_is_err_and c.from_residual.result c.from_residual.ensures.1 in
+    rw (p.1) (λ intact. elim
+    (cut_short old mid new early (schema_of layout) (tables_of layout left) (tables_of layout left).tables []
+    c.loop-step.invariant.inside c.run.ensures.inside c.loop-step.invariant.change c.in_err-run.ensures.undone intact) [
+      | inl cut ↦ inl (left, omega (arith, c.tables-count.ensures), omega (arith, c.tables-count.ensures), cut)
+      | inr rolled ↦ inr rolled
+    ])

@@ -1,49 +1,10 @@
-//! The tables and the indexes of each order in which the tables of an office may have been created. The versions of an
-//! order have the first of them.
-use office_schema::tables::names::TableName;
+//! The indexes of each order in which the tables of an office may have been created. The versions of an order have the
+//! first of them.
 
-// Each table, with its tree.
+// The name of an index, its tree, the tree of its table, and its columns.
+pub(crate) type OwnIndex = (&'static str, u32, u32, &'static [usize]);
 
-pub(crate) const OWN_TABLES: [(TableName, u32); 10] = [
-    (TableName::Rooms, 0),
-    (TableName::People, 2),
-    (TableName::Rounds, 6),
-    (TableName::Moves, 7),
-    (TableName::Lists, 9),
-    (TableName::Grades, 11),
-    (TableName::Words, 13),
-    (TableName::Results, 15),
-    (TableName::Choices, 18),
-    (TableName::Going, 21),
-];
-
-pub(crate) const DOCUMENTED_TABLES: [(TableName, u32); 10] = [
-    (TableName::Rooms, 0),
-    (TableName::People, 2),
-    (TableName::Rounds, 6),
-    (TableName::Choices, 7),
-    (TableName::Words, 10),
-    (TableName::Results, 12),
-    (TableName::Moves, 15),
-    (TableName::Lists, 17),
-    (TableName::Grades, 19),
-    (TableName::Going, 21),
-];
-
-pub(crate) const EARLIER_TABLES: [(TableName, u32); 8] = [
-    (TableName::Rooms, 0),
-    (TableName::People, 2),
-    (TableName::Rounds, 6),
-    (TableName::Moves, 7),
-    (TableName::Lists, 9),
-    (TableName::Words, 11),
-    (TableName::Results, 13),
-    (TableName::Choices, 16),
-];
-
-// Each index, with its name, its tree, the tree of its table, and its columns.
-
-pub(crate) const OWN_INDEXES: [(&str, u32, u32, &[usize]); 13] = [
+pub(super) const OWN: [OwnIndex; 13] = [
     ("sqlite_autoindex_room_1", 1, 0, &[1]),
     ("sqlite_autoindex_person_1", 3, 2, &[1]),
     ("sqlite_autoindex_person_2", 4, 2, &[3]),
@@ -59,7 +20,7 @@ pub(crate) const OWN_INDEXES: [(&str, u32, u32, &[usize]); 13] = [
     ("sqlite_autoindex_going_1", 22, 21, &[1]),
 ];
 
-pub(crate) const DOCUMENTED_INDEXES: [(&str, u32, u32, &[usize]); 13] = [
+pub(super) const DOCUMENTED: [OwnIndex; 13] = [
     ("sqlite_autoindex_room_1", 1, 0, &[1]),
     ("sqlite_autoindex_person_1", 3, 2, &[1]),
     ("sqlite_autoindex_person_2", 4, 2, &[3]),
@@ -75,7 +36,7 @@ pub(crate) const DOCUMENTED_INDEXES: [(&str, u32, u32, &[usize]); 13] = [
     ("sqlite_autoindex_going_1", 22, 21, &[1]),
 ];
 
-pub(crate) const EARLIER_INDEXES: [(&str, u32, u32, &[usize]); 11] = [
+pub(super) const EARLIER: [OwnIndex; 11] = [
     ("sqlite_autoindex_room_1", 1, 0, &[1]),
     ("sqlite_autoindex_person_1", 3, 2, &[1]),
     ("sqlite_autoindex_person_2", 4, 2, &[3]),
