@@ -7,7 +7,6 @@ pub mod holding;
 pub mod layout;
 pub mod listed;
 pub mod numbers;
-mod queries;
 pub mod reading;
 pub mod versions;
 

@@ -6,7 +6,7 @@ use Rattle.sqlite_trees.specs.declared.store.Store.{Ghosts}
 use Rattle.office_state.specs.declared.office.Office.{Office}
 use Rattle.office_file.specs.Access.{FileAccess}
 use Rattle.office_db.specs.loading.Finding.{AreWhole, HoldsOtherVersion, names_round}
-use Rattle.office_db.specs.loading.FirstTables.{BeginsOffice}
+use Rattle.office_schema.specs.tables.FirstTables.{BeginsOffice}
 use Rattle.office_store.specs.Adopting.{CommitsAdopted, IsFaultOf, MayRefuse, HasOwnLayout}
 use Rattle.office_store.specs.Desk.{DeskState, Shows}
 use Rattle.office_store.specs.declared.desk.faults.DeskFault.{DeskFault}

@@ -6,7 +6,7 @@ use Rattle.sqlite_trees.specs.declared.store.Store.{Ghosts}
 use Rattle.office_state.specs.declared.office.Office.{Office}
 use Rattle.office_file.specs.Access.{FileAccess}
 use Rattle.office_db.specs.loading.Finding.{AreWhole, names_round}
-use Rattle.office_db.specs.loading.FirstTables.{BeginsOffice}
+use Rattle.office_schema.specs.tables.FirstTables.{BeginsOffice}
 use Rattle.office_migration.specs.Causes.{AreRowsAsStated, HoldsLayoutVersion, StatesVersion, HoldsEarlierFirst}
 use Rattle.office_migration.specs.Names.{uses_missing_name}
 use Rattle.office_migration.specs.Renewed.{CommitsMigrated}

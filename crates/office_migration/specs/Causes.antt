@@ -10,7 +10,7 @@ use Rattle.office_schema.specs.tables.Layouts.{schema_of, table_count, version_o
 use Rattle.office_schema.specs.tables.InLayout.{AreHeldIn, HoldsOfficeIn}
 use Rattle.office_schema.specs.declared.tables.layouts.Layout.{Layout}
 use Rattle.office_db.specs.loading.Finding.{AreWhole, DeclaresTables, HoldsVersion, names_round}
-use Rattle.office_db.specs.loading.FirstTables.{Begins, BeginsOffice}
+use Rattle.office_schema.specs.tables.FirstTables.{Begins, BeginsOffice}
 use Rattle.office_migration.specs.Names.{uses_missing_name}
 use Rattle.office_migration.specs.Versions.{IsEarlier, IsNotEarlier, IsOfVersion}
 use Rattle.office_migration.specs.declared.migrating.MigrateFault.{MigrateFault}

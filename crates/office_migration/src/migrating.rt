@@ -17,7 +17,7 @@ ghost use Rattle.office_db.specs.loading.Finding.{AreWhole, DeclaresTables, Hold
 ghost use Rattle.office_db.specs.loading.Reading.{OnlyReads};
 ghost use Rattle.office_migration.specs.Causes.{HasCause, HoldsEarlier, HoldsLayoutVersion, IsAllowed, IsVersionFault};
 ghost use Rattle.office_migration.specs.Causes.{AreRowsAsStated, StatesVersion, HoldsEarlierFirst};
-ghost use Rattle.office_db.specs.loading.FirstTables.{BeginsOffice};
+ghost use Rattle.office_schema.specs.tables.FirstTables.{BeginsOffice};
 ghost use Rattle.office_migration.specs.Names.{uses_missing_name, takes_name};
 ghost use Rattle.office_migration.specs.Renewed.{CommitsMigrated};
 ghost use Rattle.office_migration.specs.Versions.{HasEarlierLayout, IsEarlier, IsNotEarlier, IsOfVersion};

@@ -6,7 +6,7 @@ ghost use Rattle.sqlite.specs.State.{HasCleanDisk};
 ghost use Rattle.office_state.specs.declared.office.Office.{Office as Books};
 ghost use Rattle.office_schema.specs.tables.Layouts.{version_of};
 ghost use Rattle.office_schema.specs.declared.tables.layouts.Layout.{Layout as AnyLayout};
-ghost use Rattle.office_db.specs.loading.FirstTables.{Begins};
+ghost use Rattle.office_schema.specs.tables.FirstTables.{Begins};
 ghost use Rattle.office_db.specs.loading.Reading.{OnlyReads};
 ghost use Rattle.office_migration.specs.Causes.{AreEarlierRows, AreNoEarlierRows, BeginsAt, IsNameFault, HoldsEarlierFirst};
 ghost use Rattle.office_migration.specs.Versions.{IsEarlier};

@@ -1,5 +1,8 @@
-//! Statements on the tables of an office in a database. Each function runs one statement inside a transaction, but
-//! `create_tables_from`, `clear_round_tables` and `migrate_tables` run several.
+//! The tables of an office in a database. For each table, defines the form of its rows, the query for all rows, and
+//! the statements that change it. The first two are an impl of `TableRow`.
+//!
+//! Each function that takes a transaction runs one statement inside it, but `create_tables_from`, `clear_round_tables`
+//! and `migrate_tables` run several.
 //!
 //! The contract of a function states the effect of its statements on typed records. A statement fails if the engine
 //! refuses it, or if an allocation or the disk fails. No clause says why a statement failed. A failed statement
@@ -25,4 +28,5 @@ pub mod rooms;
 pub mod round_tables;
 pub mod rounds;
 pub mod running;
+pub mod table_rows;
 pub mod words;

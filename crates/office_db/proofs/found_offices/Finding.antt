@@ -5,7 +5,7 @@ use Rattle.sqlite_schema.specs.declared.schema.Schema.{Schema}
 use Rattle.office_schema.specs.rows.Tables.{own_version}
 use Rattle.office_db.specs.loading.Causes.{HasCause, IsAllowed, IsNotOwn, layout_fault}
 use Rattle.office_db.specs.loading.Finding.{DeclaresTables, HoldsOtherVersion}
-use Rattle.office_db.specs.loading.FirstTables.{BeginsOffice}
+use Rattle.office_schema.specs.tables.FirstTables.{BeginsOffice}
 use Rattle.office_db.specs.declared.loading.finding.FindFault.{FindFault}
 use Rattle.office_db.specs.declared.loading.finding.FindFault.TheVariants.{Unavailable, NotAnOffice, OtherVersion}
 use Rattle.office_db.proofs.found_offices.LayoutTests.{one_layout}

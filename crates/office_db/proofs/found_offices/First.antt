@@ -4,7 +4,7 @@ use Rattle.sqlite.specs.Effect.{Database}
 use Rattle.sqlite.specs.State.{State}
 use Rattle.sqlite_schema.specs.declared.schema.Schema.{Schema}
 use Rattle.office_schema.specs.rows.Tables.{Tables}
-use Rattle.office_db.specs.loading.FirstTables.{Begins, HasTablesFirst, followed_by}
+use Rattle.office_schema.specs.tables.FirstTables.{Begins, HasTablesFirst, followed_by}
 use Rattle.office_db.specs.loading.Numbers.{IsLaidFirst, IsLaidOut}
 use Rattle.office_db.specs.loading.Reading.{OnlyReads}
 use Rattle.office_schema.specs.tables.Layouts.{schema_of}

@@ -11,7 +11,7 @@ use Rattle.sqlite_schema.specs.declared.schema.Table.{Table}
 use Rattle.sqlite_schema.specs.declared.schema.View.{View}
 use Rattle.sqlite_schema.specs.Names.{same_name}
 use Rattle.office_db.specs.loading.Finding.{names_round}
-use Rattle.office_db.specs.loading.FirstTables.{Begins, BeginsOffice, followed_by}
+use Rattle.office_schema.specs.tables.FirstTables.{Begins, BeginsOffice, followed_by}
 use Rattle.office_db.specs.loading.Inner.Indexes.{has_indexes, index_count, is_this_index}
 use Rattle.office_db.specs.loading.Inner.Lists.{pass_all}
 use Rattle.office_schema.specs.tables.Layouts.{schema_of, table_count}

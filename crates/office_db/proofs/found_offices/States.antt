@@ -12,7 +12,7 @@ use Rattle.sqlite.specs.State.{State, HasCleanDisk, CommitsShowing, Survives, Sh
 use Rattle.sqlite.specs.State.{FailsToQuery, FailsToShow, IsNotRun, IsRolledBack}
 use Rattle.office_schema.specs.tables.Crashes.{LeavesNothingNew, ShowsCommitted}
 use Rattle.office_schema.specs.tables.Steps.{Follows}
-use Rattle.office_db.specs.loading.Asking.{NeverReturns, OnlyAsks}
+use Rattle.office_schema.specs.tables.Asking.{NeverReturns, OnlyAsks}
 use Rattle.office_db.specs.loading.Reading.{OnlyReads}
 
 module _ (sql : List ℕ) (params : Row) (old new : State) where

@@ -24,8 +24,8 @@ use Rattle.office_schema.specs.tables.InLayout.{AreHeldIn, HasTablesIn}
 use Rattle.office_schema.specs.declared.tables.layouts.Layout.{Layout}
 use Rattle.office_schema.specs.declared.tables.layouts.Layout.TheVariants.{Own, Documented, DocumentedSecond}
 use Rattle.office_schema.specs.declared.tables.layouts.Layout.TheVariants.{DocumentedFirst, EarlierFirst}
-use Rattle.office_db.specs.loading.Listing.{ShowRecords, listed}
-use Rattle.office_db.specs.loading.FirstTables.{HasTablesFirst}
+use Rattle.office_schema.specs.tables.Listing.{ShowRecords, listed}
+use Rattle.office_schema.specs.tables.FirstTables.{HasTablesFirst}
 use Rattle.office_db.specs.loading.Numbers.{AllIf, HaveRowids, HasWholeRows, AllHaveRowids, IsLaidFirst, IsLaidOut}
 use Rattle.office_db.specs.loading.Numbers.{IsWhole}
 use Rattle.office_db.specs.loading.Reading.{AreShown, ShowIf}

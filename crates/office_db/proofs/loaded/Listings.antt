@@ -15,7 +15,7 @@ use Rattle.sqlite.specs.State.{State, Shown}
 use Rattle.sqlite.proofs.Callers.{reads_as}
 use Rattle.office_schema.specs.tables.Holds.{Holds, stored}
 use Rattle.office_schema.proofs.statements.Rows.{answer_over}
-use Rattle.office_db.specs.loading.Listing.{ListsTable, ShowRecords, DeterminesRecords, listed}
+use Rattle.office_schema.specs.tables.Listing.{ListsTable, ShowRecords, DeterminesRecords, listed}
 use Rattle.office_db.specs.loading.Reading.{ShowIf}
 use Rattle.std.proofs.lemmas.List.{nil_from_length}
 use Rattle.std.proofs.lemmas.List.Sorted.{length_permutation}

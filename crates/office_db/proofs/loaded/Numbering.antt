@@ -16,7 +16,7 @@ use Rattle.sqlite_trees.specs.Tree.{rowid}
 use Rattle.sqlite_trees.specs.View.{is_int}
 use Rattle.office_schema.specs.tables.Holds.{same_rowid}
 use Rattle.office_schema.proofs.statements.Edited.{flips}
-use Rattle.office_db.specs.loading.Listing.{listed}
+use Rattle.office_schema.specs.tables.Listing.{listed}
 use Rattle.office_db.specs.loading.Numbers.{HaveRowids, only_rowid}
 
 -- Each rowid is a number, and is less than each number that is greater than this one.

@@ -6,7 +6,7 @@ use Rattle.sqlite_value.specs.Order.{Row, column}
 use Rattle.sqlite_value.specs.declared.value.Value.TheVariants.{Int}
 use Rattle.sqlite.specs.Effect.{Database}
 use Rattle.office_db.specs.loading.Finding.{HoldsVersion}
-use Rattle.office_db.specs.loading.Listing.{listed}
+use Rattle.office_schema.specs.tables.Listing.{listed}
 use Rattle.office_db.specs.loading.Versions.{IsOnly, only_version}
 
 same_only : (a b : Row) → IsPermutation (a ∷ []) (b ∷ []) → b ≡ a

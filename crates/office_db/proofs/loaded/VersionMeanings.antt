@@ -12,10 +12,10 @@ use Rattle.office_schema.specs.tables.Schema.{room, person, round}
 use Rattle.office_schema.specs.declared.tables.layouts.Layout.{Layout}
 use Rattle.office_schema.specs.declared.tables.layouts.Layout.TheVariants.{Own, Documented, DocumentedSecond}
 use Rattle.office_schema.specs.declared.tables.layouts.Layout.TheVariants.{DocumentedFirst, EarlierFirst}
-use Rattle.office_db.proofs.asking.Selects.{selects_only_ask}
-use Rattle.office_db.specs.loading.Asking.{OnlyAsks}
-use Rattle.office_db.specs.loading.FirstTables.{BeginsOffice}
-use Rattle.office_db.specs.loading.Listing.{ListsTable}
+use Rattle.office_schema.proofs.asking.Selects.{selects_only_ask}
+use Rattle.office_schema.specs.tables.Asking.{OnlyAsks}
+use Rattle.office_schema.specs.tables.FirstTables.{BeginsOffice}
+use Rattle.office_schema.specs.tables.Listing.{ListsTable}
 use Rattle.office_db.specs.loading.Versions.{only_version}
 
 abbrev office_then : List Table → List Index → Schema

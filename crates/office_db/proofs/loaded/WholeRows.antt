@@ -17,7 +17,7 @@ use Rattle.sqlite_schema.specs.Rules.{Keeps, are_present, are_typed, has_compute
 use Rattle.sqlite_rules.proofs.RowLemmas.{untyped}
 use Rattle.sqlite.specs.Effect.{Database, IsDatabase}
 use Rattle.office_db.specs.loading.Finding.{AreWhole}
-use Rattle.office_db.specs.loading.FirstTables.{Begins}
+use Rattle.office_schema.specs.tables.FirstTables.{Begins}
 use Rattle.office_db.specs.loading.Numbers.{HasWholeRows, IsLaidFirst, IsLaidOut, IsWhole}
 use Rattle.office_db.proofs.found_offices.First.{begins_if_laid}
 use Rattle.office_schema.specs.tables.Layouts.{schema_of}

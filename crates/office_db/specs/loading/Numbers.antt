@@ -7,7 +7,7 @@ use Rattle.sqlite_sql.specs.Term.{Term, col}
 use Rattle.sqlite_trees.specs.Tree.{Trees, rowid}
 use Rattle.sqlite_trees.specs.View.{is_int}
 use Rattle.sqlite.specs.Effect.{Database}
-use Rattle.office_db.specs.loading.FirstTables.{Begins}
+use Rattle.office_schema.specs.tables.FirstTables.{Begins}
 use Rattle.office_schema.specs.tables.Holds.{same_rowid}
 use Rattle.office_schema.specs.tables.Layouts.{has_grades, has_leavers, schema_of, table_count, trees_of}
 use Rattle.office_schema.specs.declared.tables.layouts.Layout.{Layout}

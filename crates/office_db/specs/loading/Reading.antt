@@ -11,7 +11,7 @@ use Rattle.office_schema.specs.cells.Columns.{grade_columns, going_columns}
 use Rattle.office_schema.specs.cells.Forms.{IsRoomRow, IsPersonRow, IsRoundRow, IsChoiceRow}
 use Rattle.office_schema.specs.cells.Forms.{IsWordRow, IsResultRow, IsMoveRow, IsListRow}
 use Rattle.office_schema.specs.cells.Forms.{IsGradeRow, IsGoingRow}
-use Rattle.office_db.specs.loading.Listing.{ShowRecords}
+use Rattle.office_schema.specs.tables.Listing.{ShowRecords}
 use Rattle.office_schema.specs.tables.Layouts.{has_grades, has_leavers, trees_of}
 use Rattle.office_schema.specs.tables.Crashes.{LeavesNothingNew}
 use Rattle.office_schema.specs.tables.Steps.{Follows, IsIntact}

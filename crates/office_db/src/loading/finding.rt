@@ -14,7 +14,7 @@ ghost use Rattle.office_schema.specs.tables.InLayout.{HoldsOfficeIn};
 ghost use Rattle.office_schema.specs.declared.tables.layouts.Layout.{Layout as AnyLayout};
 ghost use Rattle.office_db.specs.loading.Causes.{HasCause, HasCauseIn, IsAllowed, IsNotOwn, layout_fault};
 ghost use Rattle.office_db.specs.loading.Finding.{AreWhole, HoldsOtherVersion, names_round};
-ghost use Rattle.office_db.specs.loading.FirstTables.{BeginsOffice};
+ghost use Rattle.office_schema.specs.tables.FirstTables.{BeginsOffice};
 ghost use Rattle.office_db.specs.loading.Reading.{OnlyReads};
 
 use crate::loading::first_tables::begins_office;

@@ -1,6 +1,6 @@
 //! Tests the first tables of a database. Any tables may follow them.
 ghost use Rattle.std.specs.Prelude.{◌≡◌, ◌&&◌, [], ◌∷◌, Decides, length, nat_le, take};
-ghost use Rattle.office_db.specs.loading.FirstTables.{Begins, BeginsOffice};
+ghost use Rattle.office_schema.specs.tables.FirstTables.{Begins, BeginsOffice};
 ghost use Rattle.office_db.specs.loading.Inner.Indexes.{has_indexes, index_count};
 ghost use Rattle.office_schema.specs.tables.Layouts.{schema_of, table_count};
 ghost use Rattle.office_schema.specs.tables.Schema.{person, room, round};

@@ -9,7 +9,7 @@ ghost use Rattle.office_schema.specs.rows.Tables.{rows_at};
 ghost use Rattle.office_schema.specs.cells.WellFormed.{IsWellFormed};
 ghost use Rattle.office_schema.specs.tables.Layouts.{version_of};
 ghost use Rattle.office_schema.specs.tables.InLayout.{HoldsOfficeIn};
-ghost use Rattle.office_db.specs.loading.FirstTables.{HoldsOfficeFirst};
+ghost use Rattle.office_schema.specs.tables.FirstTables.{HoldsOfficeFirst};
 ghost use Rattle.office_db.specs.loading.Numbers.{IsLaidFirst, IsLaidOut};
 ghost use Rattle.office_db.specs.loading.Reading.{OnlyReads};
 

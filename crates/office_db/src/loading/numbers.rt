@@ -4,8 +4,8 @@ ghost use Rattle.std.specs.List.Sorted.{IsPermutation};
 ghost use Rattle.sqlite.specs.State.{HasCleanDisk};
 ghost use Rattle.sqlite.specs.Held.{state};
 ghost use Rattle.office_schema.specs.tables.Layouts.{table_count};
-ghost use Rattle.office_db.specs.loading.FirstTables.{Begins};
-ghost use Rattle.office_db.specs.loading.Listing.{listed};
+ghost use Rattle.office_schema.specs.tables.FirstTables.{Begins};
+ghost use Rattle.office_schema.specs.tables.Listing.{listed};
 ghost use Rattle.office_db.specs.loading.Numbers.{HaveRowids, AllHaveRowids, only_rowid, rowid_text, tree_of};
 ghost use Rattle.office_db.specs.loading.Reading.{OnlyReads};
 

@@ -14,14 +14,16 @@ ghost use Rattle.office_schema.specs.tables.Crashes.{LeavesNothingNew};
 ghost use Rattle.office_schema.specs.tables.Holds.{Holds};
 ghost use Rattle.office_schema.specs.tables.Layouts.{version_of};
 ghost use Rattle.office_schema.specs.tables.Steps.{Follows, IsIntact};
+ghost use Rattle.office_schema.specs.tables.TableQueries.{has_table, query_columns, tree_in};
 ghost use Rattle.office_schema.specs.tables.InLayout.{HasTablesIn, HoldsOfficeIn};
-ghost use Rattle.office_db.specs.loading.FirstTables.{Begins, HasTablesFirst, HoldsOfficeFirst};
-ghost use Rattle.office_db.specs.loading.Listing.{ShowRecords};
+ghost use Rattle.office_schema.specs.tables.FirstTables.{Begins, HasTablesFirst, HoldsOfficeFirst};
+ghost use Rattle.office_schema.specs.tables.Listing.{ShowRecords};
 ghost use Rattle.office_db.specs.loading.Reading.{AreShown, OnlyReads};
 
-use crate::loading::listed::{Listed, records_if_there, table_records};
+use crate::loading::listed::{records_if_there, table_records};
 use office_schema::rows::{OfficeRecords, read_office};
 use office_schema::tables::layouts::Layout;
+use office_schema::tables::table_rows::TableRow;
 use office_state::Office;
 use sqlite::{Alter, Connection, Error, ErrorCode};
 use std::alloc::Global;
@@ -126,14 +128,14 @@ pub fn read_records<S: Alter>(
 // Reads the records of two tables. Returns `None` if a row of one of them does not have the form of its table's
 // records.
 #[tactic(auto, using(crate::proofs::found_offices::Following::reads_then))]
-fn read_two<A: Listed, B: Listed, S: Alter>(
+fn read_two<A: TableRow, B: TableRow, S: Alter>(
     alloc: Global,
     conn: &mut Connection<S>,
     layout: Layout,
 ) -> Result<Option<(Vec<A>, Vec<B>)>, Error>
     requires outside { conn.old.in_transaction ≡ false }
-    requires first { A.is_there layout ≡ true }
-    requires second { B.is_there layout ≡ true }
+    requires first { has_table layout A.name ≡ true }
+    requires second { has_table layout B.name ≡ true }
     ensures outside { conn.new.in_transaction ≡ false }
     ensures reads { OnlyReads (state S.Store conn.old) (state S.Store conn.new) }
     ensures is_open { OnOk result (HasCleanDisk (state S.Store conn.new)
@@ -141,15 +143,15 @@ fn read_two<A: Listed, B: Listed, S: Alter>(
     ensures shown { IfOk result (λ found. HasCleanDisk (state S.Store conn.new)
         → Begins layout (state S.Store conn.old).now.schema
         → IfSome found (λ two.
-        ShowRecords A.columns A.is_form A.project ((state S.Store conn.old).now.trees (A.tree layout))
-        two.0.items
-        × ShowRecords B.columns B.is_form B.project ((state S.Store conn.old).now.trees (B.tree layout))
-        two.1.items)) }
+        ShowRecords A.columns A.is_form (query_columns A.name)
+        ((state S.Store conn.old).now.trees (tree_in layout A.name)) two.0.items
+        × ShowRecords B.columns B.is_form (query_columns B.name)
+        ((state S.Store conn.old).now.trees (tree_in layout B.name)) two.1.items)) }
     ensures found { IfOk result (λ found. HasCleanDisk (state S.Store conn.new)
         → Begins layout (state S.Store conn.old).now.schema
         → (first : List A) (second : List B)
-        → Holds A.kept ((state S.Store conn.old).now.trees (A.tree layout)) first
-        → Holds B.kept ((state S.Store conn.old).now.trees (B.tree layout)) second
+        → Holds A.kept ((state S.Store conn.old).now.trees (tree_in layout A.name)) first
+        → Holds B.kept ((state S.Store conn.old).now.trees (tree_in layout B.name)) second
         → All A.is_form (map A.columns first) → All B.is_form (map B.columns second)
         → MatchOption found ⊥
         (λ two. IsPermutation first two.0.items × IsPermutation second two.1.items)) }

@@ -5,8 +5,8 @@ ghost use Rattle.std.specs.List.Sorted.{IsPermutation};
 ghost use Rattle.sqlite.specs.State.{HasCleanDisk};
 ghost use Rattle.sqlite.specs.Held.{state};
 ghost use Rattle.office_db.specs.loading.Finding.{HoldsVersion, HoldsOtherVersion};
-ghost use Rattle.office_db.specs.loading.FirstTables.{BeginsOffice};
-ghost use Rattle.office_db.specs.loading.Listing.{listed};
+ghost use Rattle.office_schema.specs.tables.FirstTables.{BeginsOffice};
+ghost use Rattle.office_schema.specs.tables.Listing.{listed};
 ghost use Rattle.office_db.specs.loading.Reading.{OnlyReads};
 ghost use Rattle.office_db.specs.loading.Versions.{IsOnly, only_version};
 

@@ -13,7 +13,7 @@ use Rattle.office_schema.specs.declared.tables.layouts.Layout.TheVariants.{Docum
 use Rattle.office_db.specs.loading.Finding.{DeclaresTables, HoldsVersion}
 use Rattle.office_db.proofs.found_offices.Versions.{one_version}
 use Rattle.office_db.proofs.found_offices.Versions.{layout_states_version}
-use Rattle.office_db.specs.loading.FirstTables.{BeginsOffice}
+use Rattle.office_schema.specs.tables.FirstTables.{BeginsOffice}
 use Rattle.office_migration.specs.Causes.{AreEarlierRows, AreNoEarlierRows, BeginsAt, DeclaresVersion, HasCause}
 use Rattle.office_migration.specs.Causes.{HoldsEarlier}
 use Rattle.office_migration.specs.Causes.{HoldsNoEarlier, IsAllowed, IsLaid, IsNameFault, IsVersionFault}

@@ -17,7 +17,7 @@ use Rattle.office_schema.specs.declared.tables.layouts.Layout.{Layout}
 use Rattle.office_schema.specs.declared.tables.layouts.Layout.TheVariants.{Own, Documented, DocumentedSecond}
 use Rattle.office_schema.specs.declared.tables.layouts.Layout.TheVariants.{DocumentedFirst, EarlierFirst}
 use Rattle.office_db.specs.loading.Finding.{Declares, DeclaresTables}
-use Rattle.office_db.specs.loading.FirstTables.{Begins, BeginsOffice, followed_by}
+use Rattle.office_schema.specs.tables.FirstTables.{Begins, BeginsOffice, followed_by}
 use Rattle.office_db.proofs.found_offices.First.{begins_if_laid}
 use Rattle.office_db.proofs.found_offices.LayoutTests.{begins_tables, one_layout}
 use Rattle.office_migration.specs.Causes.{HoldsEarlier, HoldsEarlierFirst}

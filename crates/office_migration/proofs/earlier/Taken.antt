@@ -7,7 +7,7 @@ use Rattle.office_schema.specs.rows.Tables.{rows_at}
 use Rattle.office_schema.specs.cells.WellFormed.{IsWellFormed}
 use Rattle.office_schema.specs.tables.Layouts.{version_of}
 use Rattle.office_schema.specs.declared.tables.layouts.Layout.{Layout}
-use Rattle.office_db.specs.loading.FirstTables.{Begins, HoldsOfficeFirst}
+use Rattle.office_schema.specs.tables.FirstTables.{Begins, HoldsOfficeFirst}
 use Rattle.office_db.proofs.found_offices.LayoutTests.{begins_tables}
 use Rattle.office_migration.specs.Causes.{HoldsEarlierFirst}
 use Rattle.office_migration.specs.Versions.{IsEarlier, IsOfVersion}

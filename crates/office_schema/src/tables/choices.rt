@@ -1,14 +1,90 @@
 //! The table of choices: a row for each place of a preference list.
-ghost use Rattle.std.specs.Prelude.{◌≡◌, OnOk, OnErr};
+ghost use Rattle.std.specs.Prelude.{◌≡◌, IfSome, OnOk, OnErr};
 ghost use Rattle.sqlite.specs.Held.{state};
 ghost use Rattle.office_schema.specs.tables.Crashes.{WasOpen};
 ghost use Rattle.office_schema.specs.tables.Edits.{with_choice, without_choices_of};
 ghost use Rattle.office_schema.specs.tables.Makes.{Makes};
 ghost use Rattle.office_schema.specs.tables.Steps.{IsUndone, StaysInside};
 
+use crate::cells::values::{text_in, u64_in};
+use crate::rows::ChoiceRecord;
+use crate::tables::layouts::Layout;
+use crate::tables::refilling::Refilled;
 use crate::tables::running::run;
-use room_types::{PersonId, RoomCode};
-use sqlite::{Alter, Error, Transaction, params};
+use crate::tables::table_rows::TableRow;
+use room_types::{OutOfMemory, PersonId, RoomCode};
+use sqlite::{Alter, Error, ErrorCode, Row, Transaction, params};
+use std::alloc::Global;
+
+impl TableRow for ChoiceRecord {
+    ghost use Rattle.room_types.specs.Grammars.{is_person_id};
+    ghost use Rattle.office_schema.specs.cells.Allocation.{BeginsWith};
+    ghost use Rattle.office_schema.specs.cells.Columns.{choice_columns, three};
+    ghost use Rattle.office_schema.specs.cells.Forms.{IsChoiceRow};
+    ghost use Rattle.office_schema.specs.declared.tables.names.TableName.TheVariants.{Choices};
+
+    ghost is_form = { IsChoiceRow };
+
+    ghost front = { three };
+
+    ghost columns = { choice_columns };
+
+    ghost may_allocate = { BeginsWith is_person_id };
+
+    ghost name = { Choices };
+
+    ghost kept = { choice_columns };
+
+    fn from_row(alloc: Global, row: &Row) -> Result<Option<ChoiceRecord>, OutOfMemory> {
+        let Some(person) = text_in(alloc, row, 0)? else {
+            return Ok(None);
+        };
+        let Some(place) = u64_in(row, 1) else {
+            return Ok(None);
+        };
+        let Some(room) = text_in(alloc, row, 2)? else {
+            return Ok(None);
+        };
+        Ok(Some(ChoiceRecord {
+            person,
+            place,
+            room,
+        }))
+    }
+
+    fn query() -> &'static str {
+        "SELECT person, place, room FROM choice"
+    }
+
+    fn is_in(_layout: Layout) -> bool {
+        true
+    }
+}
+
+impl Refilled for ChoiceRecord {
+    ghost use Rattle.office_schema.specs.tables.Edits.{with_choice};
+
+    ghost with_row = { λ r. with_choice r.person r.place r.room };
+
+    fn add_again<S: Alter>(
+        &self,
+        _alloc: Global,
+        tx: &mut Transaction<'_, S>,
+    ) -> Result<(), Error> {
+        // A lawful list has at most `CHOICE_LIMIT` places, so the place fits in 32 bits.
+        let Some(place) = narrow_place(self.place) else {
+            return Err(Error::SqliteFailure(ErrorCode::DatabaseCorrupt));
+        };
+        add_choice(tx, &self.person, place, &self.room)
+    }
+}
+
+// Converts a place to 32 bits, if it fits.
+fn narrow_place(place: u64) -> Option<u32>
+    ensures { IfSome result (λ number. number ≡ place) }
+{
+    u32::try_from(place).ok()
+}
 
 /// Adds a room to a person's preference list at place `place`. Places count from 0. Fails if the person or the room
 /// is unknown. Also fails if the list already has a room at this place, or already has this room.

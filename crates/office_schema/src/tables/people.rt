@@ -7,10 +7,68 @@ ghost use Rattle.office_schema.specs.tables.Edits.{with_name_and_key, with_withd
 ghost use Rattle.office_schema.specs.tables.Makes.{Makes};
 ghost use Rattle.office_schema.specs.tables.Steps.{IsUndone, StaysInside};
 
+use crate::cells::values::{flag_in, optional_text_in, text_in};
+use crate::rows::PersonRecord;
+use crate::tables::layouts::Layout;
 use crate::tables::parameters::code_or_null;
 use crate::tables::running::run;
-use room_types::{Key, Name, PersonId, RoomCode};
-use sqlite::{Alter, Error, Transaction, params};
+use crate::tables::table_rows::TableRow;
+use office_state::Person;
+use room_types::{Key, Name, OutOfMemory, PersonId, RoomCode};
+use sqlite::{Alter, Error, Row, Transaction, params};
+use std::alloc::Global;
+
+impl TableRow for PersonRecord {
+    ghost use Rattle.room_types.specs.Grammars.{is_person_id};
+    ghost use Rattle.office_schema.specs.cells.Allocation.{BeginsWith};
+    ghost use Rattle.office_schema.specs.cells.Columns.{person_columns, five};
+    ghost use Rattle.office_schema.specs.cells.Forms.{IsPersonRow};
+    ghost use Rattle.office_schema.specs.declared.tables.names.TableName.TheVariants.{People};
+
+    ghost is_form = { IsPersonRow };
+
+    ghost front = { five };
+
+    ghost columns = { person_columns };
+
+    ghost may_allocate = { BeginsWith is_person_id };
+
+    ghost name = { People };
+
+    ghost kept = { person_columns };
+
+    fn from_row(alloc: Global, row: &Row) -> Result<Option<PersonRecord>, OutOfMemory> {
+        let Some(id) = text_in(alloc, row, 0)? else {
+            return Ok(None);
+        };
+        let Some(name) = text_in(alloc, row, 1)? else {
+            return Ok(None);
+        };
+        let Some(key) = text_in(alloc, row, 2)? else {
+            return Ok(None);
+        };
+        let Some(home) = optional_text_in(alloc, row, 3)? else {
+            return Ok(None);
+        };
+        let Some(withdrawn) = flag_in(row, 4) else {
+            return Ok(None);
+        };
+        let person = Person { name, key, home };
+        Ok(Some(PersonRecord {
+            id,
+            person,
+            withdrawn,
+        }))
+    }
+
+    fn query() -> &'static str {
+        "SELECT id, name, passkey, home, withdrawn FROM person"
+    }
+
+    fn is_in(_layout: Layout) -> bool {
+        true
+    }
+}
 
 /// Adds a person, who has not withdrawn. Fails if the identifier, the key or the home is taken, or if the home is not
 /// a room.

@@ -1,5 +1,5 @@
 //! Converts the tables of any layout to the layout that this program creates, and keeps all rows.
-ghost use Rattle.std.specs.Prelude.{◌≡◌, IfSome, OnOk};
+ghost use Rattle.std.specs.Prelude.{◌≡◌, OnOk};
 ghost use Rattle.sqlite.specs.Held.{state};
 ghost use Rattle.office_schema.specs.rows.Tables.{Tables};
 ghost use Rattle.office_schema.specs.tables.Inner.Declaring.{Rebuilds};
@@ -7,21 +7,12 @@ ghost use Rattle.office_schema.specs.tables.Makes.{Makes};
 ghost use Rattle.office_schema.specs.tables.Refilling.{Migrates, with_all};
 ghost use Rattle.office_schema.specs.tables.Steps.{StaysInside};
 
-use crate::rows::{ChoiceRecord, OfficeRecords};
-use crate::tables::choices::add_choice;
+use crate::rows::OfficeRecords;
 use crate::tables::creating::create_tables_from;
 use crate::tables::dropping::drop_tables_to;
-use crate::tables::going::add_going;
-use crate::tables::grades::add_grade;
-use crate::tables::imports::add_list;
 use crate::tables::layouts::Layout;
-use crate::tables::moves::add_move;
-use crate::tables::results::add_result;
 use crate::tables::rounds::set_version;
-use crate::tables::words::add_word;
-use office_state::{Assigned, StoredImport};
-use room_types::{Grade, Label, Move, PersonId, Word};
-use sqlite::{Alter, Error, ErrorCode, Transaction};
+use sqlite::{Alter, Error, Transaction};
 use std::alloc::Global;
 
 /// Converts the tables of `layout` to the layout and version that this program creates. Keeps the first three tables,
@@ -93,109 +84,4 @@ pub trait Refilled {
             (with_row self.now)) }
         ensures inside { StaysInside (state S.Store tx.old.conn.now)
             (state S.Store tx.new.conn.now) };
-}
-
-impl Refilled for Move {
-    ghost use Rattle.office_schema.specs.tables.Edits.{with_move};
-
-    ghost with_row = { with_move };
-
-    fn add_again<S: Alter>(
-        &self,
-        _alloc: Global,
-        tx: &mut Transaction<'_, S>,
-    ) -> Result<(), Error> {
-        add_move(tx, self)
-    }
-}
-
-impl Refilled for (Label, StoredImport) {
-    ghost use Rattle.office_schema.specs.tables.Edits.{with_import};
-
-    ghost with_row = { λ r. with_import r.0 r.1 };
-
-    fn add_again<S: Alter>(
-        &self,
-        _alloc: Global,
-        tx: &mut Transaction<'_, S>,
-    ) -> Result<(), Error> {
-        add_list(tx, &self.0, self.1.kind, &self.1.bytes, self.1.count)
-    }
-}
-
-impl Refilled for (PersonId, Grade) {
-    ghost use Rattle.office_schema.specs.tables.Edits.{with_grade};
-
-    ghost with_row = { λ r. with_grade r.0 r.1 };
-
-    fn add_again<S: Alter>(
-        &self,
-        _alloc: Global,
-        tx: &mut Transaction<'_, S>,
-    ) -> Result<(), Error> {
-        add_grade(tx, &self.0, self.1)
-    }
-}
-
-impl Refilled for ChoiceRecord {
-    ghost use Rattle.office_schema.specs.tables.Edits.{with_choice};
-
-    ghost with_row = { λ r. with_choice r.person r.place r.room };
-
-    fn add_again<S: Alter>(
-        &self,
-        _alloc: Global,
-        tx: &mut Transaction<'_, S>,
-    ) -> Result<(), Error> {
-        // A lawful list has at most `CHOICE_LIMIT` places, so the place fits in 32 bits.
-        let Some(place) = narrow_place(self.place) else {
-            return Err(Error::SqliteFailure(ErrorCode::DatabaseCorrupt));
-        };
-        add_choice(tx, &self.person, place, &self.room)
-    }
-}
-
-// Converts a place to 32 bits, if it fits.
-fn narrow_place(place: u64) -> Option<u32>
-    ensures { IfSome result (λ number. number ≡ place) }
-{
-    u32::try_from(place).ok()
-}
-
-impl Refilled for (PersonId, Word) {
-    ghost use Rattle.office_schema.specs.tables.Edits.{with_word};
-
-    ghost with_row = { λ r. with_word r.0 r.1 };
-
-    fn add_again<S: Alter>(&self, alloc: Global, tx: &mut Transaction<'_, S>) -> Result<(), Error> {
-        add_word(alloc, tx, &self.0, self.1)
-    }
-}
-
-impl Refilled for (PersonId, Assigned) {
-    ghost use Rattle.office_schema.specs.tables.Edits.{with_result};
-
-    ghost with_row = { λ r. with_result r.0 r.1.room };
-
-    fn add_again<S: Alter>(
-        &self,
-        _alloc: Global,
-        tx: &mut Transaction<'_, S>,
-    ) -> Result<(), Error> {
-        add_result(tx, &self.0, &self.1.room)
-    }
-}
-
-impl Refilled for PersonId {
-    ghost use Rattle.office_schema.specs.tables.Edits.{with_going};
-
-    ghost with_row = { with_going };
-
-    fn add_again<S: Alter>(
-        &self,
-        _alloc: Global,
-        tx: &mut Transaction<'_, S>,
-    ) -> Result<(), Error> {
-        add_going(tx, self)
-    }
 }

@@ -6,9 +6,51 @@ ghost use Rattle.office_schema.specs.tables.Edits.{with_room, with_shut};
 ghost use Rattle.office_schema.specs.tables.Makes.{Makes};
 ghost use Rattle.office_schema.specs.tables.Steps.{IsUndone, StaysInside};
 
+use crate::cells::values::{flag_in, text_in};
+use crate::tables::layouts::Layout;
 use crate::tables::running::run;
-use room_types::RoomCode;
-use sqlite::{Alter, Error, Transaction, params};
+use crate::tables::table_rows::TableRow;
+use room_types::{OutOfMemory, RoomCode};
+use sqlite::{Alter, Error, Row, Transaction, params};
+use std::alloc::Global;
+
+impl TableRow for (RoomCode, bool) {
+    ghost use Rattle.room_types.specs.Grammars.{is_room_code};
+    ghost use Rattle.office_schema.specs.cells.Allocation.{BeginsWith};
+    ghost use Rattle.office_schema.specs.cells.Columns.{room_columns, two};
+    ghost use Rattle.office_schema.specs.cells.Forms.{IsRoomRow};
+    ghost use Rattle.office_schema.specs.declared.tables.names.TableName.TheVariants.{Rooms};
+
+    ghost is_form = { IsRoomRow };
+
+    ghost front = { two };
+
+    ghost columns = { room_columns };
+
+    ghost may_allocate = { BeginsWith is_room_code };
+
+    ghost name = { Rooms };
+
+    ghost kept = { room_columns };
+
+    fn from_row(alloc: Global, row: &Row) -> Result<Option<(RoomCode, bool)>, OutOfMemory> {
+        let Some(code) = text_in(alloc, row, 0)? else {
+            return Ok(None);
+        };
+        let Some(shut) = flag_in(row, 1) else {
+            return Ok(None);
+        };
+        Ok(Some((code, shut)))
+    }
+
+    fn query() -> &'static str {
+        "SELECT code, shut FROM room"
+    }
+
+    fn is_in(_layout: Layout) -> bool {
+        true
+    }
+}
 
 /// Adds a room with its `shut` flag. Fails if the room exists already.
 pub fn add_room<S: Alter>(

@@ -6,8 +6,8 @@ use Rattle.sqlite.specs.Given.{IsPlain}
 use Rattle.sqlite.specs.Listing.{understood, reads_listing}
 use Rattle.sqlite.proofs.Callers.{command_of}
 use Rattle.sqlite_tied.specs.Compute.{everything}
-use Rattle.office_db.proofs.asking.Selects.{selects_only_ask}
-use Rattle.office_db.specs.loading.Asking.{OnlyAsks}
+use Rattle.office_schema.proofs.asking.Selects.{selects_only_ask}
+use Rattle.office_schema.specs.tables.Asking.{OnlyAsks}
 use Rattle.office_schema.specs.tables.Schema.{office_schema}
 use Rattle.office_schema.specs.tables.Queries.{alone}
 use Rattle.office_store.specs.exports.Queries as queries

@@ -30,7 +30,7 @@ use Rattle.office_schema.specs.tables.Tables.{HoldsOffice}
 use Rattle.office_schema.specs.tables.Queries.{alone}
 use Rattle.office_schema.proofs.statements.Crashes.{nothing_new_then, survives_nothing_new}
 use Rattle.office_schema.proofs.statements.Steps.{follows_then}
-use Rattle.office_db.specs.loading.Asking.{NeverReturns, OnlyAsks}
+use Rattle.office_schema.specs.tables.Asking.{NeverReturns, OnlyAsks}
 use Rattle.office_db.specs.loading.Reading.{OnlyReads}
 use Rattle.office_db.proofs.found_offices.States.{asks_nothing_new}
 use Rattle.office_store.specs.exports.Asking.{AsksForExport}

@@ -12,7 +12,7 @@ use Rattle.office_state.specs.declared.office.Office.{Office}
 use Rattle.office_lists.specs.Exports.{header_of}
 use Rattle.office_lists.specs.Records.{Record}
 use Rattle.office_lists.specs.declared.exports.ExportKind.{ExportKind}
-use Rattle.office_db.specs.loading.Asking.{OnlyAsks}
+use Rattle.office_schema.specs.tables.Asking.{OnlyAsks}
 use Rattle.office_schema.specs.tables.Schema.{office_schema}
 use Rattle.office_schema.specs.tables.Tables.{HoldsOffice}
 use Rattle.office_schema.specs.tables.Queries.{alone}

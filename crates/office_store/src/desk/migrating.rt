@@ -10,7 +10,7 @@ ghost use Rattle.office_schema.specs.tables.InLayout.{HoldsOfficeIn};
 ghost use Rattle.office_schema.specs.declared.tables.layouts.Layout.{Layout as AnyLayout};
 ghost use Rattle.office_db.specs.loading.Finding.{AreWhole, names_round};
 ghost use Rattle.office_migration.specs.Causes.{AreRowsAsStated, HoldsEarlier, HoldsLayoutVersion, StatesVersion, HoldsEarlierFirst};
-ghost use Rattle.office_db.specs.loading.FirstTables.{BeginsOffice};
+ghost use Rattle.office_schema.specs.tables.FirstTables.{BeginsOffice};
 ghost use Rattle.office_migration.specs.Names.{uses_missing_name};
 ghost use Rattle.office_migration.specs.Renewed.{CommitsMigrated};
 ghost use Rattle.office_migration.specs.Versions.{HasEarlierLayout, IsNotEarlier, IsOfVersion};

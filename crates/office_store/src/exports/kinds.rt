@@ -6,8 +6,8 @@ ghost use Rattle.office_store.specs.exports.Shown.{u64_in};
 
 use crate::exports::exported::Exported;
 use office_lists::{ExportKind, grade_row_bytes, move_row_bytes, person_row_bytes, room_row_bytes};
-use office_schema::cells::records::Record;
 use office_schema::cells::values::{flag_in, optional_text_in, text_in, u16_in};
+use office_schema::tables::table_rows::TableRow;
 use room_types::{Grade, GradeRow, Move, OutOfMemory, PersonId, PersonRow, RoomRow, State};
 use sqlite::Row;
 use sqlite_value::value::ValueRef;

@@ -12,7 +12,7 @@ use Rattle.office_schema.specs.tables.InLayout.{HoldsOfficeIn}
 use Rattle.office_schema.proofs.statements.Crashes.{old_or_weaker}
 use Rattle.office_schema.proofs.statements.Steps.{intact_before}
 use Rattle.office_db.specs.loading.Finding.{AreWhole, HoldsVersion, names_round}
-use Rattle.office_db.specs.loading.FirstTables.{BeginsOffice}
+use Rattle.office_schema.specs.tables.FirstTables.{BeginsOffice}
 use Rattle.office_db.specs.loading.Numbers.{IsLaidOut}
 use Rattle.office_db.specs.loading.Reading.{OnlyReads}
 use Rattle.office_db.proofs.found_offices.Finding.{same_layout}

@@ -1,7 +1,7 @@
 use Rattle.std.proofs.Common.{refl, sym, ◌∙◌, subst, true≢false}
 use Rattle.sqlite.specs.Held.{state}
 use Rattle.office_db.specs.loading.Finding.{AreWhole}
-use Rattle.office_db.specs.loading.FirstTables.{Begins}
+use Rattle.office_schema.specs.tables.FirstTables.{Begins}
 use Rattle.office_db.proofs.found_offices.Versions.{none_some, same_some}
 use Rattle.office_db.proofs.loaded.WholeRows.{first_if_sound}
 use Rattle.office_migration.specs.Causes.{HoldsEarlierFirst}

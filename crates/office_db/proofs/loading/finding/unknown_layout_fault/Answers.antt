@@ -3,7 +3,7 @@ use Rattle.sqlite.specs.Held.{state}
 use Rattle.office_schema.specs.declared.tables.layouts.Layout.TheVariants.{Own}
 use Rattle.office_db.specs.loading.Causes.{HasCause, IsAllowed, layout_fault}
 use Rattle.office_db.specs.loading.Finding.{DeclaresTables}
-use Rattle.office_db.specs.loading.FirstTables.{BeginsOffice}
+use Rattle.office_schema.specs.tables.FirstTables.{BeginsOffice}
 use Rattle.office_db.proofs.found_offices.Finding.{layout_fault_allowed, layout_fault_cause}
 use Rattle.office_db.proofs.found_offices.Following.{reads-refl}
 use Rattle.office_db.proofs.loading.finding.unknown_layout_fault.Goals as goal

@@ -4,7 +4,7 @@ use Rattle.sqlite.specs.Effect.{Database}
 use Rattle.sqlite.specs.Held.{state}
 use Rattle.office_schema.specs.rows.Tables.{rows_at}
 use Rattle.office_schema.specs.tables.Layouts.{version_of}
-use Rattle.office_db.specs.loading.FirstTables.{Begins}
+use Rattle.office_schema.specs.tables.FirstTables.{Begins}
 use Rattle.office_db.specs.loading.Numbers.{AllHaveRowids}
 use Rattle.office_db.proofs.found_offices.First.{laid_first}
 use Rattle.office_db.proofs.loaded.Layouts.{first_held, shown_well_formed}

@@ -2,7 +2,7 @@ use Rattle.std.proofs.Common.{sym, subst, refl, arith}
 use Rattle.office_schema.proofs.statements.Steps.{intact_before}
 use Rattle.sqlite.specs.Effect.{Database}
 use Rattle.sqlite.specs.Held.{state}
-use Rattle.office_db.specs.loading.FirstTables.{Begins}
+use Rattle.office_schema.specs.tables.FirstTables.{Begins}
 use Rattle.office_db.specs.loading.Numbers.{HaveRowids, tree_of}
 use Rattle.office_db.proofs.found_offices.Following.{reads_then}
 use Rattle.office_db.proofs.loaded.QueryMeanings.{some_tables}

@@ -1,7 +1,7 @@
 use Rattle.std.proofs.Common.{◌≡◌, ℕ, ◌<◌, false, IsTrue}
 use Rattle.sqlite.specs.Held.{state}
 use Rattle.sqlite.specs.State.{HasCleanDisk}
-use Rattle.office_db.specs.loading.FirstTables.{Begins}
+use Rattle.office_schema.specs.tables.FirstTables.{Begins}
 use Rattle.office_db.specs.loading.Numbers.{HaveRowids, tree_of}
 use Rattle.office_db.specs.loading.Reading.{OnlyReads}
 use Rattle.office_db.proofs.loading.numbers.all_rowids_rise.Given as goal

@@ -1,7 +1,7 @@
 use Rattle.std.proofs.Common.{[], not, refl, sym, ap, ◌∙◌, subst, arith}
 use Rattle.sqlite.specs.Held.{state}
 use Rattle.sqlite.specs.State.{Shown}
-use Rattle.office_db.specs.loading.Asking.{OnlyAsks}
+use Rattle.office_schema.specs.tables.Asking.{OnlyAsks}
 use Rattle.office_db.specs.loading.Numbers.{only_rowid, rowid_text, tree_of}
 use Rattle.office_db.proofs.loaded.Listings.{shows_table}
 use Rattle.office_db.proofs.loaded.QueryMeanings.{few_tables, rowids_asked, rowids_listed}

@@ -3,7 +3,7 @@ use Rattle.office_schema.specs.tables.Layouts.{has_grades, has_leavers, trees_of
 use Rattle.office_schema.specs.tables.Steps.{IsIntact}
 use Rattle.sqlite.specs.Effect.{Database}
 use Rattle.sqlite.specs.Held.{state}
-use Rattle.office_db.specs.loading.FirstTables.{Begins}
+use Rattle.office_schema.specs.tables.FirstTables.{Begins}
 use Rattle.office_db.proofs.loaded.Listings.{shown_before, shown_permuted, shown_if_before, shown_if_permuted}
 use Rattle.office_db.proofs.found_offices.First.{first_if_has, still_first}
 use Rattle.office_db.proofs.loading.reading.read_records.Goals as goal

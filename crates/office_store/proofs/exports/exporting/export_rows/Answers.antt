@@ -2,7 +2,7 @@ use Rattle.std.proofs.Common.{rules, ◌≡◌, [], not, sym, ap, ◌∙◌, sub
 use Rattle.sqlite.specs.Held.{Held, state}
 use Rattle.sqlite.specs.State.{CommitsShowing, FailsToQuery, HasCleanDisk, Survives}
 use Rattle.office_db.specs.loading.Reading.{OnlyReads}
-use Rattle.office_db.specs.loading.Asking.{OnlyAsks}
+use Rattle.office_schema.specs.tables.Asking.{OnlyAsks}
 use Rattle.office_db.proofs.found_offices.States.{asks_nothing_new}
 use Rattle.office_store.proofs.sent_rows.Stepping.{asked_of, reads_refused, reads_through}
 use Rattle.office_store.proofs.exports.exporting.export_rows.Goals as goal

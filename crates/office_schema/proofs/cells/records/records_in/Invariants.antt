@@ -1,9 +1,0 @@
-use Rattle.std.proofs.Common.{◌≡◌, map, take}
-use Rattle.std.specs.List.{All}
-use Rattle.office_schema.proofs.cells.records.records_in.Given as goal
-
-abbrev pub invariant-loop-row : goal.invariant-loop-row
-invariant-loop-row g l = record {
-  returned : map g.R.Record.columns l.records.items ≡ map g.R.Record.front (take l.row-index l.rows);
-  formed : All g.R.Record.is_form (take l.row-index l.rows);
-}
