@@ -1,11 +1,11 @@
-use Rattle.std.proofs.Common.{sym, ◌∙◌, subst}
+use Rattle.std.proofs.Common.{sym, subst}
 use Rattle.office_schema.specs.tables.Layouts.{has_grades, has_leavers, trees_of}
-use Rattle.office_schema.specs.tables.Steps.{IsIntact}
 use Rattle.sqlite.specs.Effect.{Database}
 use Rattle.sqlite.specs.Held.{state}
 use Rattle.office_schema.specs.tables.FirstTables.{Begins}
 use Rattle.office_db.proofs.loaded.Listings.{shown_before, shown_permuted, shown_if_before, shown_if_permuted}
 use Rattle.office_db.proofs.found_offices.First.{first_if_has, still_first}
+use Rattle.office_db.proofs.found_offices.Following.{reads_then}
 use Rattle.office_db.proofs.loading.reading.read_records.Goals as goal
 
 pub returns-in_default-clause-first : goal.returns-in_default-clause-first
@@ -15,126 +15,79 @@ returns-in_default-clause-first g c clean tables has well_formed =
 
 pub returns-in_default-2-clause-first : goal.returns-in_default-2-clause-first
 returns-in_default-2-clause-first g c clean tables has well_formed =
-    let start = state g.S.Store c.args.conn.now in
-    let one = state g.S.Store c.read_two.new.conn in
-    let two = state g.S.Store c.read_two-2.new.conn in
+    let reads_1 = c.read_two.ensures.reads in
     let clean_1 = c.read_two-2.ensures.reads.keeps.follows.clean clean in
-    let at_1 : IsIntact one = (clean_1, c.in_ok-rooms.ensures.is_open clean_1) in
-    let has_1 = still_first c.args.layout start one tables c.read_two.ensures.reads at_1 has in
+    let has_1 = still_first c.args.layout _ _ tables reads_1 (clean_1, c.in_ok-rooms.ensures.is_open clean_1) has in
     rw c.in_default-2.is at c.in_ok-rounds.ensures.found clean has_1.schema tables.rounds tables.choices
     has_1.rows.rounds has_1.rows.choices well_formed.rounds well_formed.choices
 
 pub returns-in_default-3-clause-first : goal.returns-in_default-3-clause-first
 returns-in_default-3-clause-first g c clean tables has well_formed =
-    let start = state g.S.Store c.args.conn.now in
-    let one = state g.S.Store c.read_two.new.conn in
-    let two = state g.S.Store c.read_two-2.new.conn in
-    let three = state g.S.Store c.read_two-3.new.conn in
+    let reads_1 = c.read_two.ensures.reads in
+    let reads_2 = reads_then _ _ _ reads_1 c.read_two-2.ensures.reads in
     let clean_2 = c.read_two-3.ensures.reads.keeps.follows.clean clean in
-    let clean_1 = c.read_two-2.ensures.reads.keeps.follows.clean clean_2 in
-    let at_1 : IsIntact one = (clean_1, c.in_ok-rooms.ensures.is_open clean_1) in
-    let at_2 : IsIntact two = (clean_2, c.in_ok-rounds.ensures.is_open clean_2) in
-    let has_1 = still_first c.args.layout start one tables c.read_two.ensures.reads at_1 has in
-    let has_2 = still_first c.args.layout one two tables c.read_two-2.ensures.reads at_2 has_1 in
-    rw c.in_default-3.is at c.in_ok-words.ensures.found clean has_2.schema tables.words tables.results has_2.rows.words
-    has_2.rows.results well_formed.words well_formed.results
+    let has_2 = still_first c.args.layout _ _ tables reads_2 (clean_2, c.in_ok-rounds.ensures.is_open clean_2) has in
+    rw c.in_default-3.is at c.in_ok-words.ensures.found clean has_2.schema tables.words tables.results
+    has_2.rows.words has_2.rows.results well_formed.words well_formed.results
 
 pub returns-in_default-4-clause-first : goal.returns-in_default-4-clause-first
 returns-in_default-4-clause-first g c clean tables has well_formed =
-    let start = state g.S.Store c.args.conn.now in
-    let one = state g.S.Store c.read_two.new.conn in
-    let two = state g.S.Store c.read_two-2.new.conn in
-    let three = state g.S.Store c.read_two-3.new.conn in
-    let four = state g.S.Store c.read_two-4.new.conn in
+    let reads_1 = c.read_two.ensures.reads in
+    let reads_2 = reads_then _ _ _ reads_1 c.read_two-2.ensures.reads in
+    let reads_3 = reads_then _ _ _ reads_2 c.read_two-3.ensures.reads in
     let clean_3 = c.read_two-4.ensures.reads.keeps.follows.clean clean in
-    let clean_2 = c.read_two-3.ensures.reads.keeps.follows.clean clean_3 in
-    let clean_1 = c.read_two-2.ensures.reads.keeps.follows.clean clean_2 in
-    let at_1 : IsIntact one = (clean_1, c.in_ok-rooms.ensures.is_open clean_1) in
-    let at_2 : IsIntact two = (clean_2, c.in_ok-rounds.ensures.is_open clean_2) in
-    let at_3 : IsIntact three = (clean_3, c.in_ok-words.ensures.is_open clean_3) in
-    let has_1 = still_first c.args.layout start one tables c.read_two.ensures.reads at_1 has in
-    let has_2 = still_first c.args.layout one two tables c.read_two-2.ensures.reads at_2 has_1 in
-    let has_3 = still_first c.args.layout two three tables c.read_two-3.ensures.reads at_3 has_2 in
-    rw c.in_default-4.is at c.in_ok-moves.ensures.found clean has_3.schema tables.moves tables.lists has_3.rows.moves
-    has_3.rows.lists well_formed.moves well_formed.lists
+    let has_3 = still_first c.args.layout _ _ tables reads_3 (clean_3, c.in_ok-words.ensures.is_open clean_3) has in
+    rw c.in_default-4.is at c.in_ok-moves.ensures.found clean has_3.schema tables.moves tables.lists
+    has_3.rows.moves has_3.rows.lists well_formed.moves well_formed.lists
 
 pub returns-in_default-5-clause-first : goal.returns-in_default-5-clause-first
 returns-in_default-5-clause-first g c clean tables has well_formed =
-    let start = state g.S.Store c.args.conn.now in
-    let one = state g.S.Store c.read_two.new.conn in
-    let two = state g.S.Store c.read_two-2.new.conn in
-    let three = state g.S.Store c.read_two-3.new.conn in
-    let four = state g.S.Store c.read_two-4.new.conn in
-    let five = state g.S.Store c.records_if_there.new.conn in
+    let reads_1 = c.read_two.ensures.reads in
+    let reads_2 = reads_then _ _ _ reads_1 c.read_two-2.ensures.reads in
+    let reads_3 = reads_then _ _ _ reads_2 c.read_two-3.ensures.reads in
+    let reads_4 = reads_then _ _ _ reads_3 c.read_two-4.ensures.reads in
     let clean_4 = c.records_if_there.ensures.reads.keeps.follows.clean clean in
-    let clean_3 = c.read_two-4.ensures.reads.keeps.follows.clean clean_4 in
-    let clean_2 = c.read_two-3.ensures.reads.keeps.follows.clean clean_3 in
-    let clean_1 = c.read_two-2.ensures.reads.keeps.follows.clean clean_2 in
-    let at_1 : IsIntact one = (clean_1, c.in_ok-rooms.ensures.is_open clean_1) in
-    let at_2 : IsIntact two = (clean_2, c.in_ok-rounds.ensures.is_open clean_2) in
-    let at_3 : IsIntact three = (clean_3, c.in_ok-words.ensures.is_open clean_3) in
-    let at_4 : IsIntact four = (clean_4, c.in_ok-moves.ensures.is_open clean_4) in
-    let has_1 = still_first c.args.layout start one tables c.read_two.ensures.reads at_1 has in
-    let has_2 = still_first c.args.layout one two tables c.read_two-2.ensures.reads at_2 has_1 in
-    let has_3 = still_first c.args.layout two three tables c.read_two-3.ensures.reads at_3 has_2 in
-    let has_4 = still_first c.args.layout three four tables c.read_two-4.ensures.reads at_4 has_3 in
-    rw c.in_default-5.is at c.in_ok-grades.ensures.found clean has_4.schema tables.grades has_4.rows.grades
-    well_formed.grades
+    let has_4 = still_first c.args.layout _ _ tables reads_4 (clean_4, c.in_ok-moves.ensures.is_open clean_4) has in
+    rw c.in_default-5.is at c.in_ok-grades.ensures.found clean has_4.schema tables.grades
+    has_4.rows.grades well_formed.grades
 
 pub returns-in_default-6-clause-first : goal.returns-in_default-6-clause-first
 returns-in_default-6-clause-first g c clean tables has well_formed =
-    let start = state g.S.Store c.args.conn.now in
-    let one = state g.S.Store c.read_two.new.conn in
-    let two = state g.S.Store c.read_two-2.new.conn in
-    let three = state g.S.Store c.read_two-3.new.conn in
-    let four = state g.S.Store c.read_two-4.new.conn in
-    let five = state g.S.Store c.records_if_there.new.conn in
-    let six = state g.S.Store c.records_if_there-2.new.conn in
+    let reads_1 = c.read_two.ensures.reads in
+    let reads_2 = reads_then _ _ _ reads_1 c.read_two-2.ensures.reads in
+    let reads_3 = reads_then _ _ _ reads_2 c.read_two-3.ensures.reads in
+    let reads_4 = reads_then _ _ _ reads_3 c.read_two-4.ensures.reads in
+    let reads_5 = reads_then _ _ _ reads_4 c.records_if_there.ensures.reads in
     let clean_5 = c.records_if_there-2.ensures.reads.keeps.follows.clean clean in
     let clean_4 = c.records_if_there.ensures.reads.keeps.follows.clean clean_5 in
-    let clean_3 = c.read_two-4.ensures.reads.keeps.follows.clean clean_4 in
-    let clean_2 = c.read_two-3.ensures.reads.keeps.follows.clean clean_3 in
-    let clean_1 = c.read_two-2.ensures.reads.keeps.follows.clean clean_2 in
-    let at_1 : IsIntact one = (clean_1, c.in_ok-rooms.ensures.is_open clean_1) in
-    let at_2 : IsIntact two = (clean_2, c.in_ok-rounds.ensures.is_open clean_2) in
-    let at_3 : IsIntact three = (clean_3, c.in_ok-words.ensures.is_open clean_3) in
-    let at_4 : IsIntact four = (clean_4, c.in_ok-moves.ensures.is_open clean_4) in
-    let at_5 : IsIntact five = (clean_5, c.in_ok-grades.ensures.is_open clean_5 at_4.1) in
-    let has_1 = still_first c.args.layout start one tables c.read_two.ensures.reads at_1 has in
-    let has_2 = still_first c.args.layout one two tables c.read_two-2.ensures.reads at_2 has_1 in
-    let has_3 = still_first c.args.layout two three tables c.read_two-3.ensures.reads at_3 has_2 in
-    let has_4 = still_first c.args.layout three four tables c.read_two-4.ensures.reads at_4 has_3 in
-    let has_5 = still_first c.args.layout four five tables c.records_if_there.ensures.reads at_5 has_4 in
-    rw c.in_default-6.is at c.in_ok-going.ensures.found clean has_5.schema tables.going has_5.rows.going
-    well_formed.going
+    let has_5 =
+    still_first c.args.layout _ _ tables reads_5
+    (clean_5, c.in_ok-grades.ensures.is_open clean_5 (c.in_ok-moves.ensures.is_open clean_4)) has in
+    rw c.in_default-6.is at c.in_ok-going.ensures.found clean has_5.schema tables.going
+    has_5.rows.going well_formed.going
 
 pub returns-clause-first : goal.returns-clause-first
 returns-clause-first g c clean tables has well_formed =
-    let start = state g.S.Store c.args.conn.now in
-    let one = state g.S.Store c.read_two.new.conn in
-    let two = state g.S.Store c.read_two-2.new.conn in
-    let three = state g.S.Store c.read_two-3.new.conn in
-    let four = state g.S.Store c.read_two-4.new.conn in
-    let five = state g.S.Store c.records_if_there.new.conn in
-    let six = state g.S.Store c.records_if_there-2.new.conn in
+    let reads_1 = c.read_two.ensures.reads in
+    let reads_2 = reads_then _ _ _ reads_1 c.read_two-2.ensures.reads in
+    let reads_3 = reads_then _ _ _ reads_2 c.read_two-3.ensures.reads in
+    let reads_4 = reads_then _ _ _ reads_3 c.read_two-4.ensures.reads in
+    let reads_5 = reads_then _ _ _ reads_4 c.records_if_there.ensures.reads in
     let clean_5 = c.records_if_there-2.ensures.reads.keeps.follows.clean clean in
     let clean_4 = c.records_if_there.ensures.reads.keeps.follows.clean clean_5 in
     let clean_3 = c.read_two-4.ensures.reads.keeps.follows.clean clean_4 in
     let clean_2 = c.read_two-3.ensures.reads.keeps.follows.clean clean_3 in
     let clean_1 = c.read_two-2.ensures.reads.keeps.follows.clean clean_2 in
-    let at_1 : IsIntact one = (clean_1, c.in_ok-rooms.ensures.is_open clean_1) in
-    let at_2 : IsIntact two = (clean_2, c.in_ok-rounds.ensures.is_open clean_2) in
-    let at_3 : IsIntact three = (clean_3, c.in_ok-words.ensures.is_open clean_3) in
-    let at_4 : IsIntact four = (clean_4, c.in_ok-moves.ensures.is_open clean_4) in
-    let at_5 : IsIntact five = (clean_5, c.in_ok-grades.ensures.is_open clean_5 at_4.1) in
-    let has_1 = still_first c.args.layout start one tables c.read_two.ensures.reads at_1 has in
-    let has_2 = still_first c.args.layout one two tables c.read_two-2.ensures.reads at_2 has_1 in
-    let has_3 = still_first c.args.layout two three tables c.read_two-3.ensures.reads at_3 has_2 in
-    let has_4 = still_first c.args.layout three four tables c.read_two-4.ensures.reads at_4 has_3 in
-    let has_5 = still_first c.args.layout four five tables c.records_if_there.ensures.reads at_5 has_4 in
+    let has_1 = still_first c.args.layout _ _ tables reads_1 (clean_1, c.in_ok-rooms.ensures.is_open clean_1) has in
+    let has_2 = still_first c.args.layout _ _ tables reads_2 (clean_2, c.in_ok-rounds.ensures.is_open clean_2) has in
+    let has_3 = still_first c.args.layout _ _ tables reads_3 (clean_3, c.in_ok-words.ensures.is_open clean_3) has in
+    let has_4 = still_first c.args.layout _ _ tables reads_4 (clean_4, c.in_ok-moves.ensures.is_open clean_4) has in
+    let has_5 =
+    still_first c.args.layout _ _ tables reads_5
+    (clean_5, c.in_ok-grades.ensures.is_open clean_5 (c.in_ok-moves.ensures.is_open clean_4)) has in
     let first =
-    rw c.in-Some.is at c.in_ok-rooms.ensures.found clean_1 has.schema tables.rooms tables.people has.rows.rooms
-    has.rows.people well_formed.rooms well_formed.people in
+    rw c.in-Some.is at c.in_ok-rooms.ensures.found clean_1 has.schema tables.rooms tables.people
+    has.rows.rooms has.rows.people well_formed.rooms well_formed.people in
     let second =
     rw c.in-Some-2.is at c.in_ok-rounds.ensures.found clean_2 has_1.schema tables.rounds tables.choices
     has_1.rows.rounds has_1.rows.choices well_formed.rounds well_formed.choices in
@@ -142,14 +95,14 @@ returns-clause-first g c clean tables has well_formed =
     rw c.in-Some-3.is at c.in_ok-words.ensures.found clean_3 has_2.schema tables.words tables.results
     has_2.rows.words has_2.rows.results well_formed.words well_formed.results in
     let fourth =
-    rw c.in-Some-4.is at c.in_ok-moves.ensures.found clean_4 has_3.schema tables.moves tables.lists has_3.rows.moves
-    has_3.rows.lists well_formed.moves well_formed.lists in
+    rw c.in-Some-4.is at c.in_ok-moves.ensures.found clean_4 has_3.schema tables.moves tables.lists
+    has_3.rows.moves has_3.rows.lists well_formed.moves well_formed.lists in
     let fifth =
-    rw c.in-Some-5.is at c.in_ok-grades.ensures.found clean_5 has_4.schema tables.grades has_4.rows.grades
-    well_formed.grades in
+    rw c.in-Some-5.is at c.in_ok-grades.ensures.found clean_5 has_4.schema tables.grades
+    has_4.rows.grades well_formed.grades in
     let sixth =
-    rw c.in-Some-6.is at c.in_ok-going.ensures.found clean has_5.schema tables.going has_5.rows.going
-    well_formed.going in
+    rw c.in-Some-6.is at c.in_ok-going.ensures.found clean has_5.schema tables.going
+    has_5.rows.going well_formed.going in
     record {
       rooms = first.0;
       people = first.1;
@@ -201,56 +154,47 @@ returns-clause-found g c clean tables has well_formed =
 pub returns-clause-shown : goal.returns-clause-shown
 returns-clause-shown g c clean has tables are =
     let start = state g.S.Store c.args.conn.now in
-    let one = state g.S.Store c.read_two.new.conn in
-    let two = state g.S.Store c.read_two-2.new.conn in
-    let three = state g.S.Store c.read_two-3.new.conn in
-    let four = state g.S.Store c.read_two-4.new.conn in
-    let five = state g.S.Store c.records_if_there.new.conn in
-    let six = state g.S.Store c.records_if_there-2.new.conn in
+    let begins = λ (d : Database). Begins c.args.layout d.schema in
+    let reads_1 = c.read_two.ensures.reads in
+    let reads_2 = reads_then _ _ _ reads_1 c.read_two-2.ensures.reads in
+    let reads_3 = reads_then _ _ _ reads_2 c.read_two-3.ensures.reads in
+    let reads_4 = reads_then _ _ _ reads_3 c.read_two-4.ensures.reads in
+    let reads_5 = reads_then _ _ _ reads_4 c.records_if_there.ensures.reads in
     let clean_5 = c.records_if_there-2.ensures.reads.keeps.follows.clean clean in
     let clean_4 = c.records_if_there.ensures.reads.keeps.follows.clean clean_5 in
     let clean_3 = c.read_two-4.ensures.reads.keeps.follows.clean clean_4 in
     let clean_2 = c.read_two-3.ensures.reads.keeps.follows.clean clean_3 in
     let clean_1 = c.read_two-2.ensures.reads.keeps.follows.clean clean_2 in
-    let at_1 : IsIntact one = (clean_1, c.in_ok-rooms.ensures.is_open clean_1) in
-    let at_2 : IsIntact two = (clean_2, c.in_ok-rounds.ensures.is_open clean_2) in
-    let at_3 : IsIntact three = (clean_3, c.in_ok-words.ensures.is_open clean_3) in
-    let at_4 : IsIntact four = (clean_4, c.in_ok-moves.ensures.is_open clean_4) in
-    let at_5 : IsIntact five = (clean_5, c.in_ok-grades.ensures.is_open clean_5 at_4.1) in
-    let same_1 = c.read_two.ensures.reads.keeps.same at_1 in
-    let has_1 = subst (λ (d : Database). Begins c.args.layout d.schema) (sym same_1) has in
-    let same_2 = c.read_two-2.ensures.reads.keeps.same at_2 ∙ same_1 in
-    let has_2 = subst (λ (d : Database). Begins c.args.layout d.schema) (sym same_2) has in
-    let same_3 = c.read_two-3.ensures.reads.keeps.same at_3 ∙ same_2 in
-    let has_3 = subst (λ (d : Database). Begins c.args.layout d.schema) (sym same_3) has in
-    let same_4 = c.read_two-4.ensures.reads.keeps.same at_4 ∙ same_3 in
-    let has_4 = subst (λ (d : Database). Begins c.args.layout d.schema) (sym same_4) has in
-    let same_5 = c.records_if_there.ensures.reads.keeps.same at_5 ∙ same_4 in
-    let has_5 = subst (λ (d : Database). Begins c.args.layout d.schema) (sym same_5) has in
+    let same_1 = reads_1.keeps.same (clean_1, c.in_ok-rooms.ensures.is_open clean_1) in
+    let same_2 = reads_2.keeps.same (clean_2, c.in_ok-rounds.ensures.is_open clean_2) in
+    let same_3 = reads_3.keeps.same (clean_3, c.in_ok-words.ensures.is_open clean_3) in
+    let same_4 = reads_4.keeps.same (clean_4, c.in_ok-moves.ensures.is_open clean_4) in
+    let same_5 =
+    reads_5.keeps.same (clean_5, c.in_ok-grades.ensures.is_open clean_5 (c.in_ok-moves.ensures.is_open clean_4)) in
     let first = rw c.in-Some.is at c.in_ok-rooms.ensures.shown clean_1 has in
-    let second = rw c.in-Some-2.is at c.in_ok-rounds.ensures.shown clean_2 has_1 in
-    let third = rw c.in-Some-3.is at c.in_ok-words.ensures.shown clean_3 has_2 in
-    let fourth = rw c.in-Some-4.is at c.in_ok-moves.ensures.shown clean_4 has_3 in
-    let fifth = rw c.in-Some-5.is at c.in_ok-grades.ensures.shown clean_5 has_4 in
-    let sixth = rw c.in-Some-6.is at c.in_ok-going.ensures.shown clean has_5 in
+    let second = rw c.in-Some-2.is at c.in_ok-rounds.ensures.shown clean_2 (subst begins (sym same_1) has) in
+    let third = rw c.in-Some-3.is at c.in_ok-words.ensures.shown clean_3 (subst begins (sym same_2) has) in
+    let fourth = rw c.in-Some-4.is at c.in_ok-moves.ensures.shown clean_4 (subst begins (sym same_3) has) in
+    let fifth = rw c.in-Some-5.is at c.in_ok-grades.ensures.shown clean_5 (subst begins (sym same_4) has) in
+    let sixth = rw c.in-Some-6.is at c.in_ok-going.ensures.shown clean (subst begins (sym same_5) has) in
     let trees = trees_of c.args.layout in
     record {
       rooms = shown_permuted _ _ _ _ _ _ are.rooms first.0;
       people = shown_permuted _ _ _ _ _ _ are.people first.1;
-      rounds = shown_permuted _ _ _ _ _ _ are.rounds (shown_before _ _ _ start.now one.now 6 _ same_1 second.0);
+      rounds = shown_permuted _ _ _ _ _ _ are.rounds (shown_before _ _ _ start.now _ 6 _ same_1 second.0);
       choices =
-          shown_permuted _ _ _ _ _ _ are.choices (shown_before _ _ _ start.now one.now trees.choices _ same_1 second.1);
-      words = shown_permuted _ _ _ _ _ _ are.words (shown_before _ _ _ start.now two.now trees.words _ same_2 third.0);
+          shown_permuted _ _ _ _ _ _ are.choices (shown_before _ _ _ start.now _ trees.choices _ same_1 second.1);
+      words = shown_permuted _ _ _ _ _ _ are.words (shown_before _ _ _ start.now _ trees.words _ same_2 third.0);
       results =
-          shown_permuted _ _ _ _ _ _ are.results (shown_before _ _ _ start.now two.now trees.results _ same_2 third.1);
+          shown_permuted _ _ _ _ _ _ are.results (shown_before _ _ _ start.now _ trees.results _ same_2 third.1);
       moves = shown_permuted _ _ _ _ _ _ are.moves
-          (shown_before _ _ _ start.now three.now trees.moves _ same_3 fourth.0);
+          (shown_before _ _ _ start.now _ trees.moves _ same_3 fourth.0);
       lists = shown_permuted _ _ _ _ _ _ are.lists
-          (shown_before _ _ _ start.now three.now trees.lists _ same_3 fourth.1);
+          (shown_before _ _ _ start.now _ trees.lists _ same_3 fourth.1);
       grades = shown_if_permuted (has_grades c.args.layout) _ _ _ _ _ _ are.grades
-          (shown_if_before (has_grades c.args.layout) _ _ _ start.now four.now trees.grades _ same_4 fifth);
+          (shown_if_before (has_grades c.args.layout) _ _ _ start.now _ trees.grades _ same_4 fifth);
       going = shown_if_permuted (has_leavers c.args.layout) _ _ _ _ _ _ are.going
-          (shown_if_before (has_leavers c.args.layout) _ _ _ start.now five.now trees.going _ same_5 sixth);
+          (shown_if_before (has_leavers c.args.layout) _ _ _ start.now _ trees.going _ same_5 sixth);
     }
 
 pub returns-clause-is_open : goal.returns-clause-is_open
