@@ -12,6 +12,7 @@ pub mod Listing
 pub mod Makes
 pub mod Queries
 pub mod Refilling
+pub mod Runs
 pub mod Schema
 pub mod Steps
 pub mod TableQueries

@@ -4,12 +4,13 @@
 //! Each function that takes a transaction runs one statement inside it, but `create_tables_from`, `clear_round_tables`
 //! and `migrate_tables` run several.
 //!
-//! The contract of a function states the effect of its statements on typed records. A statement fails if the engine
-//! refuses it, or if an allocation or the disk fails. No clause says why a statement failed. A failed statement
-//! changes no row, or the whole transaction is rolled back. The clause `undone` states this for an intact disk and an
-//! open connection; `migrate_tables` lacks it, since its caller rolls the transaction back. If one of several
-//! statements fails, the effects of the statements before it may remain inside the transaction. No function commits
-//! anything, as the clause `inside` states.
+//! The contract of a function states the effect of its statements on typed records. A function of one statement has
+//! one clause, `Edits`, a record whose fields are named below; a function of several statements has `RunsSome`, which
+//! lacks `undone` and `was_open`. A statement fails if the engine refuses it, or if an allocation or the disk fails. No
+//! clause says why a statement failed. A failed statement changes no row, or the whole transaction is rolled back. The
+//! field `undone` states this for an intact disk and an open connection; `migrate_tables` lacks it, since its caller
+//! rolls the transaction back. If one of several statements fails, the effects of the statements before it may remain
+//! inside the transaction. No function commits anything, as the field `inside` states.
 
 pub mod choices;
 pub mod creating;

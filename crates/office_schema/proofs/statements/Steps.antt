@@ -1,12 +1,10 @@
 -- States of a connection that follow one another, and calls inside a transaction, one after another.
-use Rattle.std.proofs.Common.{◌⊎◌, ℕ, ◌≤◌, List, Err, refl, ◌∙◌, inl, inr, arith}
+use Rattle.std.proofs.Common.{ℕ, ◌≤◌, refl, ◌∙◌, inl, inr, arith}
 use Rattle.sqlite_disk.specs.Disk.{MoreFaults}
-use Rattle.sqlite_value.specs.Order.{Row}
-use Rattle.sqlite.specs.declared.error.Error.{Error}
-use Rattle.sqlite.specs.State.{State, ExecutesInside, IsUnchanged, IsRolledBack}
+use Rattle.sqlite.specs.State.{State}
 use Rattle.sqlite.proofs.StateLemmas.{survives_then}
 use Rattle.sqlite.proofs.InsideLemmas.{keeps_then}
-use Rattle.office_schema.specs.tables.Steps.{Follows, IsIntact, StaysInside, SeesTheSame, RollsBack, IsUndone}
+use Rattle.office_schema.specs.tables.Steps.{Follows, IsIntact, StaysInside}
 
 pub follows-refl : (a : State) → Follows a a
 follows-refl a =
@@ -56,19 +54,3 @@ inside_then a b c p q = record {
   kept = λ clean. keeps_then a b c (p.kept (omega (arith, q.survives.clean))) (q.kept clean);
   survives = survives_then a b c _ _ (λ _. ⊥) (λ _ db none. none) (λ _ db none. none) p.survives q.survives;
 }
-
--- A call that fails before any statement changes nothing.
-pub undone_none : (a : State) → IsUndone a a
-undone_none a intact = inl (refl, refl)
-
--- what the engine guarantees for a statement that it refused, or that failed
-pub undone_by : (held : ℕ) (sql : List ℕ) (params : Row) (e : Error) (old new : State)
-    → ExecutesInside held sql params old new (Err e) → IsUndone old new
-undone_by held sql params e old new h intact = elim h [
-  | inl failed ↦ either failed.1
-  | inr refused ↦ either (inl refused.2)
-]
-  where
-    either : IsUnchanged old new ⊎ IsRolledBack old new → SeesTheSame old new ⊎ RollsBack old new
-    either (inl same) = inl (same.0.now_is, same.0.mode)
-    either (inr undone) = inr ((undone.undone intact.1).0, undone.autocommit)

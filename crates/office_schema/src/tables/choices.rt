@@ -1,10 +1,7 @@
 //! The table of choices: a row for each place of a preference list.
-ghost use Rattle.std.specs.Prelude.{◌≡◌, IfSome, OnOk, OnErr};
-ghost use Rattle.sqlite.specs.Held.{state};
-ghost use Rattle.office_schema.specs.tables.Crashes.{WasOpen};
+ghost use Rattle.std.specs.Prelude.{◌≡◌, IfSome};
 ghost use Rattle.office_schema.specs.tables.Edits.{with_choice, without_choices_of};
-ghost use Rattle.office_schema.specs.tables.Makes.{Makes};
-ghost use Rattle.office_schema.specs.tables.Steps.{IsUndone, StaysInside};
+ghost use Rattle.office_schema.specs.tables.Runs.{Edits};
 
 use crate::cells::values::{text_in, u64_in};
 use crate::rows::ChoiceRecord;
@@ -94,15 +91,7 @@ pub fn add_choice<S: Alter>(
     place: u32,
     room: &RoomCode,
 ) -> Result<(), Error>
-    ensures same_reference { tx.new.conn.ghost_name ≡ tx.old.conn.ghost_name }
-    ensures made { OnOk result
-        (Makes (state S.Store tx.old.conn.now) (state S.Store tx.new.conn.now)
-        (with_choice person.now place room.now)) }
-    ensures undone { OnErr result
-        (IsUndone (state S.Store tx.old.conn.now) (state S.Store tx.new.conn.now)) }
-    ensures was_open { OnOk result
-        (WasOpen (state S.Store tx.old.conn.now) (state S.Store tx.new.conn.now)) }
-    ensures inside { StaysInside (state S.Store tx.old.conn.now) (state S.Store tx.new.conn.now) }
+    ensures { Edits S.Store tx.old tx.new result (with_choice person.now place room.now) }
 {
     run(
         tx,
@@ -113,15 +102,7 @@ pub fn add_choice<S: Alter>(
 
 /// Deletes a person's preference list. Does nothing if the person has none.
 pub fn drop_choices<S: Alter>(tx: &mut Transaction<'_, S>, person: &PersonId) -> Result<(), Error>
-    ensures same_reference { tx.new.conn.ghost_name ≡ tx.old.conn.ghost_name }
-    ensures made { OnOk result
-        (Makes (state S.Store tx.old.conn.now) (state S.Store tx.new.conn.now)
-        (without_choices_of person.now)) }
-    ensures undone { OnErr result
-        (IsUndone (state S.Store tx.old.conn.now) (state S.Store tx.new.conn.now)) }
-    ensures was_open { OnOk result
-        (WasOpen (state S.Store tx.old.conn.now) (state S.Store tx.new.conn.now)) }
-    ensures inside { StaysInside (state S.Store tx.old.conn.now) (state S.Store tx.new.conn.now) }
+    ensures { Edits S.Store tx.old tx.new result (without_choices_of person.now) }
 {
     run(
         tx,

@@ -1,9 +1,9 @@
 //! Creating the tables of an office.
-ghost use Rattle.std.specs.Prelude.{◌≡◌, ◌<◌, ◌≤◌, OnOk, OnErr};
+ghost use Rattle.std.specs.Prelude.{◌≡◌, ◌<◌, ◌≤◌, OnErr};
 ghost use Rattle.sqlite.specs.Held.{state};
 ghost use Rattle.office_schema.specs.tables.Declaring.{DeclaresFirst, CreatesTooFew};
+ghost use Rattle.office_schema.specs.tables.Runs.{RunsSome};
 ghost use Rattle.office_schema.specs.tables.Schema.{table_text};
-ghost use Rattle.office_schema.specs.tables.Steps.{StaysInside};
 
 use crate::tables::running::run;
 use sqlite::{Alter, Error, Transaction};
@@ -13,12 +13,9 @@ use sqlite::{Alter, Error, Transaction};
 /// places before `first`.
 pub fn create_tables_from<S: Alter>(tx: &mut Transaction<'_, S>, first: usize) -> Result<(), Error>
     requires { first ≤ 10 }
-    ensures same_reference { tx.new.conn.ghost_name ≡ tx.old.conn.ghost_name }
-    ensures made { OnOk result
-        (DeclaresFirst first 10 first (state S.Store tx.old.conn.now) (state S.Store tx.new.conn.now)) }
+    ensures runs { RunsSome S.Store tx.old tx.new result (DeclaresFirst first 10 first) }
     ensures undone { OnErr result
         (CreatesTooFew first (state S.Store tx.old.conn.now) (state S.Store tx.new.conn.now)) }
-    ensures inside { StaysInside (state S.Store tx.old.conn.now) (state S.Store tx.new.conn.now) }
 {
     for place in first..10 {
         run(tx, table_text(place), &[])?;

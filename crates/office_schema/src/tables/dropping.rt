@@ -1,11 +1,11 @@
 //! Dropping the tables of an office, the last one first.
-ghost use Rattle.std.specs.Prelude.{◌≡◌, ◌<◌, ◌≤◌, OnOk, OnErr};
+ghost use Rattle.std.specs.Prelude.{◌≡◌, ◌<◌, ◌≤◌, OnErr};
 ghost use Rattle.sqlite.specs.Held.{state};
 ghost use Rattle.office_schema.specs.tables.Inner.Declaring.{DropsTooFew};
 ghost use Rattle.office_schema.specs.tables.Declaring.{LeavesFirst};
 ghost use Rattle.office_schema.specs.tables.Inner.Texts.{drop_text, drop_text_named};
 ghost use Rattle.office_schema.specs.tables.Layouts.{table_count};
-ghost use Rattle.office_schema.specs.tables.Steps.{StaysInside};
+ghost use Rattle.office_schema.specs.tables.Runs.{RunsSome};
 
 use crate::tables::layouts::Layout;
 use crate::tables::names::TableName;
@@ -20,12 +20,9 @@ pub(crate) fn drop_tables_to<S: Alter>(
 ) -> Result<(), Error>
     requires low { 3 ≤ left }
     requires high { left ≤ table_count layout }
-    ensures same_reference { tx.new.conn.ghost_name ≡ tx.old.conn.ghost_name }
-    ensures made { OnOk result
-        (LeavesFirst layout left (state S.Store tx.old.conn.now) (state S.Store tx.new.conn.now)) }
+    ensures runs { RunsSome S.Store tx.old tx.new result (LeavesFirst layout left) }
     ensures undone { OnErr result
         (DropsTooFew layout left (state S.Store tx.old.conn.now) (state S.Store tx.new.conn.now)) }
-    ensures inside { StaysInside (state S.Store tx.old.conn.now) (state S.Store tx.new.conn.now) }
 {
     let count = layout.tables();
     for step in 0..count - left {

@@ -1,13 +1,10 @@
 //! The table of grades: a row for each person whose grade is not 0.
-ghost use Rattle.std.specs.Prelude.{◌≡◌, OnOk, OnErr, pos, IfSome, MatchOption};
+ghost use Rattle.std.specs.Prelude.{◌≡◌, pos, IfSome, MatchOption};
 ghost use Rattle.sqlite_value.specs.Order.{column};
 ghost use Rattle.sqlite_value.specs.declared.value.Value.TheVariants.{Int};
-ghost use Rattle.sqlite.specs.Held.{state};
 ghost use Rattle.office_schema.specs.cells.Cells.{IsGrade};
-ghost use Rattle.office_schema.specs.tables.Crashes.{WasOpen};
 ghost use Rattle.office_schema.specs.tables.Edits.{with_grade, without_grade_of};
-ghost use Rattle.office_schema.specs.tables.Makes.{Makes};
-ghost use Rattle.office_schema.specs.tables.Steps.{IsUndone, StaysInside};
+ghost use Rattle.office_schema.specs.tables.Runs.{Edits};
 
 use crate::cells::values::{text_in, u16_in};
 use crate::tables::layouts::Layout;
@@ -89,15 +86,7 @@ pub fn add_grade<S: Alter>(
     person: &PersonId,
     grade: Grade,
 ) -> Result<(), Error>
-    ensures same_reference { tx.new.conn.ghost_name ≡ tx.old.conn.ghost_name }
-    ensures made { OnOk result
-        (Makes (state S.Store tx.old.conn.now) (state S.Store tx.new.conn.now)
-        (with_grade person.now grade)) }
-    ensures undone { OnErr result
-        (IsUndone (state S.Store tx.old.conn.now) (state S.Store tx.new.conn.now)) }
-    ensures was_open { OnOk result
-        (WasOpen (state S.Store tx.old.conn.now) (state S.Store tx.new.conn.now)) }
-    ensures inside { StaysInside (state S.Store tx.old.conn.now) (state S.Store tx.new.conn.now) }
+    ensures { Edits S.Store tx.old tx.new result (with_grade person.now grade) }
 {
     run(
         tx,
@@ -108,15 +97,7 @@ pub fn add_grade<S: Alter>(
 
 /// Deletes a person's grade. Does nothing if the person has none.
 pub fn drop_grade<S: Alter>(tx: &mut Transaction<'_, S>, person: &PersonId) -> Result<(), Error>
-    ensures same_reference { tx.new.conn.ghost_name ≡ tx.old.conn.ghost_name }
-    ensures made { OnOk result
-        (Makes (state S.Store tx.old.conn.now) (state S.Store tx.new.conn.now)
-        (without_grade_of person.now)) }
-    ensures undone { OnErr result
-        (IsUndone (state S.Store tx.old.conn.now) (state S.Store tx.new.conn.now)) }
-    ensures was_open { OnOk result
-        (WasOpen (state S.Store tx.old.conn.now) (state S.Store tx.new.conn.now)) }
-    ensures inside { StaysInside (state S.Store tx.old.conn.now) (state S.Store tx.new.conn.now) }
+    ensures { Edits S.Store tx.old tx.new result (without_grade_of person.now) }
 {
     run(
         tx,

@@ -1,15 +1,12 @@
 //! The table of imported lists.
-ghost use Rattle.std.specs.Prelude.{◌≡◌, OnOk, OnErr, IfSome, MatchOption};
+ghost use Rattle.std.specs.Prelude.{◌≡◌, IfSome, MatchOption};
 ghost use Rattle.sqlite_value.specs.Order.{column};
 ghost use Rattle.sqlite_value.specs.declared.value.Value.TheVariants.{Text as text_value};
-ghost use Rattle.sqlite.specs.Held.{state};
 ghost use Rattle.room_types.specs.Kinds.{kind_text};
 ghost use Rattle.office_state.specs.declared.office.stored_import.StoredImport.{StoredImport};
 ghost use Rattle.office_schema.specs.cells.Cells.{IsKind};
-ghost use Rattle.office_schema.specs.tables.Crashes.{WasOpen};
 ghost use Rattle.office_schema.specs.tables.Edits.{with_body, with_import};
-ghost use Rattle.office_schema.specs.tables.Makes.{Makes};
-ghost use Rattle.office_schema.specs.tables.Steps.{IsUndone, StaysInside};
+ghost use Rattle.office_schema.specs.tables.Runs.{Edits};
 
 use crate::cells::values::{bytes_in, str_in, text_in, u16_in};
 use crate::tables::layouts::Layout;
@@ -100,15 +97,8 @@ pub fn add_list<S: Alter>(
     bytes: &Listing<u8>,
     count: u16,
 ) -> Result<(), Error>
-    ensures same_reference { tx.new.conn.ghost_name ≡ tx.old.conn.ghost_name }
-    ensures made { OnOk result
-        (Makes (state S.Store tx.old.conn.now) (state S.Store tx.new.conn.now)
-        (with_import label.now (record { kind = kind; bytes = bytes.now; count = count }))) }
-    ensures undone { OnErr result
-        (IsUndone (state S.Store tx.old.conn.now) (state S.Store tx.new.conn.now)) }
-    ensures was_open { OnOk result
-        (WasOpen (state S.Store tx.old.conn.now) (state S.Store tx.new.conn.now)) }
-    ensures inside { StaysInside (state S.Store tx.old.conn.now) (state S.Store tx.new.conn.now) }
+    ensures { Edits S.Store tx.old tx.new result
+        (with_import label.now (record { kind = kind; bytes = bytes.now; count = count })) }
 {
     run(
         tx,
@@ -128,15 +118,7 @@ pub fn set_body<S: Alter>(
     label: &Label,
     bytes: &Listing<u8>,
 ) -> Result<(), Error>
-    ensures same_reference { tx.new.conn.ghost_name ≡ tx.old.conn.ghost_name }
-    ensures made { OnOk result
-        (Makes (state S.Store tx.old.conn.now) (state S.Store tx.new.conn.now)
-        (with_body label.now bytes.now)) }
-    ensures undone { OnErr result
-        (IsUndone (state S.Store tx.old.conn.now) (state S.Store tx.new.conn.now)) }
-    ensures was_open { OnOk result
-        (WasOpen (state S.Store tx.old.conn.now) (state S.Store tx.new.conn.now)) }
-    ensures inside { StaysInside (state S.Store tx.old.conn.now) (state S.Store tx.new.conn.now) }
+    ensures { Edits S.Store tx.old tx.new result (with_body label.now bytes.now) }
 {
     run(
         tx,

@@ -1,10 +1,6 @@
 //! The table of moves.
-ghost use Rattle.std.specs.Prelude.{◌≡◌, OnOk, OnErr};
-ghost use Rattle.sqlite.specs.Held.{state};
-ghost use Rattle.office_schema.specs.tables.Crashes.{WasOpen};
 ghost use Rattle.office_schema.specs.tables.Edits.{with_move};
-ghost use Rattle.office_schema.specs.tables.Makes.{Makes};
-ghost use Rattle.office_schema.specs.tables.Steps.{IsUndone, StaysInside};
+ghost use Rattle.office_schema.specs.tables.Runs.{Edits};
 
 use crate::cells::values::{optional_text_in, text_in, u16_in, wave_in};
 use crate::tables::layouts::Layout;
@@ -85,15 +81,7 @@ impl Refilled for Move {
 
 /// Adds a move of a person in a round. Fails if a move of this person in this round is stored already.
 pub fn add_move<S: Alter>(tx: &mut Transaction<'_, S>, row: &Move) -> Result<(), Error>
-    ensures same_reference { tx.new.conn.ghost_name ≡ tx.old.conn.ghost_name }
-    ensures made { OnOk result
-        (Makes (state S.Store tx.old.conn.now) (state S.Store tx.new.conn.now)
-        (with_move row.now)) }
-    ensures undone { OnErr result
-        (IsUndone (state S.Store tx.old.conn.now) (state S.Store tx.new.conn.now)) }
-    ensures was_open { OnOk result
-        (WasOpen (state S.Store tx.old.conn.now) (state S.Store tx.new.conn.now)) }
-    ensures inside { StaysInside (state S.Store tx.old.conn.now) (state S.Store tx.new.conn.now) }
+    ensures { Edits S.Store tx.old tx.new result (with_move row.now) }
 {
     run(
         tx,

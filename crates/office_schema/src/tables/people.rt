@@ -1,11 +1,7 @@
 //! The table of people.
-ghost use Rattle.std.specs.Prelude.{◌≡◌, OnOk, OnErr};
-ghost use Rattle.sqlite.specs.Held.{state};
-ghost use Rattle.office_schema.specs.tables.Crashes.{WasOpen};
 ghost use Rattle.office_schema.specs.tables.Edits.{with_person, without_person, with_home};
 ghost use Rattle.office_schema.specs.tables.Edits.{with_name_and_key, with_withdrawn, without_withdrawn};
-ghost use Rattle.office_schema.specs.tables.Makes.{Makes};
-ghost use Rattle.office_schema.specs.tables.Steps.{IsUndone, StaysInside};
+ghost use Rattle.office_schema.specs.tables.Runs.{Edits};
 
 use crate::cells::values::{flag_in, optional_text_in, text_in};
 use crate::rows::PersonRecord;
@@ -79,15 +75,8 @@ pub fn add_person<S: Alter>(
     key: &Key,
     home: &Option<RoomCode>,
 ) -> Result<(), Error>
-    ensures same_reference { tx.new.conn.ghost_name ≡ tx.old.conn.ghost_name }
-    ensures made { OnOk result
-        (Makes (state S.Store tx.old.conn.now) (state S.Store tx.new.conn.now)
-        (with_person id.now (record { name = name.now; key = key.now; home = home.now }))) }
-    ensures undone { OnErr result
-        (IsUndone (state S.Store tx.old.conn.now) (state S.Store tx.new.conn.now)) }
-    ensures was_open { OnOk result
-        (WasOpen (state S.Store tx.old.conn.now) (state S.Store tx.new.conn.now)) }
-    ensures inside { StaysInside (state S.Store tx.old.conn.now) (state S.Store tx.new.conn.now) }
+    ensures { Edits S.Store tx.old tx.new result
+        (with_person id.now (record { name = name.now; key = key.now; home = home.now })) }
 {
     run(
         tx,
@@ -98,15 +87,7 @@ pub fn add_person<S: Alter>(
 
 /// Deletes a person. Fails if other tables refer to the person.
 pub fn drop_person<S: Alter>(tx: &mut Transaction<'_, S>, id: &PersonId) -> Result<(), Error>
-    ensures same_reference { tx.new.conn.ghost_name ≡ tx.old.conn.ghost_name }
-    ensures made { OnOk result
-        (Makes (state S.Store tx.old.conn.now) (state S.Store tx.new.conn.now)
-        (without_person id.now)) }
-    ensures undone { OnErr result
-        (IsUndone (state S.Store tx.old.conn.now) (state S.Store tx.new.conn.now)) }
-    ensures was_open { OnOk result
-        (WasOpen (state S.Store tx.old.conn.now) (state S.Store tx.new.conn.now)) }
-    ensures inside { StaysInside (state S.Store tx.old.conn.now) (state S.Store tx.new.conn.now) }
+    ensures { Edits S.Store tx.old tx.new result (without_person id.now) }
 {
     run(tx, "DELETE FROM person WHERE id = ?1", params![id.as_str()])
 }
@@ -118,15 +99,7 @@ pub fn set_home<S: Alter>(
     id: &PersonId,
     home: &Option<RoomCode>,
 ) -> Result<(), Error>
-    ensures same_reference { tx.new.conn.ghost_name ≡ tx.old.conn.ghost_name }
-    ensures made { OnOk result
-        (Makes (state S.Store tx.old.conn.now) (state S.Store tx.new.conn.now)
-        (with_home id.now home.now)) }
-    ensures undone { OnErr result
-        (IsUndone (state S.Store tx.old.conn.now) (state S.Store tx.new.conn.now)) }
-    ensures was_open { OnOk result
-        (WasOpen (state S.Store tx.old.conn.now) (state S.Store tx.new.conn.now)) }
-    ensures inside { StaysInside (state S.Store tx.old.conn.now) (state S.Store tx.new.conn.now) }
+    ensures { Edits S.Store tx.old tx.new result (with_home id.now home.now) }
 {
     run(
         tx,
@@ -142,15 +115,7 @@ pub fn set_name_and_key<S: Alter>(
     name: &Name,
     key: &Key,
 ) -> Result<(), Error>
-    ensures same_reference { tx.new.conn.ghost_name ≡ tx.old.conn.ghost_name }
-    ensures made { OnOk result
-        (Makes (state S.Store tx.old.conn.now) (state S.Store tx.new.conn.now)
-        (with_name_and_key id.now name.now key.now)) }
-    ensures undone { OnErr result
-        (IsUndone (state S.Store tx.old.conn.now) (state S.Store tx.new.conn.now)) }
-    ensures was_open { OnOk result
-        (WasOpen (state S.Store tx.old.conn.now) (state S.Store tx.new.conn.now)) }
-    ensures inside { StaysInside (state S.Store tx.old.conn.now) (state S.Store tx.new.conn.now) }
+    ensures { Edits S.Store tx.old tx.new result (with_name_and_key id.now name.now key.now) }
 {
     run(
         tx,
@@ -161,15 +126,7 @@ pub fn set_name_and_key<S: Alter>(
 
 /// Sets a person's `withdrawn` flag. Does nothing if the person is unknown.
 pub fn set_withdrawn<S: Alter>(tx: &mut Transaction<'_, S>, id: &PersonId) -> Result<(), Error>
-    ensures same_reference { tx.new.conn.ghost_name ≡ tx.old.conn.ghost_name }
-    ensures made { OnOk result
-        (Makes (state S.Store tx.old.conn.now) (state S.Store tx.new.conn.now)
-        (with_withdrawn id.now)) }
-    ensures undone { OnErr result
-        (IsUndone (state S.Store tx.old.conn.now) (state S.Store tx.new.conn.now)) }
-    ensures was_open { OnOk result
-        (WasOpen (state S.Store tx.old.conn.now) (state S.Store tx.new.conn.now)) }
-    ensures inside { StaysInside (state S.Store tx.old.conn.now) (state S.Store tx.new.conn.now) }
+    ensures { Edits S.Store tx.old tx.new result (with_withdrawn id.now) }
 {
     run(
         tx,
@@ -180,15 +137,7 @@ pub fn set_withdrawn<S: Alter>(tx: &mut Transaction<'_, S>, id: &PersonId) -> Re
 
 /// Clears everybody's `withdrawn` flag.
 pub fn clear_withdrawn<S: Alter>(tx: &mut Transaction<'_, S>) -> Result<(), Error>
-    ensures same_reference { tx.new.conn.ghost_name ≡ tx.old.conn.ghost_name }
-    ensures made { OnOk result
-        (Makes (state S.Store tx.old.conn.now) (state S.Store tx.new.conn.now)
-        (without_withdrawn)) }
-    ensures undone { OnErr result
-        (IsUndone (state S.Store tx.old.conn.now) (state S.Store tx.new.conn.now)) }
-    ensures was_open { OnOk result
-        (WasOpen (state S.Store tx.old.conn.now) (state S.Store tx.new.conn.now)) }
-    ensures inside { StaysInside (state S.Store tx.old.conn.now) (state S.Store tx.new.conn.now) }
+    ensures { Edits S.Store tx.old tx.new result without_withdrawn }
 {
     run(tx, "UPDATE person SET withdrawn = 0", &[])
 }

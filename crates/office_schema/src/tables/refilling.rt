@@ -1,11 +1,9 @@
 //! Converts the tables of any layout to the layout that this program creates, and keeps all rows.
-ghost use Rattle.std.specs.Prelude.{◌≡◌, OnOk};
-ghost use Rattle.sqlite.specs.Held.{state};
 ghost use Rattle.office_schema.specs.rows.Tables.{Tables};
 ghost use Rattle.office_schema.specs.tables.Inner.Declaring.{Rebuilds};
 ghost use Rattle.office_schema.specs.tables.Makes.{Makes};
 ghost use Rattle.office_schema.specs.tables.Refilling.{Migrates, with_all};
-ghost use Rattle.office_schema.specs.tables.Steps.{StaysInside};
+ghost use Rattle.office_schema.specs.tables.Runs.{RunsSome};
 
 use crate::rows::OfficeRecords;
 use crate::tables::creating::create_tables_from;
@@ -25,10 +23,7 @@ pub fn migrate_tables<S: Alter>(
     layout: Layout,
     records: &OfficeRecords,
 ) -> Result<(), Error>
-    ensures same_reference { tx.new.conn.ghost_name ≡ tx.old.conn.ghost_name }
-    ensures made { OnOk result (Migrates layout records.now
-        (state S.Store tx.old.conn.now) (state S.Store tx.new.conn.now)) }
-    ensures inside { StaysInside (state S.Store tx.old.conn.now) (state S.Store tx.new.conn.now) }
+    ensures { RunsSome S.Store tx.old tx.new result (Migrates layout records.now) }
 {
     rebuild_tables(tx, layout)?;
     refill(alloc, tx, records.moves.as_slice())?;
@@ -44,10 +39,7 @@ pub fn migrate_tables<S: Alter>(
 // Drops the tables of `layout` after the first three. Then creates the tables after the first three of this program's
 // layout, without rows.
 fn rebuild_tables<S: Alter>(tx: &mut Transaction<'_, S>, layout: Layout) -> Result<(), Error>
-    ensures same_reference { tx.new.conn.ghost_name ≡ tx.old.conn.ghost_name }
-    ensures made { OnOk result
-        (Rebuilds layout (state S.Store tx.old.conn.now) (state S.Store tx.new.conn.now)) }
-    ensures inside { StaysInside (state S.Store tx.old.conn.now) (state S.Store tx.new.conn.now) }
+    ensures { RunsSome S.Store tx.old tx.new result (Rebuilds layout) }
 {
     drop_tables_to(tx, layout, 3)?;
     create_tables_from(tx, 3)
@@ -59,11 +51,8 @@ fn refill<R: Refilled, S: Alter>(
     tx: &mut Transaction<'_, S>,
     rows: &[R],
 ) -> Result<(), Error>
-    ensures same_reference { tx.new.conn.ghost_name ≡ tx.old.conn.ghost_name }
-    ensures made { OnOk result
-        (Makes (state S.Store tx.old.conn.now) (state S.Store tx.new.conn.now)
-        (with_all R.with_row rows.now)) }
-    ensures inside { StaysInside (state S.Store tx.old.conn.now) (state S.Store tx.new.conn.now) }
+    ensures { RunsSome S.Store tx.old tx.new result
+        (λ before after. Makes before after (with_all R.with_row rows.now)) }
 {
     for row in rows {
         row.add_again(alloc, tx)?;
@@ -78,10 +67,6 @@ pub trait Refilled {
 
     /// Adds `self` as a row to the table for records of its type.
     fn add_again<S: Alter>(&self, alloc: Global, tx: &mut Transaction<'_, S>) -> Result<(), Error>
-        ensures same_reference { tx.new.conn.ghost_name ≡ tx.old.conn.ghost_name }
-        ensures made { OnOk result
-            (Makes (state S.Store tx.old.conn.now) (state S.Store tx.new.conn.now)
-            (with_row self.now)) }
-        ensures inside { StaysInside (state S.Store tx.old.conn.now)
-            (state S.Store tx.new.conn.now) };
+        ensures { RunsSome S.Store tx.old tx.new result
+            (λ before after. Makes before after (with_row self.now)) };
 }

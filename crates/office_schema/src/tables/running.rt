@@ -1,10 +1,8 @@
 //! Running one statement inside a transaction.
-ghost use Rattle.std.specs.Prelude.{◌≡◌, OnOk, OnErr};
-ghost use Rattle.sqlite.specs.Held.{state};
 ghost use Rattle.sqlite.specs.State.{HasCleanDisk};
 ghost use Rattle.sqlite.specs.Values.{bound};
-ghost use Rattle.office_schema.specs.tables.Crashes.{WasOpen};
-ghost use Rattle.office_schema.specs.tables.Steps.{HasRun, IsUndone, StaysInside};
+ghost use Rattle.office_schema.specs.tables.Runs.{Runs};
+ghost use Rattle.office_schema.specs.tables.Steps.{HasRun};
 
 use sqlite::types::ValueRef;
 use sqlite::{Alter, Error, Transaction};
@@ -15,15 +13,8 @@ pub fn run<S: Alter>(
     text: &str,
     params: &[ValueRef<'_>],
 ) -> Result<(), Error>
-    ensures same_reference { tx.new.conn.ghost_name ≡ tx.old.conn.ghost_name }
-    ensures ran { OnOk result (HasCleanDisk (state S.Store tx.new.conn.now)
-        → HasRun text.now (bound params.now)
-        (state S.Store tx.old.conn.now) (state S.Store tx.new.conn.now)) }
-    ensures undone { OnErr result
-        (IsUndone (state S.Store tx.old.conn.now) (state S.Store tx.new.conn.now)) }
-    ensures was_open { OnOk result
-        (WasOpen (state S.Store tx.old.conn.now) (state S.Store tx.new.conn.now)) }
-    ensures inside { StaysInside (state S.Store tx.old.conn.now) (state S.Store tx.new.conn.now) }
+    ensures { Runs S.Store tx.old tx.new result
+        (λ before after. HasCleanDisk after → HasRun text.now (bound params.now) before after) }
 {
     tx.execute(text, params)?;
     Ok(())

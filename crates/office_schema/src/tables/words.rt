@@ -1,14 +1,11 @@
 //! The table of drawn words.
-ghost use Rattle.std.specs.Prelude.{◌≡◌, OnOk, OnErr, IfOk, IfSome, MatchOption};
+ghost use Rattle.std.specs.Prelude.{◌≡◌, OnErr, IfOk, IfSome, MatchOption};
 ghost use Rattle.sqlite_value.specs.Order.{column};
 ghost use Rattle.sqlite_value.specs.declared.value.Value.TheVariants.{Text as text_value};
-ghost use Rattle.sqlite.specs.Held.{state};
 ghost use Rattle.room_types.specs.Words.{word_text};
 ghost use Rattle.office_schema.specs.cells.Cells.{IsHex, IsWord};
-ghost use Rattle.office_schema.specs.tables.Crashes.{WasOpen};
 ghost use Rattle.office_schema.specs.tables.Edits.{with_word};
-ghost use Rattle.office_schema.specs.tables.Makes.{Makes};
-ghost use Rattle.office_schema.specs.tables.Steps.{IsUndone, StaysInside};
+ghost use Rattle.office_schema.specs.tables.Runs.{Edits};
 
 use crate::cells::values::{str_in, text_in};
 use crate::tables::layouts::Layout;
@@ -99,15 +96,7 @@ pub fn add_word<S: Alter>(
     person: &PersonId,
     word: Word,
 ) -> Result<(), Error>
-    ensures same_reference { tx.new.conn.ghost_name ≡ tx.old.conn.ghost_name }
-    ensures made { OnOk result
-        (Makes (state S.Store tx.old.conn.now) (state S.Store tx.new.conn.now)
-        (with_word person.now word)) }
-    ensures undone { OnErr result
-        (IsUndone (state S.Store tx.old.conn.now) (state S.Store tx.new.conn.now)) }
-    ensures was_open { OnOk result
-        (WasOpen (state S.Store tx.old.conn.now) (state S.Store tx.new.conn.now)) }
-    ensures inside { StaysInside (state S.Store tx.old.conn.now) (state S.Store tx.new.conn.now) }
+    ensures { Edits S.Store tx.old tx.new result (with_word person.now word) }
 {
     let hex = format!(in alloc; "{word}")?;
     run(

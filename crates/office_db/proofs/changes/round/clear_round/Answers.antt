@@ -12,7 +12,7 @@ returns-clause-made g c =
     let mid = state g.S.Store c.clear_round_tables.new.tx.conn.now in
     let new = state g.S.Store c.clear_withdrawn.new.tx.conn.now in
     on_ok_weaker c.clear_withdrawn.result
-    (stores_cleared old mid new c.clear_withdrawn.ensures.inside c.in_ok-clear_round_tables.ensures.made)
+    (stores_cleared old mid new c.clear_withdrawn.ensures.inside c.in_ok-clear_round_tables.ensures.runs.made)
     c.clear_withdrawn.ensures.made
 
 -- Its last statement ran.
@@ -22,6 +22,6 @@ returns-clause-was_open g c =
     let mid = state g.S.Store c.clear_round_tables.new.tx.conn.now in
     let new = state g.S.Store c.clear_withdrawn.new.tx.conn.now in
     on_ok_weaker {Q = WasOpen old new} c.clear_withdrawn.result
-    (was_open_then old mid new c.clear_round_tables.ensures.inside
+    (was_open_then old mid new c.clear_round_tables.ensures.runs.inside
     (λ clean. omega (arith, clean, c.clear_withdrawn.ensures.inside.survives.clean)))
     c.clear_withdrawn.ensures.was_open

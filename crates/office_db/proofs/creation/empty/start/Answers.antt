@@ -15,7 +15,7 @@ returns-clause-made g c =
     let old = state g.S.Store c.args.tx.now.conn.now in
     let mid = state g.S.Store c.create_tables_from.new.tx.conn.now in
     let new = state g.S.Store c.add_round.new.tx.conn.now in
-    let tables = c.in_ok-create_tables_from.ensures.made in
+    let tables = c.in_ok-create_tables_from.ensures.runs.made in
     let early : HasCleanDisk new → HasCleanDisk mid =
     λ clean. omega (arith, c.add_round.ensures.inside.survives.clean) in
     on_ok_weaker {P = Makes mid new (with_first_round 0 Idle)} {Q = Starts old new} _ (λ filled. record {

@@ -28,7 +28,7 @@ loop-place-preserved g c =
     record {
       same_reference = c.in_ok-run.ensures.same_reference ∙ c.loop-place.invariant.same_reference;
       change = one_more_made old mid new early (first_tables n) n n c.loop-place.place (omega arith) (omega arith)
-          (omega arith) (λ clean. rw c.table_text.ensures at (c.in_ok-run.ensures.ran clean))
+          (omega arith) (λ clean. rw c.table_text.ensures at (c.in_ok-run.ensures.made clean))
           c.loop-place.invariant.change;
       inside = inside_then _ _ _ c.loop-place.invariant.inside c.run.ensures.inside;
     }

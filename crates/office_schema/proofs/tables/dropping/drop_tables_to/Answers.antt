@@ -32,7 +32,7 @@ loop-step-preserved g c =
       change = subst (λ n. LeavesFirst c.args.layout n old new) after
           (one_fewer old mid new early c.args.layout place (omega (arith, c.tables-count.ensures))
           (omega (arith, c.tables-count.ensures))
-          (λ clean. rw c.drop_text.ensures at (c.in_ok-run.ensures.ran clean))
+          (λ clean. rw c.drop_text.ensures at (c.in_ok-run.ensures.made clean))
           (subst (λ n. LeavesFirst c.args.layout n old mid) before c.loop-step.invariant.change));
       inside = inside_then _ _ _ c.loop-step.invariant.inside c.run.ensures.inside;
     }

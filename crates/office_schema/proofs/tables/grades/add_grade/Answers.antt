@@ -1,17 +1,15 @@
-use Rattle.std.proofs.lemmas.Result.{on_ok_weaker}
-use Rattle.sqlite.specs.Held.{state}
 use Rattle.office_schema.proofs.statements.Made.{makes_grade}
+use Rattle.office_schema.proofs.statements.Runs.{runs_so}
 use Rattle.office_schema.proofs.tables.grades.add_grade.Goals as goal
 
-pub returns-clause-made : goal.returns-clause-made
-returns-clause-made g c =
-    on_ok_weaker _
-    (λ ran. makes_grade (state g.S.Store c.args.tx.now.conn.now) (state g.S.Store c.run.new.tx.conn.now)
-    c.args.person.now c.args.grade
+pub returns : goal.returns
+returns g c =
+    runs_so c.run.ensures
+    (λ ran. makes_grade _ _ c.args.person.now c.args.grade
     (λ clean. rw (
       c.params-to_sql.ensures,
       c.params-to_sql-2.ensures,
       c.as_str.ensures.text,
       c.from.ensures,
       c.value.ensures.value,
-    ) at (ran clean))) c.run.ensures.ran
+    ) at (ran clean)))

@@ -1,11 +1,9 @@
-use Rattle.std.proofs.lemmas.Result.{on_ok_weaker}
-use Rattle.sqlite.specs.Held.{state}
 use Rattle.office_schema.proofs.statements.Made.{makes_no_grade_of}
+use Rattle.office_schema.proofs.statements.Runs.{runs_so}
 use Rattle.office_schema.proofs.tables.grades.drop_grade.Goals as goal
 
-pub returns-clause-made : goal.returns-clause-made
-returns-clause-made g c =
-    on_ok_weaker _
-    (λ ran. makes_no_grade_of (state g.S.Store c.args.tx.now.conn.now) (state g.S.Store c.run.new.tx.conn.now)
-    c.args.person.now (λ clean. rw (c.params-to_sql.ensures, c.as_str.ensures.text) at (ran clean)))
-    c.run.ensures.ran
+pub returns : goal.returns
+returns g c =
+    runs_so c.run.ensures
+    (λ ran. makes_no_grade_of _ _ c.args.person.now
+    (λ clean. rw (c.params-to_sql.ensures, c.as_str.ensures.text) at (ran clean)))

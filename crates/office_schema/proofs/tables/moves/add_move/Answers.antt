@@ -1,13 +1,11 @@
-use Rattle.std.proofs.lemmas.Result.{on_ok_weaker}
-use Rattle.sqlite.specs.Held.{state}
 use Rattle.office_schema.proofs.statements.Made.{makes_move}
+use Rattle.office_schema.proofs.statements.Runs.{runs_so}
 use Rattle.office_schema.proofs.tables.moves.add_move.Goals as goal
 
-pub returns-clause-made : goal.returns-clause-made
-returns-clause-made g c =
-    on_ok_weaker _
-    (λ ran. makes_move (state g.S.Store c.args.tx.now.conn.now) (state g.S.Store c.run.new.tx.conn.now)
-    c.args.row.now
+pub returns : goal.returns
+returns g c =
+    runs_so c.run.ensures
+    (λ ran. makes_move _ _ c.args.row.now
     (λ clean. rw (
       c.params-to_sql.ensures,
       c.params-to_sql-2.ensures,
@@ -19,4 +17,4 @@ returns-clause-made g c =
       c.code_or_null-2.ensures,
       c.number_or_null.ensures,
       c.from.ensures,
-    ) at (ran clean))) c.run.ensures.ran
+    ) at (ran clean)))

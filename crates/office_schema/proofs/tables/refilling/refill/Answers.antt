@@ -32,14 +32,18 @@ loop-row-preserved g c =
       inside = inside_then _ _ _ c.loop-row.invariant.inside c.add_again.ensures.inside;
     }
 
-pub returns-clause-made : goal.returns-clause-made
-returns-clause-made g c =
+pub returns : goal.returns
+returns g c =
     let xs = c.args.rows.now in
     let i = c.loop-row.row-index in
     let done : drop i xs ≡ [] = drop_all i xs (omega arith) in
     record {
-      shown = λ tables clean was.
-          let m = c.loop-row.invariant.made tables clean was in
-          subst (HasTables (state g.S.Store c.loop-row.tx.conn.now).now) (rw done at m.2) m.1;
-      mode = c.loop-row.invariant.mode;
+      same_reference = c.loop-row.invariant.same_reference;
+      made = record {
+        shown = λ tables clean was.
+            let m = c.loop-row.invariant.made tables clean was in
+            subst (HasTables (state g.S.Store c.loop-row.tx.conn.now).now) (rw done at m.2) m.1;
+        mode = c.loop-row.invariant.mode;
+      };
+      inside = c.loop-row.invariant.inside;
     }

@@ -1,12 +1,10 @@
-use Rattle.std.proofs.lemmas.Result.{on_ok_weaker}
-use Rattle.sqlite.specs.Held.{state}
 use Rattle.office_schema.proofs.statements.Made.{makes_result}
+use Rattle.office_schema.proofs.statements.Runs.{runs_so}
 use Rattle.office_schema.proofs.tables.results.add_result.Goals as goal
 
-pub returns-clause-made : goal.returns-clause-made
-returns-clause-made g c =
-    on_ok_weaker _
-    (λ ran. makes_result (state g.S.Store c.args.tx.now.conn.now) (state g.S.Store c.run.new.tx.conn.now)
-    c.args.person.now c.args.room.now
+pub returns : goal.returns
+returns g c =
+    runs_so c.run.ensures
+    (λ ran. makes_result _ _ c.args.person.now c.args.room.now
     (λ clean. rw (c.params-to_sql.ensures, c.params-to_sql-2.ensures, c.as_str.ensures.text, c.code_or_null.ensures)
-    at (ran clean))) c.run.ensures.ran
+    at (ran clean)))
