@@ -25,7 +25,6 @@ use Rattle.office_schema.specs.tables.Edits.{without_withdrawn, with_round, with
 use Rattle.office_schema.specs.tables.Edits.{with_word, with_result, with_move, with_import}
 use Rattle.office_schema.specs.tables.Edits.{with_body, with_grade, without_grade_of, with_going}
 use Rattle.office_schema.specs.tables.Makes.{Makes}
-use Rattle.office_schema.specs.tables.Steps.{StaysInside}
 use Rattle.office_db.specs.changes.StoresChanges.{Turns, StoresChange, StoresAlways}
 use Rattle.office_db.specs.changes.Inner.Choosing.{with_choices}
 use Rattle.office_db.specs.changes.Inner.Grading.{with_grade_recorded}
@@ -48,9 +47,6 @@ use Rattle.office_db.proofs.alike_tables.WellFormed.{result_well_formed, move_we
 use Rattle.office_db.proofs.alike_tables.WellFormed.{kept_well_formed, body_well_formed, round_well_formed}
 use Rattle.office_db.proofs.alike_tables.WellFormed.{grade_well_formed, without_grade_of_well_formed}
 use Rattle.office_db.proofs.alike_tables.WellFormed.{going_well_formed}
-
-early : (mid new : State) → StaysInside mid new → HasCleanDisk new → HasCleanDisk mid
-early mid new inside clean = omega (arith, inside.survives.clean)
 
 -- ---- one statement
 
@@ -166,13 +162,13 @@ module _ (old new : State) where
 
 -- ---- two statements
 
-module _ (old mid new : State) (inside : StaysInside mid new) where
+module _ (old mid new : State) (early : HasCleanDisk new → HasCleanDisk mid) where
   pub stores_choices : (person : Text) (rooms : List Text) → Makes old mid (without_choices_of person)
       → Turns mid new (with_choices person 0 rooms) → StoresAlways old new (PutChoices person rooms)
   stores_choices person rooms m n first =
       stores first old new _ (λ t. with_choices person 0 rooms (without_choices_of person t))
       (λ office fits. choices_put office person rooms)
-      (turns_then old mid new _ _ (early mid new inside)
+      (turns_then old mid new _ _ early
       (turns old mid _ (λ t h. without_choices_of_well_formed t h person) m) n)
 
   pub stores_grade : (person : Text) (grade : ℕ) → Makes old mid (without_grade_of person)
@@ -180,7 +176,7 @@ module _ (old mid new : State) (inside : StaysInside mid new) where
   stores_grade person grade m n first =
       stores first old new _ (λ t. with_grade_recorded person grade (without_grade_of person t))
       (λ office fits. grade_put office person grade)
-      (turns_then old mid new _ _ (early mid new inside)
+      (turns_then old mid new _ _ early
       (turns old mid _ (λ t h. without_grade_of_well_formed t h person) m) n)
 
   pub stores_gone : (person : Text) → Makes old mid (without_grade_of person)
@@ -189,7 +185,7 @@ module _ (old mid new : State) (inside : StaysInside mid new) where
   stores_gone person m n first =
       stores first old new _ (λ t. without_person person (without_grade_of person t))
       (λ office fits. person_gone office person fits.2)
-      (turns_then old mid new _ _ (early mid new inside)
+      (turns_then old mid new _ _ early
       (turns old mid _ (λ t h. without_grade_of_well_formed t h person) m)
       (turns mid new _ (λ t h. without_person_well_formed t h person) n))
 
@@ -199,6 +195,6 @@ module _ (old mid new : State) (inside : StaysInside mid new) where
   stores_cleared m n first =
       stores first old new ClearRound (λ t. without_withdrawn (without_round_tables t))
       (λ office fits. round_cleared office)
-      (turns_then old mid new _ _ (early mid new inside)
+      (turns_then old mid new _ _ early
       (turns old mid _ (λ t h. without_round_tables_well_formed t h) m)
       (turns mid new _ (λ t h. without_withdrawn_well_formed t h) n))

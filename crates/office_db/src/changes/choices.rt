@@ -1,9 +1,9 @@
 //! Storing preference lists.
-ghost use Rattle.std.specs.Prelude.{◌≡◌, OnOk};
+ghost use Rattle.std.specs.Prelude.{OnOk};
 ghost use Rattle.sqlite.specs.Held.{state};
 ghost use Rattle.office_state.specs.declared.change.Change.TheVariants.{PutChoices};
 ghost use Rattle.office_schema.specs.tables.Crashes.{WasOpen};
-ghost use Rattle.office_schema.specs.tables.Steps.{StaysInside};
+ghost use Rattle.office_schema.specs.tables.Runs.{RunsSome};
 ghost use Rattle.office_db.specs.changes.StoresChanges.{StoresAlways, Turns};
 ghost use Rattle.office_db.specs.changes.Inner.Choosing.{with_choices};
 
@@ -18,13 +18,10 @@ pub(crate) fn put_choices<S: Alter>(
     person: &PersonId,
     choices: &Choices,
 ) -> Result<(), Error>
-    ensures same_reference { tx.new.conn.ghost_name ≡ tx.old.conn.ghost_name }
-    ensures made { OnOk result
-        (StoresAlways (state S.Store tx.old.conn.now) (state S.Store tx.new.conn.now)
-        (PutChoices person.now choices.now)) }
+    ensures runs { RunsSome S.Store tx.old tx.new result
+        (λ before after. StoresAlways before after (PutChoices person.now choices.now)) }
     ensures was_open { OnOk result
         (WasOpen (state S.Store tx.old.conn.now) (state S.Store tx.new.conn.now)) }
-    ensures inside { StaysInside (state S.Store tx.old.conn.now) (state S.Store tx.new.conn.now) }
 {
     drop_choices(tx, person)?;
     add_choices(tx, person, choices)
@@ -36,11 +33,8 @@ fn add_choices<S: Alter>(
     person: &PersonId,
     choices: &Choices,
 ) -> Result<(), Error>
-    ensures same_reference { tx.new.conn.ghost_name ≡ tx.old.conn.ghost_name }
-    ensures made { OnOk result
-        (Turns (state S.Store tx.old.conn.now) (state S.Store tx.new.conn.now)
-        (with_choices person.now 0 choices.now)) }
-    ensures inside { StaysInside (state S.Store tx.old.conn.now) (state S.Store tx.new.conn.now) }
+    ensures { RunsSome S.Store tx.old tx.new result
+        (λ before after. Turns before after (with_choices person.now 0 choices.now)) }
 {
     lemma_text(person);
     let rooms = choices.as_slice();

@@ -1,9 +1,9 @@
 //! Storing grades, and who leaves the college.
-ghost use Rattle.std.specs.Prelude.{◌≡◌, OnOk};
+ghost use Rattle.std.specs.Prelude.{OnOk};
 ghost use Rattle.sqlite.specs.Held.{state};
 ghost use Rattle.office_state.specs.declared.change.Change.TheVariants.{PutGoing, PutGrade};
 ghost use Rattle.office_schema.specs.tables.Crashes.{WasOpen};
-ghost use Rattle.office_schema.specs.tables.Steps.{StaysInside};
+ghost use Rattle.office_schema.specs.tables.Runs.{Runs, RunsSome};
 ghost use Rattle.office_db.specs.changes.StoresChanges.{StoresAlways, Turns};
 ghost use Rattle.office_db.specs.changes.Inner.Grading.{with_grade_recorded};
 
@@ -20,13 +20,10 @@ pub(crate) fn put_grade<S: Alter>(
     person: &PersonId,
     grade: Grade,
 ) -> Result<(), Error>
-    ensures same_reference { tx.new.conn.ghost_name ≡ tx.old.conn.ghost_name }
-    ensures made { OnOk result
-        (StoresAlways (state S.Store tx.old.conn.now) (state S.Store tx.new.conn.now)
-        (PutGrade person.now grade)) }
+    ensures runs { RunsSome S.Store tx.old tx.new result
+        (λ before after. StoresAlways before after (PutGrade person.now grade)) }
     ensures was_open { OnOk result
         (WasOpen (state S.Store tx.old.conn.now) (state S.Store tx.new.conn.now)) }
-    ensures inside { StaysInside (state S.Store tx.old.conn.now) (state S.Store tx.new.conn.now) }
 {
     drop_grade(tx, person)?;
     record_grade(tx, person, grade)
@@ -38,11 +35,8 @@ fn record_grade<S: Alter>(
     person: &PersonId,
     grade: Grade,
 ) -> Result<(), Error>
-    ensures same_reference { tx.new.conn.ghost_name ≡ tx.old.conn.ghost_name }
-    ensures made { OnOk result
-        (Turns (state S.Store tx.old.conn.now) (state S.Store tx.new.conn.now)
-        (with_grade_recorded person.now grade)) }
-    ensures inside { StaysInside (state S.Store tx.old.conn.now) (state S.Store tx.new.conn.now) }
+    ensures { RunsSome S.Store tx.old tx.new result
+        (λ before after. Turns before after (with_grade_recorded person.now grade)) }
 {
     if grade.is_first() {
         return Ok(());
@@ -57,13 +51,7 @@ pub(crate) fn put_going<S: Alter>(
     tx: &mut Transaction<'_, S>,
     person: &PersonId,
 ) -> Result<(), Error>
-    ensures same_reference { tx.new.conn.ghost_name ≡ tx.old.conn.ghost_name }
-    ensures made { OnOk result
-        (StoresAlways (state S.Store tx.old.conn.now) (state S.Store tx.new.conn.now)
-        (PutGoing person.now)) }
-    ensures was_open { OnOk result
-        (WasOpen (state S.Store tx.old.conn.now) (state S.Store tx.new.conn.now)) }
-    ensures inside { StaysInside (state S.Store tx.old.conn.now) (state S.Store tx.new.conn.now) }
+    ensures { Runs S.Store tx.old tx.new result (λ before after. StoresAlways before after (PutGoing person.now)) }
 {
     lemma_text(person);
     add_going(tx, person)

@@ -1,9 +1,6 @@
 //! Storing imported lists.
-ghost use Rattle.std.specs.Prelude.{◌≡◌, OnOk};
-ghost use Rattle.sqlite.specs.Held.{state};
 ghost use Rattle.office_state.specs.declared.change.Change.TheVariants.{KeepList, PutBytes};
-ghost use Rattle.office_schema.specs.tables.Crashes.{WasOpen};
-ghost use Rattle.office_schema.specs.tables.Steps.{StaysInside};
+ghost use Rattle.office_schema.specs.tables.Runs.{Runs};
 ghost use Rattle.office_db.specs.changes.StoresChanges.{StoresAlways};
 
 use crate::changes::lemmas::lemma_text;
@@ -19,13 +16,8 @@ pub(crate) fn keep_list<S: Alter>(
     bytes: &Listing<u8>,
     count: u16,
 ) -> Result<(), Error>
-    ensures same_reference { tx.new.conn.ghost_name ≡ tx.old.conn.ghost_name }
-    ensures made { OnOk result
-        (StoresAlways (state S.Store tx.old.conn.now) (state S.Store tx.new.conn.now)
-        (KeepList label.now kind bytes.now count)) }
-    ensures was_open { OnOk result
-        (WasOpen (state S.Store tx.old.conn.now) (state S.Store tx.new.conn.now)) }
-    ensures inside { StaysInside (state S.Store tx.old.conn.now) (state S.Store tx.new.conn.now) }
+    ensures { Runs S.Store tx.old tx.new result
+        (λ before after. StoresAlways before after (KeepList label.now kind bytes.now count)) }
 {
     lemma_text(label);
     add_list(tx, label, kind, bytes, count)
@@ -37,13 +29,8 @@ pub(crate) fn put_bytes<S: Alter>(
     label: &Label,
     bytes: &Listing<u8>,
 ) -> Result<(), Error>
-    ensures same_reference { tx.new.conn.ghost_name ≡ tx.old.conn.ghost_name }
-    ensures made { OnOk result
-        (StoresAlways (state S.Store tx.old.conn.now) (state S.Store tx.new.conn.now)
-        (PutBytes label.now bytes.now)) }
-    ensures was_open { OnOk result
-        (WasOpen (state S.Store tx.old.conn.now) (state S.Store tx.new.conn.now)) }
-    ensures inside { StaysInside (state S.Store tx.old.conn.now) (state S.Store tx.new.conn.now) }
+    ensures { Runs S.Store tx.old tx.new result
+        (λ before after. StoresAlways before after (PutBytes label.now bytes.now)) }
 {
     set_body(tx, label, bytes)
 }

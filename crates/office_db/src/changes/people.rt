@@ -1,10 +1,10 @@
 //! Storing people.
-ghost use Rattle.std.specs.Prelude.{◌≡◌, OnOk};
+ghost use Rattle.std.specs.Prelude.{OnOk};
 ghost use Rattle.sqlite.specs.Held.{state};
 ghost use Rattle.office_state.specs.declared.change.Change.TheVariants.{PutPerson, DropPerson, PutHome};
 ghost use Rattle.office_state.specs.declared.change.Change.TheVariants.{PutNameAndKey, PutWithdrawn};
 ghost use Rattle.office_schema.specs.tables.Crashes.{WasOpen};
-ghost use Rattle.office_schema.specs.tables.Steps.{StaysInside};
+ghost use Rattle.office_schema.specs.tables.Runs.{Runs, RunsSome};
 ghost use Rattle.office_db.specs.changes.StoresChanges.{StoresAlways};
 
 use crate::changes::lemmas::{lemma_optional_text, lemma_text};
@@ -23,13 +23,8 @@ pub(crate) fn put_person<S: Alter>(
     key: &Key,
     home: &Option<RoomCode>,
 ) -> Result<(), Error>
-    ensures same_reference { tx.new.conn.ghost_name ≡ tx.old.conn.ghost_name }
-    ensures made { OnOk result
-        (StoresAlways (state S.Store tx.old.conn.now) (state S.Store tx.new.conn.now)
-        (PutPerson person.now name.now key.now home.now)) }
-    ensures was_open { OnOk result
-        (WasOpen (state S.Store tx.old.conn.now) (state S.Store tx.new.conn.now)) }
-    ensures inside { StaysInside (state S.Store tx.old.conn.now) (state S.Store tx.new.conn.now) }
+    ensures { Runs S.Store tx.old tx.new result
+        (λ before after. StoresAlways before after (PutPerson person.now name.now key.now home.now)) }
 {
     lemma_text(person);
     lemma_text(name);
@@ -43,13 +38,10 @@ pub(crate) fn remove_person<S: Alter>(
     tx: &mut Transaction<'_, S>,
     person: &PersonId,
 ) -> Result<(), Error>
-    ensures same_reference { tx.new.conn.ghost_name ≡ tx.old.conn.ghost_name }
-    ensures made { OnOk result
-        (StoresAlways (state S.Store tx.old.conn.now) (state S.Store tx.new.conn.now)
-        (DropPerson person.now)) }
+    ensures runs { RunsSome S.Store tx.old tx.new result
+        (λ before after. StoresAlways before after (DropPerson person.now)) }
     ensures was_open { OnOk result
         (WasOpen (state S.Store tx.old.conn.now) (state S.Store tx.new.conn.now)) }
-    ensures inside { StaysInside (state S.Store tx.old.conn.now) (state S.Store tx.new.conn.now) }
 {
     drop_grade(tx, person)?;
     drop_person(tx, person)
@@ -61,13 +53,8 @@ pub(crate) fn put_home<S: Alter>(
     person: &PersonId,
     home: &Option<RoomCode>,
 ) -> Result<(), Error>
-    ensures same_reference { tx.new.conn.ghost_name ≡ tx.old.conn.ghost_name }
-    ensures made { OnOk result
-        (StoresAlways (state S.Store tx.old.conn.now) (state S.Store tx.new.conn.now)
-        (PutHome person.now home.now)) }
-    ensures was_open { OnOk result
-        (WasOpen (state S.Store tx.old.conn.now) (state S.Store tx.new.conn.now)) }
-    ensures inside { StaysInside (state S.Store tx.old.conn.now) (state S.Store tx.new.conn.now) }
+    ensures { Runs S.Store tx.old tx.new result
+        (λ before after. StoresAlways before after (PutHome person.now home.now)) }
 {
     lemma_optional_text(home);
     set_home(tx, person, home)
@@ -80,13 +67,8 @@ pub(crate) fn put_name_and_key<S: Alter>(
     name: &Name,
     key: &Key,
 ) -> Result<(), Error>
-    ensures same_reference { tx.new.conn.ghost_name ≡ tx.old.conn.ghost_name }
-    ensures made { OnOk result
-        (StoresAlways (state S.Store tx.old.conn.now) (state S.Store tx.new.conn.now)
-        (PutNameAndKey person.now name.now key.now)) }
-    ensures was_open { OnOk result
-        (WasOpen (state S.Store tx.old.conn.now) (state S.Store tx.new.conn.now)) }
-    ensures inside { StaysInside (state S.Store tx.old.conn.now) (state S.Store tx.new.conn.now) }
+    ensures { Runs S.Store tx.old tx.new result
+        (λ before after. StoresAlways before after (PutNameAndKey person.now name.now key.now)) }
 {
     lemma_text(name);
     lemma_text(key);
@@ -98,13 +80,7 @@ pub(crate) fn put_withdrawn<S: Alter>(
     tx: &mut Transaction<'_, S>,
     person: &PersonId,
 ) -> Result<(), Error>
-    ensures same_reference { tx.new.conn.ghost_name ≡ tx.old.conn.ghost_name }
-    ensures made { OnOk result
-        (StoresAlways (state S.Store tx.old.conn.now) (state S.Store tx.new.conn.now)
-        (PutWithdrawn person.now)) }
-    ensures was_open { OnOk result
-        (WasOpen (state S.Store tx.old.conn.now) (state S.Store tx.new.conn.now)) }
-    ensures inside { StaysInside (state S.Store tx.old.conn.now) (state S.Store tx.new.conn.now) }
+    ensures { Runs S.Store tx.old tx.new result (λ before after. StoresAlways before after (PutWithdrawn person.now)) }
 {
     set_withdrawn(tx, person)
 }

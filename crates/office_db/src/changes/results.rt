@@ -1,9 +1,6 @@
 //! Storing results and moves.
-ghost use Rattle.std.specs.Prelude.{◌≡◌, OnOk};
-ghost use Rattle.sqlite.specs.Held.{state};
 ghost use Rattle.office_state.specs.declared.change.Change.TheVariants.{PutResult, AddMove};
-ghost use Rattle.office_schema.specs.tables.Crashes.{WasOpen};
-ghost use Rattle.office_schema.specs.tables.Steps.{StaysInside};
+ghost use Rattle.office_schema.specs.tables.Runs.{Runs};
 ghost use Rattle.office_db.specs.changes.StoresChanges.{StoresAlways};
 
 use crate::changes::lemmas::{lemma_move, lemma_optional_text, lemma_text};
@@ -18,13 +15,8 @@ pub(crate) fn put_result<S: Alter>(
     person: &PersonId,
     room: &Option<RoomCode>,
 ) -> Result<(), Error>
-    ensures same_reference { tx.new.conn.ghost_name ≡ tx.old.conn.ghost_name }
-    ensures made { OnOk result
-        (StoresAlways (state S.Store tx.old.conn.now) (state S.Store tx.new.conn.now)
-        (PutResult person.now room.now)) }
-    ensures was_open { OnOk result
-        (WasOpen (state S.Store tx.old.conn.now) (state S.Store tx.new.conn.now)) }
-    ensures inside { StaysInside (state S.Store tx.old.conn.now) (state S.Store tx.new.conn.now) }
+    ensures { Runs S.Store tx.old tx.new result
+        (λ before after. StoresAlways before after (PutResult person.now room.now)) }
 {
     lemma_text(person);
     lemma_optional_text(room);
@@ -33,13 +25,7 @@ pub(crate) fn put_result<S: Alter>(
 
 /// Adds a person's move in a round to table `move`.
 pub(crate) fn record_move<S: Alter>(tx: &mut Transaction<'_, S>, moved: &Move) -> Result<(), Error>
-    ensures same_reference { tx.new.conn.ghost_name ≡ tx.old.conn.ghost_name }
-    ensures made { OnOk result
-        (StoresAlways (state S.Store tx.old.conn.now) (state S.Store tx.new.conn.now)
-        (AddMove moved.now)) }
-    ensures was_open { OnOk result
-        (WasOpen (state S.Store tx.old.conn.now) (state S.Store tx.new.conn.now)) }
-    ensures inside { StaysInside (state S.Store tx.old.conn.now) (state S.Store tx.new.conn.now) }
+    ensures { Runs S.Store tx.old tx.new result (λ before after. StoresAlways before after (AddMove moved.now)) }
 {
     lemma_move(moved);
     add_move(tx, moved)

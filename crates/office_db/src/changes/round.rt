@@ -1,9 +1,9 @@
 //! Storing the round.
-ghost use Rattle.std.specs.Prelude.{◌≡◌, OnOk};
+ghost use Rattle.std.specs.Prelude.{OnOk};
 ghost use Rattle.sqlite.specs.Held.{state};
 ghost use Rattle.office_state.specs.declared.change.Change.TheVariants.{PutRound, ClearRound};
 ghost use Rattle.office_schema.specs.tables.Crashes.{WasOpen};
-ghost use Rattle.office_schema.specs.tables.Steps.{StaysInside};
+ghost use Rattle.office_schema.specs.tables.Runs.{Runs, RunsSome};
 ghost use Rattle.office_db.specs.changes.StoresChanges.{StoresAlways};
 
 use office_schema::tables::people::clear_withdrawn;
@@ -18,26 +18,16 @@ pub(crate) fn put_round<S: Alter>(
     number: u16,
     phase: Phase,
 ) -> Result<(), Error>
-    ensures same_reference { tx.new.conn.ghost_name ≡ tx.old.conn.ghost_name }
-    ensures made { OnOk result
-        (StoresAlways (state S.Store tx.old.conn.now) (state S.Store tx.new.conn.now)
-        (PutRound number phase)) }
-    ensures was_open { OnOk result
-        (WasOpen (state S.Store tx.old.conn.now) (state S.Store tx.new.conn.now)) }
-    ensures inside { StaysInside (state S.Store tx.old.conn.now) (state S.Store tx.new.conn.now) }
+    ensures { Runs S.Store tx.old tx.new result (λ before after. StoresAlways before after (PutRound number phase)) }
 {
     set_round(tx, number, phase)
 }
 
 /// Deletes all preference lists, withdrawals, leavers, drawn words and results.
 pub(crate) fn clear_round<S: Alter>(tx: &mut Transaction<'_, S>) -> Result<(), Error>
-    ensures same_reference { tx.new.conn.ghost_name ≡ tx.old.conn.ghost_name }
-    ensures made { OnOk result
-        (StoresAlways (state S.Store tx.old.conn.now) (state S.Store tx.new.conn.now)
-        (ClearRound)) }
+    ensures runs { RunsSome S.Store tx.old tx.new result (λ before after. StoresAlways before after ClearRound) }
     ensures was_open { OnOk result
         (WasOpen (state S.Store tx.old.conn.now) (state S.Store tx.new.conn.now)) }
-    ensures inside { StaysInside (state S.Store tx.old.conn.now) (state S.Store tx.new.conn.now) }
 {
     clear_round_tables(tx)?;
     clear_withdrawn(tx)

@@ -4,7 +4,8 @@ ghost use Rattle.sqlite.specs.Held.{state};
 ghost use Rattle.sqlite.specs.State.{HasCleanDisk};
 ghost use Rattle.office_state.specs.declared.change.Change.TheVariants.{PutRoom};
 ghost use Rattle.office_schema.specs.tables.Crashes.{LeavesOldOr, ShowsCommitted, WasOpen};
-ghost use Rattle.office_schema.specs.tables.Steps.{IsIntact, Follows, StaysInside};
+ghost use Rattle.office_schema.specs.tables.Runs.{Runs, RunsSome};
+ghost use Rattle.office_schema.specs.tables.Steps.{IsIntact, Follows};
 ghost use Rattle.office_db.specs.changes.StoresChanges.{CommitsChanges, StoresChange, StoresChanges};
 
 use crate::changes::choices::put_choices;
@@ -69,13 +70,10 @@ fn apply_changes<S: Alter>(
     first: &Office,
     changes: &[Change],
 ) -> Result<(), Error>
-    ensures same_reference { tx.new.conn.ghost_name ≡ tx.old.conn.ghost_name }
-    ensures made { OnOk result
-        (StoresChanges first.now (state S.Store tx.old.conn.now) (state S.Store tx.new.conn.now)
-        changes.now) }
+    ensures runs { RunsSome S.Store tx.old tx.new result
+        (λ before after. StoresChanges first.now before after changes.now) }
     ensures was_open { OnOk result (0 < length changes.now
         → WasOpen (state S.Store tx.old.conn.now) (state S.Store tx.new.conn.now)) }
-    ensures inside { StaysInside (state S.Store tx.old.conn.now) (state S.Store tx.new.conn.now) }
 {
     for change in changes {
         apply_change(alloc, tx, first, change)?;
@@ -90,13 +88,10 @@ fn apply_change<S: Alter>(
     first: &Office,
     change: &Change,
 ) -> Result<(), Error>
-    ensures same_reference { tx.new.conn.ghost_name ≡ tx.old.conn.ghost_name }
-    ensures made { OnOk result
-        (StoresChange first.now (state S.Store tx.old.conn.now) (state S.Store tx.new.conn.now)
-        change.now) }
+    ensures runs { RunsSome S.Store tx.old tx.new result
+        (λ before after. StoresChange first.now before after change.now) }
     ensures was_open { OnOk result
         (WasOpen (state S.Store tx.old.conn.now) (state S.Store tx.new.conn.now)) }
-    ensures inside { StaysInside (state S.Store tx.old.conn.now) (state S.Store tx.new.conn.now) }
 {
     match change {
         Change::PutRoom { room, shut } => put_room(tx, first, room, *shut),
@@ -136,13 +131,8 @@ fn put_room<S: Alter>(
     room: &RoomCode,
     shut: bool,
 ) -> Result<(), Error>
-    ensures same_reference { tx.new.conn.ghost_name ≡ tx.old.conn.ghost_name }
-    ensures made { OnOk result
-        (StoresChange first.now (state S.Store tx.old.conn.now) (state S.Store tx.new.conn.now)
-        (PutRoom room.now shut)) }
-    ensures was_open { OnOk result
-        (WasOpen (state S.Store tx.old.conn.now) (state S.Store tx.new.conn.now)) }
-    ensures inside { StaysInside (state S.Store tx.old.conn.now) (state S.Store tx.new.conn.now) }
+    ensures { Runs S.Store tx.old tx.new result
+        (λ before after. StoresChange first.now before after (PutRoom room.now shut)) }
 {
     if first.rooms.contains_key(room) {
         return set_shut(tx, room, shut);

@@ -1,9 +1,6 @@
 //! Storing drawn words.
-ghost use Rattle.std.specs.Prelude.{◌≡◌, OnOk};
-ghost use Rattle.sqlite.specs.Held.{state};
 ghost use Rattle.office_state.specs.declared.change.Change.TheVariants.{PutWord};
-ghost use Rattle.office_schema.specs.tables.Crashes.{WasOpen};
-ghost use Rattle.office_schema.specs.tables.Steps.{StaysInside};
+ghost use Rattle.office_schema.specs.tables.Runs.{Runs};
 ghost use Rattle.office_db.specs.changes.StoresChanges.{StoresAlways};
 
 use crate::changes::lemmas::{lemma_text, lemma_word};
@@ -19,13 +16,7 @@ pub(crate) fn put_word<S: Alter>(
     person: &PersonId,
     word: Word,
 ) -> Result<(), Error>
-    ensures same_reference { tx.new.conn.ghost_name ≡ tx.old.conn.ghost_name }
-    ensures made { OnOk result
-        (StoresAlways (state S.Store tx.old.conn.now) (state S.Store tx.new.conn.now)
-        (PutWord person.now word)) }
-    ensures was_open { OnOk result
-        (WasOpen (state S.Store tx.old.conn.now) (state S.Store tx.new.conn.now)) }
-    ensures inside { StaysInside (state S.Store tx.old.conn.now) (state S.Store tx.new.conn.now) }
+    ensures { Runs S.Store tx.old tx.new result (λ before after. StoresAlways before after (PutWord person.now word)) }
 {
     lemma_text(person);
     lemma_word(word);

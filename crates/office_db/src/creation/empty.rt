@@ -7,7 +7,8 @@ ghost use Rattle.office_db.specs.creation.Created.{Starts};
 ghost use Rattle.office_db.specs.creation.Names.{NameIsTaken};
 ghost use Rattle.office_schema.specs.tables.Crashes.{LeavesOldOr};
 ghost use Rattle.office_schema.specs.tables.Schema.{no_schema};
-ghost use Rattle.office_schema.specs.tables.Steps.{Follows, IsIntact, StaysInside};
+ghost use Rattle.office_schema.specs.tables.Runs.{RunsSome};
+ghost use Rattle.office_schema.specs.tables.Steps.{Follows, IsIntact};
 ghost use Rattle.office_schema.specs.tables.Tables.{HoldsOffice};
 
 use crate::creation::names::{declares_nothing, is_taken};
@@ -94,10 +95,7 @@ fn start_office<S: Alter>(conn: &mut Connection<S>) -> Result<(), Error>
 
 // Creates the tables, and adds the row of a round that has not begun.
 fn start<S: Alter>(tx: &mut Transaction<'_, S>) -> Result<(), Error>
-    ensures same_reference { tx.new.conn.ghost_name ≡ tx.old.conn.ghost_name }
-    ensures made { OnOk result
-        (Starts (state S.Store tx.old.conn.now) (state S.Store tx.new.conn.now)) }
-    ensures inside { StaysInside (state S.Store tx.old.conn.now) (state S.Store tx.new.conn.now) }
+    ensures { RunsSome S.Store tx.old tx.new result Starts }
 {
     create_tables_from(tx, 0)?;
     add_round(tx, 0, Phase::Idle)

@@ -44,15 +44,19 @@ loop-room-preserved g c =
       inside = inside_then _ _ _ c.loop-room.invariant.inside c.add_choice.ensures.inside;
     }
 
-pub returns-clause-made : goal.returns-clause-made
-returns-clause-made g c =
+pub returns : goal.returns
+returns g c =
     let xs = c.as_slice-rooms.result.now in
     let i = c.loop-room.room-index in
     let done : drop i xs ≡ [] = drop_all i xs (omega arith) in
     record {
-      shown = λ tables clean well_formed was.
-          let m = c.loop-room.invariant.made tables clean well_formed was in
-          let end = rw c.as_slice-rooms.ensures.rooms at (rw done at m.3) in
-          (subst (HasTables (state g.S.Store c.loop-room.tx.conn.now).now) end m.1, subst IsWellFormed end m.2);
-      mode = c.loop-room.invariant.mode;
+      same_reference = c.loop-room.invariant.same_reference;
+      made = record {
+        shown = λ tables clean well_formed was.
+            let m = c.loop-room.invariant.made tables clean well_formed was in
+            let end = rw c.as_slice-rooms.ensures.rooms at (rw done at m.3) in
+            (subst (HasTables (state g.S.Store c.loop-room.tx.conn.now).now) end m.1, subst IsWellFormed end m.2);
+        mode = c.loop-room.invariant.mode;
+      };
+      inside = c.loop-room.invariant.inside;
     }

@@ -1,19 +1,15 @@
+use Rattle.std.proofs.Common.{arith}
 use Rattle.std.proofs.lemmas.Result.{on_ok_weaker}
 use Rattle.sqlite.specs.Held.{state}
 use Rattle.office_schema.specs.tables.Crashes.{WasOpen}
+use Rattle.office_schema.proofs.statements.Runs.{some_of, some_then}
 use Rattle.office_db.proofs.changed_rows.Calls.{stores_choices}
-use Rattle.std.proofs.Common.{arith}
 use Rattle.office_db.proofs.changes.choices.put_choices.Goals as goal
 
-pub returns-clause-made : goal.returns-clause-made
-returns-clause-made g c =
-    let old = state g.S.Store c.args.tx.now.conn.now in
-    let mid = state g.S.Store c.drop_choices.new.tx.conn.now in
-    let new = state g.S.Store c.add_choices.new.tx.conn.now in
-    on_ok_weaker c.add_choices.result
-    (stores_choices old mid new c.add_choices.ensures.inside c.args.person.now c.args.choices.now
-    c.in_ok-drop_choices.ensures.made)
-    c.add_choices.ensures.made
+pub returns-clause-runs : goal.returns-clause-runs
+returns-clause-runs g c =
+    some_then (some_of c.in_ok-drop_choices.ensures) c.add_choices.ensures
+    (λ early. stores_choices _ _ _ early c.args.person.now c.args.choices.now)
 
 -- Its first statement ran.
 pub returns-clause-was_open : goal.returns-clause-was_open

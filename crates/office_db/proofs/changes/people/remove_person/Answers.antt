@@ -1,18 +1,15 @@
+use Rattle.std.proofs.Common.{arith}
 use Rattle.std.proofs.lemmas.Result.{on_ok_weaker}
 use Rattle.sqlite.specs.Held.{state}
 use Rattle.office_schema.specs.tables.Crashes.{WasOpen}
+use Rattle.office_schema.proofs.statements.Runs.{some_of, some_then}
 use Rattle.office_db.proofs.changed_rows.Calls.{stores_gone}
-use Rattle.std.proofs.Common.{arith}
 use Rattle.office_db.proofs.changes.people.remove_person.Goals as goal
 
-pub returns-clause-made : goal.returns-clause-made
-returns-clause-made g c =
-    let old = state g.S.Store c.args.tx.now.conn.now in
-    let mid = state g.S.Store c.drop_grade.new.tx.conn.now in
-    let new = state g.S.Store c.drop_person.new.tx.conn.now in
-    on_ok_weaker c.drop_person.result
-    (stores_gone old mid new c.drop_person.ensures.inside c.args.person.now c.in_ok-drop_grade.ensures.made)
-    c.drop_person.ensures.made
+pub returns-clause-runs : goal.returns-clause-runs
+returns-clause-runs g c =
+    some_then (some_of c.in_ok-drop_grade.ensures) (some_of c.drop_person.ensures)
+    (λ early. stores_gone _ _ _ early c.args.person.now)
 
 -- Its first statement ran.
 pub returns-clause-was_open : goal.returns-clause-was_open

@@ -1,19 +1,15 @@
+use Rattle.std.proofs.Common.{arith}
 use Rattle.std.proofs.lemmas.Result.{on_ok_weaker}
 use Rattle.sqlite.specs.Held.{state}
-use Rattle.office_db.proofs.changed_rows.Calls.{stores_cleared}
-use Rattle.std.proofs.Common.{arith}
 use Rattle.office_schema.specs.tables.Crashes.{WasOpen}
 use Rattle.office_schema.proofs.statements.Crashes.{was_open_then}
+use Rattle.office_schema.proofs.statements.Runs.{some_of, some_then}
+use Rattle.office_db.proofs.changed_rows.Calls.{stores_cleared}
 use Rattle.office_db.proofs.changes.round.clear_round.Goals as goal
 
-pub returns-clause-made : goal.returns-clause-made
-returns-clause-made g c =
-    let old = state g.S.Store c.args.tx.now.conn.now in
-    let mid = state g.S.Store c.clear_round_tables.new.tx.conn.now in
-    let new = state g.S.Store c.clear_withdrawn.new.tx.conn.now in
-    on_ok_weaker c.clear_withdrawn.result
-    (stores_cleared old mid new c.clear_withdrawn.ensures.inside c.in_ok-clear_round_tables.ensures.runs.made)
-    c.clear_withdrawn.ensures.made
+pub returns-clause-runs : goal.returns-clause-runs
+returns-clause-runs g c =
+    some_then c.in_ok-clear_round_tables.ensures.runs (some_of c.clear_withdrawn.ensures) (stores_cleared _ _ _)
 
 -- Its last statement ran.
 pub returns-clause-was_open : goal.returns-clause-was_open

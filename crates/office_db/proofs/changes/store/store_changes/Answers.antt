@@ -34,8 +34,8 @@ returns-in_err-commit-clause-crash g c =
     (sym same)
     (stored_once c.args.office.now old (state g.S.Store c.transaction-tx.result.conn.now)
     (state g.S.Store c.apply_changes.new.tx.conn.now) (state g.S.Store c.commit.new.self.0)
-    c.args.changes.now (search rules) (search rules) (search rules) c.apply_changes.ensures.inside
-    c.in_ok-apply_changes.ensures.made c.in_ok-apply_changes.ensures.was_open
+    c.args.changes.now (search rules) (search rules) (search rules) c.apply_changes.ensures.runs.inside
+    c.in_ok-apply_changes.ensures.runs.made c.in_ok-apply_changes.ensures.was_open
     c.commit.ensures.survives)
 
 pub returns-clause-crash : goal.returns-clause-crash
@@ -46,6 +46,6 @@ returns-clause-crash g c =
     (sym same)
     (stored_once c.args.office.now old (state g.S.Store c.transaction-tx.result.conn.now)
     (state g.S.Store c.apply_changes.new.tx.conn.now) (state g.S.Store c.commit.new.self.0)
-    c.args.changes.now (search rules) (search rules) (search rules) c.apply_changes.ensures.inside
-    c.in_ok-apply_changes.ensures.made c.in_ok-apply_changes.ensures.was_open
+    c.args.changes.now (search rules) (search rules) (search rules) c.apply_changes.ensures.runs.inside
+    c.in_ok-apply_changes.ensures.runs.made c.in_ok-apply_changes.ensures.was_open
     c.commit.ensures.survives)
