@@ -21,7 +21,7 @@ use Rattle.office_schema.specs.tables.FirstTables.{Begins}
 use Rattle.office_db.specs.loading.Numbers.{HasWholeRows, IsLaidFirst, IsLaidOut, IsWhole}
 use Rattle.office_db.proofs.found_offices.First.{begins_if_laid}
 use Rattle.office_schema.specs.tables.Layouts.{schema_of}
-use Rattle.office_schema.specs.tables.Schema.{room, person, round, choice, word, list, grade, going}
+use Rattle.office_schema.specs.tables.Schema.{room, person, round, choice, word, list, grade, going_table}
 use Rattle.office_schema.specs.declared.tables.layouts.Layout.{Layout}
 use Rattle.office_schema.specs.declared.tables.layouts.Layout.TheVariants.{Own, Documented, DocumentedSecond}
 use Rattle.office_schema.specs.declared.tables.layouts.Layout.TheVariants.{DocumentedFirst, EarlierFirst}
@@ -155,9 +155,9 @@ module _ (db : Database) where
   whole_grades tree typed present =
       all_whole (grade tree) (db.trees tree) (λ row p. last_of (there row 1) (there row 2) p) typed present
 
-  whole_going : (tree : ℕ) → Typed (going tree) → Present (going tree) → AllByRecursion (IsWhole 1) (db.trees tree)
+  whole_going : (tree : ℕ) → Typed (going_table tree) → Present (going_table tree) → AllByRecursion (IsWhole 1) (db.trees tree)
   whole_going tree typed present =
-      all_whole (going tree) (db.trees tree) (λ row p. (and_parts (there row 1) true p).0) typed present
+      all_whole (going_table tree) (db.trees tree) (λ row p. (and_parts (there row 1) true p).0) typed present
 
 -- The rows of each table of the layout have cells of the declared types.
 typed_at : (layout : Layout) (db : Database) → IsDatabase db → (begins : Begins layout db.schema) (i : ℕ) (it : Table)
@@ -189,7 +189,7 @@ whole_if_sound Own db sound begins wide =
       moves = wide.moves;
       lists = whole_lists db 9 (typed 4 (list 9) refl) (present 4 (list 9) refl);
       grades = whole_grades db 11 (typed 5 (grade 11) refl) (present 5 (grade 11) refl);
-      going = whole_going db 21 (typed 9 (going 21) refl) (present 9 (going 21) refl);
+      going = whole_going db 21 (typed 9 (going_table 21) refl) (present 9 (going_table 21) refl);
     }
 whole_if_sound Documented db sound begins wide =
     let typed = typed_at Documented db sound begins in
@@ -204,7 +204,7 @@ whole_if_sound Documented db sound begins wide =
       moves = wide.moves;
       lists = whole_lists db 17 (typed 7 (list 17) refl) (present 7 (list 17) refl);
       grades = whole_grades db 19 (typed 8 (grade 19) refl) (present 8 (grade 19) refl);
-      going = whole_going db 21 (typed 9 (going 21) refl) (present 9 (going 21) refl);
+      going = whole_going db 21 (typed 9 (going_table 21) refl) (present 9 (going_table 21) refl);
     }
 whole_if_sound DocumentedSecond db sound begins wide =
     let typed = typed_at DocumentedSecond db sound begins in

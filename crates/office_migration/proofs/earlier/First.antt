@@ -11,7 +11,7 @@ use Rattle.sqlite_schema.specs.Names.{same_name}
 use Rattle.sqlite.specs.Effect.{Database}
 use Rattle.office_state.specs.declared.office.Office.{Office}
 use Rattle.office_schema.specs.tables.Layouts.{schema_of, table_count, version_of}
-use Rattle.office_schema.specs.tables.Schema.{room, person, round, choice, word, result, move, list, grade, going}
+use Rattle.office_schema.specs.tables.Schema.{room, person, round, choice, word, result, move, list, grade, going_table}
 use Rattle.office_schema.specs.tables.Layouts.{documented_schema}
 use Rattle.office_schema.specs.declared.tables.layouts.Layout.{Layout}
 use Rattle.office_schema.specs.declared.tables.layouts.Layout.TheVariants.{Own, Documented, DocumentedSecond}
@@ -120,7 +120,7 @@ own_declares Own =
                     (9, at 4 (list 9) refl refl),
                     (
                       (11, at 5 (grade 11) refl refl),
-                      ((21, at 9 (going 21) refl refl), tt),
+                      ((21, at 9 (going_table 21) refl refl), tt),
                     ),
                   ),
                 ),
@@ -149,7 +149,7 @@ own_declares Documented =
                     (17, at 7 (list 17) refl refl),
                     (
                       (19, at 8 (grade 19) refl refl),
-                      ((21, at 9 (going 21) refl refl), tt),
+                      ((21, at 9 (going_table 21) refl refl), tt),
                     ),
                   ),
                 ),

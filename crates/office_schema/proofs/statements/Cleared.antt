@@ -283,7 +283,7 @@ module _ (old mid new : State) (early : HasCleanDisk new → HasCleanDisk mid) (
       (more_by _ 6 (schema.word 0) _ refl refl word_declared)
       (more_by _ 7 (schema.result 0) _ refl refl result_declared)
       (more_by _ 8 (schema.choice 0) _ refl refl choice_declared)
-      (more_by _ 9 (schema.going 0) _ refl refl going_declared)
+      (more_by _ 9 (schema.going_table 0) _ refl refl going_declared)
 
 -- ---- all tables together
 

@@ -168,7 +168,7 @@ unfolding understood everything
 choice_declared =
     record { is = refl; whole = refl; defined = refl; plain = (refl, refl); added = refl; uncounted = refl }
 
-pub going_declared : IsDeclaredBy schema.going_text (first_tables 9) (first_tables 10) (schema.going 0)
+pub going_declared : IsDeclaredBy schema.going_text (first_tables 9) (first_tables 10) (schema.going_table 0)
 unfolding understood everything
 going_declared =
     record { is = refl; whole = refl; defined = refl; plain = (refl, refl); added = refl; uncounted = refl }
@@ -209,7 +209,7 @@ own_choice_dropped =
     record { is = refl; plain = (refl, refl); found = refl; unmoved = refl; uncounted = refl; left = refl }
 
 pub own_going_dropped : IsDroppedBy (drop_table_text (codes "going")) (first_tables 10) (first_tables 9) 9
-    (schema.going 21)
+    (schema.going_table 21)
 unfolding understood everything
 own_going_dropped =
     record { is = refl; plain = (refl, refl); found = refl; unmoved = refl; uncounted = refl; left = refl }
@@ -251,7 +251,7 @@ documented_grade_dropped =
     record { is = refl; plain = (refl, refl); found = refl; unmoved = refl; uncounted = refl; left = refl }
 
 pub documented_going_dropped : IsDroppedBy (drop_table_text (codes "going")) (tables_of Documented 10)
-    (tables_of Documented 9) 9 (schema.going 21)
+    (tables_of Documented 9) 9 (schema.going_table 21)
 unfolding understood everything
 documented_going_dropped =
     record { is = refl; plain = (refl, refl); found = refl; unmoved = refl; uncounted = refl; left = refl }

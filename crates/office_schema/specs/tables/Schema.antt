@@ -153,20 +153,20 @@ table_of name tree columns key primary uniques checks references = record {
 }
 
 -- only the first column
-abbrev pub first : List ℕ
-first = 1 ∷ []
+abbrev pub first_column : List ℕ
+first_column = 1 ∷ []
 
 abbrev pub room : ℕ → Table
 room tree =
     table_of (codes "room") tree
-    (required Text (codes "code") ∷ required Integer (codes "shut") ∷ []) None first (first ∷ []) (is_flag 2 ∷ []) []
+    (required Text (codes "code") ∷ required Integer (codes "shut") ∷ []) None first_column (first_column ∷ []) (is_flag 2 ∷ []) []
 
 abbrev pub person : ℕ → Table
 person tree =
     table_of (codes "person") tree
     (required Text (codes "id") ∷ required Text (codes "name") ∷ required Text (codes "passkey")
     ∷ optional Text (codes "home") ∷ required Integer (codes "withdrawn") ∷ [])
-    None first (first ∷ (3 ∷ []) ∷ (4 ∷ []) ∷ []) (is_flag 5 ∷ [])
+    None first_column (first_column ∷ (3 ∷ []) ∷ (4 ∷ []) ∷ []) (is_flag 5 ∷ [])
     (refers_to (codes "room") (codes "code") 4 ∷ [])
 
 abbrev pub round : ℕ → Table
@@ -189,24 +189,24 @@ list tree =
     table_of (codes "list") tree
     (required Text (codes "label") ∷ required Text (codes "kind") ∷ required Blob (codes "body")
     ∷ required Integer (codes "added") ∷ [])
-    None first (first ∷ []) [] []
+    None first_column (first_column ∷ []) [] []
 
 abbrev pub grade : ℕ → Table
 grade tree =
     table_of (codes "grade") tree (required Text (codes "person") ∷ required Integer (codes "value") ∷ [])
-    None first (first ∷ [])
+    None first_column (first_column ∷ [])
     (is_digit 2 ∷ [])
     (refers_to (codes "person") (codes "id") 1 ∷ [])
 
 abbrev pub word : ℕ → Table
 word tree =
     table_of (codes "word") tree (required Text (codes "person") ∷ required Text (codes "hex") ∷ [])
-    None first (first ∷ []) [] (refers_to (codes "person") (codes "id") 1 ∷ [])
+    None first_column (first_column ∷ []) [] (refers_to (codes "person") (codes "id") 1 ∷ [])
 
 abbrev pub result : ℕ → Table
 result tree =
     table_of (codes "result") tree
-    (required Text (codes "person") ∷ optional Text (codes "room") ∷ []) None first (first ∷ (2 ∷ []) ∷ []) []
+    (required Text (codes "person") ∷ optional Text (codes "room") ∷ []) None first_column (first_column ∷ (2 ∷ []) ∷ []) []
     (refers_to (codes "person") (codes "id") 1 ∷ refers_to (codes "room") (codes "code") 2 ∷ [])
 
 abbrev pub choice : ℕ → Table
@@ -217,9 +217,9 @@ choice tree =
     None (1 ∷ 2 ∷ []) ((1 ∷ 2 ∷ []) ∷ (1 ∷ 3 ∷ []) ∷ []) []
     (refers_to (codes "person") (codes "id") 1 ∷ refers_to (codes "room") (codes "code") 3 ∷ [])
 
-abbrev pub going : ℕ → Table
-going tree =
-    table_of (codes "going") tree (required Text (codes "person") ∷ []) None first (first ∷ []) []
+abbrev pub going_table : ℕ → Table
+going_table tree =
+    table_of (codes "going") tree (required Text (codes "person") ∷ []) None first_column (first_column ∷ []) []
     (refers_to (codes "person") (codes "id") 1 ∷ [])
 
 -- the table of an office with this name, in this tree
@@ -233,7 +233,7 @@ office_table Results = result
 office_table Moves = move
 office_table Lists = list
 office_table Grades = grade
-office_table Going = going
+office_table Going = going_table
 
 -- ---- the schema
 
@@ -250,21 +250,21 @@ index_of name tree table columns = record {
 
 -- the indexes of the table of an office with this name, in this tree; each index is in the next tree
 abbrev pub indexes_of : TableName → ℕ → List Index
-indexes_of Rooms tree = index_of (codes "room_1") (tree + 1) tree first ∷ []
+indexes_of Rooms tree = index_of (codes "room_1") (tree + 1) tree first_column ∷ []
 indexes_of People tree =
-    index_of (codes "person_1") (tree + 1) tree first ∷ index_of (codes "person_2") (tree + 2) tree (3 ∷ [])
+    index_of (codes "person_1") (tree + 1) tree first_column ∷ index_of (codes "person_2") (tree + 2) tree (3 ∷ [])
     ∷ index_of (codes "person_3") (tree + 3) tree (4 ∷ []) ∷ []
 indexes_of Rounds tree = []
 indexes_of Choices tree =
     index_of (codes "choice_1") (tree + 1) tree (1 ∷ 2 ∷ []) ∷ index_of (codes "choice_2") (tree + 2) tree (1 ∷ 3 ∷ [])
     ∷ []
-indexes_of Words tree = index_of (codes "word_1") (tree + 1) tree first ∷ []
+indexes_of Words tree = index_of (codes "word_1") (tree + 1) tree first_column ∷ []
 indexes_of Results tree =
-    index_of (codes "result_1") (tree + 1) tree first ∷ index_of (codes "result_2") (tree + 2) tree (2 ∷ []) ∷ []
+    index_of (codes "result_1") (tree + 1) tree first_column ∷ index_of (codes "result_2") (tree + 2) tree (2 ∷ []) ∷ []
 indexes_of Moves tree = index_of (codes "move_1") (tree + 1) tree (1 ∷ 2 ∷ []) ∷ []
-indexes_of Lists tree = index_of (codes "list_1") (tree + 1) tree first ∷ []
-indexes_of Grades tree = index_of (codes "grade_1") (tree + 1) tree first ∷ []
-indexes_of Going tree = index_of (codes "going_1") (tree + 1) tree first ∷ []
+indexes_of Lists tree = index_of (codes "list_1") (tree + 1) tree first_column ∷ []
+indexes_of Grades tree = index_of (codes "grade_1") (tree + 1) tree first_column ∷ []
+indexes_of Going tree = index_of (codes "going_1") (tree + 1) tree first_column ∷ []
 
 -- the indexes of these tables, in the order of the tables
 abbrev pub all_indexes : List (TableName × ℕ) → List Index
