@@ -47,12 +47,12 @@ module _ (name : TableName) where
   each : (xs : List (RecordOf name)) → Formed xs → AllByRecursion HasForm xs
   each xs h =
       all_unmap (form_of name) (shown_columns_of name) xs (recursion_from_All (form_of name)
-          (map (shown_columns_of name) xs) h)
+      (map (shown_columns_of name) xs) h)
 
   every : (xs : List (RecordOf name)) → AllByRecursion HasForm xs → Formed xs
   every xs h =
       All-from_recursion (form_of name) (map (shown_columns_of name) xs)
-          (all_map (form_of name) (shown_columns_of name) xs h)
+      (all_map (form_of name) (shown_columns_of name) xs h)
 
   formed_left : (q : RecordOf name → Bool) (xs : List (RecordOf name)) → Formed xs → Formed (delete_where q xs)
   formed_left q xs h = every (delete_where q xs) (all-filter HasForm (λ x. not (q x)) xs (each xs h))

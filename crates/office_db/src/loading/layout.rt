@@ -68,7 +68,10 @@ fn is_laid_out(schema: &Schema, layout: Layout) -> bool
 pub fn declares_tables(schema: &Schema, layout: Layout) -> bool
     ensures { Decides result (DeclaresTables layout schema.now) }
 {
-    are_declared(schema.tables.as_slice(), &Layout::Documented.order()[..layout.tables()])
+    are_declared(
+        schema.tables.as_slice(),
+        &Layout::Documented.order()[..layout.tables()],
+    )
 }
 
 // Returns whether each of these tables of an office is among `tables`, in whatever tree.

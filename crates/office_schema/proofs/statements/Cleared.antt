@@ -20,9 +20,7 @@ use Rattle.office_schema.specs.tables.Layouts.{order_of, schema_of, table_count,
 use Rattle.office_schema.specs.declared.tables.layouts.Layout.{Layout}
 use Rattle.office_schema.specs.declared.tables.layouts.Layout.TheVariants.{Own, Documented, DocumentedSecond}
 use Rattle.office_schema.specs.declared.tables.layouts.Layout.TheVariants.{DocumentedFirst, EarlierFirst}
-use Rattle.sqlite_value.specs.Order.{Row}
 use Rattle.office_schema.specs.tables.Edits as edit
-use Rattle.office_schema.specs.tables.Holds.{Holds}
 use Rattle.office_schema.specs.tables.Makes.{Makes}
 use Rattle.office_schema.specs.tables.Schema.{office_schema, first_tables, schema_in}
 use Rattle.office_schema.specs.tables.Schema as schema
@@ -59,8 +57,11 @@ keeps_fewer zero many [] a b low p = tt
 keeps_fewer zero many (t ∷ tables) a b low p = tt
 keeps_fewer (suc few) many [] a b low p = tt
 keeps_fewer (suc few) zero (t ∷ tables) a b low p = absurd (omega (arith, low))
-keeps_fewer (suc few) (suc many) (t ∷ tables) a b low p = (p.0, keeps_fewer few many tables a b (omega (arith, low))
-    p.1)
+keeps_fewer (suc few) (suc many) (t ∷ tables) a b low p = (
+  p.0,
+  keeps_fewer few many tables a b (omega (arith, low))
+      p.1,
+)
 
 keeps_later : (few : ℕ) (tables : List Table) (a b : Trees) → KeepsRows tables a b → KeepsRows (drop few tables) a b
 keeps_later zero [] a b p = tt
@@ -83,8 +84,11 @@ one_more : (P : Table → Type 0) (few n : ℕ) (tables : List Table) (t : Table
 one_more P few n [] t here low all p = cc
 one_more P zero zero (x ∷ tables) t here low all p = let same : x ≡ t = cc in (subst P (sym same) p, tt)
 one_more P (suc few) zero (x ∷ tables) t here low all p = absurd (omega (arith, low))
-one_more P zero (suc n) (x ∷ tables) t here low all p = (all.0, from_first
-    (one_more P zero n tables t here (omega arith) (to_first all.1) p))
+one_more P zero (suc n) (x ∷ tables) t here low all p = (
+  all.0,
+  from_first
+      (one_more P zero n tables t here (omega arith) (to_first all.1) p),
+)
   where
     from_first : AllByRecursion P (drop zero (take (suc n) tables)) → AllByRecursion P (take (suc n) tables)
     from_first h = h
@@ -101,9 +105,11 @@ module _ (old mid new : State) (early : HasCleanDisk new → HasCleanDisk mid) w
   and_then a b c many few fresh later narrow first second = record {
     shown = λ clean has.
         let p = first.shown (early clean) has in
-        let q = second.shown clean p.0 in
-        (q.0, keeps_then few old.now.trees mid.now.trees new.now.trees (narrow old.now.trees mid.now.trees p.1) q.1,
-            q.2);
+        let q = second.shown clean p.0 in (
+          q.0,
+          keeps_then few old.now.trees mid.now.trees new.now.trees (narrow old.now.trees mid.now.trees p.1) q.1,
+          q.2,
+        );
     mode = λ clean. second.mode clean ∙ first.mode (early clean);
   }
 
@@ -121,7 +127,7 @@ module _ (old mid new : State) (early : HasCleanDisk new → HasCleanDisk mid) w
         let q = second.shown clean p.0 in
         let tables = take n office_schema.tables in
         let still = empty_still (drop few tables) mid.now.trees new.now.trees
-            (keeps_later few tables mid.now.trees new.now.trees q.1) p.2 in (
+        (keeps_later few tables mid.now.trees new.now.trees q.1) p.2 in (
           q.0,
           keeps_then (take kept office_schema.tables) old.now.trees mid.now.trees new.now.trees p.1
               (keeps_fewer kept n office_schema.tables mid.now.trees new.now.trees lower q.1),
@@ -160,9 +166,14 @@ pub made_too_few : (old mid new : State) → StaysInside old mid → StaysInside
 made_too_few old mid new before later lost few intact =
     let early : HasCleanDisk new → HasCleanDisk mid = λ clean. omega (arith, clean, later.survives.clean) in
     elim (few intact) [
-      | inl some ↦ inl (inr (some.0, some.1, some.2, and_then old mid new early (first_tables 10) (first_tables 6)
-          (first_tables some.0) (take 6 office_schema.tables) (take 6 office_schema.tables) _
-              (drop 6 (take some.0 office_schema.tables)) (λ x y h. h) lost some.3))
+      | inl some ↦ inl (inr (
+        some.0,
+        some.1,
+        some.2,
+        and_then old mid new early (first_tables 10) (first_tables 6)
+            (first_tables some.0) (take 6 office_schema.tables) (take 6 office_schema.tables) _
+            (drop 6 (take some.0 office_schema.tables)) (λ x y h. h) lost some.3,
+      ))
       | inr rolled ↦ inr (rolled_before old mid new before later intact rolled)
     ]
 
@@ -269,7 +280,7 @@ module _ (old mid new : State) (early : HasCleanDisk new → HasCleanDisk mid) (
   more_by text n declared t here is it lower low runs first =
       one_made old mid new early before kept few n t here low lower first
       (subst (λ x. ChangesSchema (first_tables n) (first_tables (suc n)) (take n office_schema.tables) (x ∷ []) mid
-          new) is (gains text (first_tables n) (first_tables (suc n)) declared it mid new runs))
+      new) is (gains text (first_tables n) (first_tables (suc n)) declared it mid new runs))
 
   -- There is one more table, without rows.
   pub one_more_made : (n : ℕ) → n < 10 → More n
@@ -302,7 +313,7 @@ module _ (first : ℕ) (old new : Trees) (same : KeepsRows (take first office_sc
   emptied name place here =
       stays (columns_of name) [] [] _
       (all-slice_get (λ (t : Table). new t.tree ≡ []) (drop first office_schema.tables) place (table_named name) here
-          none)
+      none)
       (none_held (columns_of name))
 
 -- The tables of a round are there, without rows.

@@ -1,6 +1,5 @@
 -- The other tables are unchanged if one of them is edited.
 use Rattle.std.proofs.Common.{◌≡◌, ◌≢◌, ◌==◌, ℕ, cond, List, [], ◌∷◌, Some, refl, sym, ap, ◌∙◌, subst, slice_get}
-use Rattle.std.specs.List.{AllByRecursion}
 use Rattle.sqlite_value.specs.Order.{Row}
 use Rattle.sqlite_rules.specs.Edit.{Edit}
 use Rattle.sqlite_trees.specs.Tree.{Trees}

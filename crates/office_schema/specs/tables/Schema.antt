@@ -1,4 +1,5 @@
--- The ten tables of an office, the statements that create them, and the schema that results.
+-- The ten tables of an office, the statements that create them, and the schema that results. The first three tables
+-- have the same place in each layout (`Layouts.antt`), so that the version, which the third one keeps, is found in all.
 use Rattle.std.specs.Prelude.{true, false, ℕ, ◌+◌, pos, List, [], ◌∷◌, ◌++◌, map, codes, take, slice_index_or}
 use Rattle.std.specs.Prelude.{Option, Some, None}
 use Rattle.sqlite_value.specs.declared.keys.Collation.TheVariants.{Binary}

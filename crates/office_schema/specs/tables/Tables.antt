@@ -63,7 +63,8 @@ pub record AreHeldAt (at : TableTrees) (has_grades has_leavers : Bool) (trees : 
   pub grades : HoldsIf has_grades grade_columns (trees at.grades) tables.grades
   pub going : HoldsIf has_leavers going_columns (trees at.going) tables.going
 
--- The database has exactly the tables of this schema, with these rows.
+-- The database has exactly this schema, and its tables, in the trees `at` after the first three, hold these rows. The two
+-- flags are those of `AreHeldAt`.
 pub record HasTablesAt (declared : Schema) (at : TableTrees) (has_grades has_leavers : Bool) (db : Database)
     (tables : Tables) : Type 0 where
   pub schema : db.schema ≡ declared

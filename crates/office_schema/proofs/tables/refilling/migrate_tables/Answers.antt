@@ -27,21 +27,21 @@ returns g c =
     record {
       same_reference = search rules;
       made = on_ok_weaker _ (λ made. migrates c.args.layout c.args.records.now old s0 s1 s2 s3 s4 s5 s6 s7 new
-        (λ clean. omega (arith, c.refill.ensures.inside.survives.clean))
-        (λ clean. omega (arith, c.refill-2.ensures.inside.survives.clean))
-        (λ clean. omega (arith, c.refill-3.ensures.inside.survives.clean))
-        (λ clean. omega (arith, c.refill-4.ensures.inside.survives.clean))
-        (λ clean. omega (arith, c.refill-5.ensures.inside.survives.clean))
-        (λ clean. omega (arith, c.refill-6.ensures.inside.survives.clean))
-        (λ clean. omega (arith, c.refill-7.ensures.inside.survives.clean))
-        (λ clean. omega (arith, c.set_version.ensures.inside.survives.clean))
-        c.in_ok-rebuild_tables.ensures.made (rw c.as_slice.ensures.value at c.in_ok-refill.ensures.made)
-        (rw c.as_slice-2.ensures.value at c.in_ok-refill-2.ensures.made)
-        (rw c.as_slice-3.ensures.value at c.in_ok-refill-3.ensures.made)
-        (rw c.as_slice-4.ensures.value at c.in_ok-refill-4.ensures.made)
-        (rw c.as_slice-5.ensures.value at c.in_ok-refill-5.ensures.made)
-        (rw c.as_slice-6.ensures.value at c.in_ok-refill-6.ensures.made)
-        (rw c.as_slice-7.ensures.value at c.in_ok-refill-7.ensures.made) made) c.set_version.ensures.made;
+          (λ clean. omega (arith, c.refill.ensures.inside.survives.clean))
+          (λ clean. omega (arith, c.refill-2.ensures.inside.survives.clean))
+          (λ clean. omega (arith, c.refill-3.ensures.inside.survives.clean))
+          (λ clean. omega (arith, c.refill-4.ensures.inside.survives.clean))
+          (λ clean. omega (arith, c.refill-5.ensures.inside.survives.clean))
+          (λ clean. omega (arith, c.refill-6.ensures.inside.survives.clean))
+          (λ clean. omega (arith, c.refill-7.ensures.inside.survives.clean))
+          (λ clean. omega (arith, c.set_version.ensures.inside.survives.clean))
+          c.in_ok-rebuild_tables.ensures.made (rw c.as_slice.ensures.value at c.in_ok-refill.ensures.made)
+          (rw c.as_slice-2.ensures.value at c.in_ok-refill-2.ensures.made)
+          (rw c.as_slice-3.ensures.value at c.in_ok-refill-3.ensures.made)
+          (rw c.as_slice-4.ensures.value at c.in_ok-refill-4.ensures.made)
+          (rw c.as_slice-5.ensures.value at c.in_ok-refill-5.ensures.made)
+          (rw c.as_slice-6.ensures.value at c.in_ok-refill-6.ensures.made)
+          (rw c.as_slice-7.ensures.value at c.in_ok-refill-7.ensures.made) made) c.set_version.ensures.made;
       inside = inside_then _ _ _ i7 c.set_version.ensures.inside;
     }
 
