@@ -38,6 +38,39 @@ use std::fs::File;
 use std::io::{Read, Write};
 use std::net::{TcpListener, TcpStream};
 
+/// What the contracts of `carry_out` and `carry_out_over` say of the files, the lists and the ports of the system. `Self`
+/// stands for what the office's file and its log contain when they are opened.
+pub trait OverSystem {
+    ghost use Rattle.std.specs.Prelude.{List, ℕ};
+    ghost use Rattle.room_types.specs.Streams.{Input, Output};
+    ghost use Rattle.room_types.specs.Texts.{Text};
+
+    /// The program carries out these words and returns this exit status. No contract can name the states of the
+    /// system's files, lists and ports, so the relation holds for some of them.
+    ghost carries_out: { List Text → ℕ → Input → Input → Output → Output → Output → Output → Type 0 };
+}
+
+impl<S: Start> OverSystem for S {
+    ghost carries_out = { λ words status input input' out out' error error'.
+        let access = file_access ⟦<FileStore<FileFrom<S>> as Store>⟧
+        ⟦<SystemFiles<'static, S> as Files<FileStore<FileFrom<S>>>>⟧.opens
+        ⟦<SystemFiles<'static, S> as Files<FileStore<FileFrom<S>>>>⟧.finds
+        ⟦<SystemFiles<'static, S> as Files<FileStore<FileFrom<S>>>>⟧.fails
+        ⟦<SystemFiles<'static, S> as Closes<Connection<FileStore<FileFrom<S>>>>>⟧.closes in
+        let list_access = list_access_of
+        ⟦<SystemLists<'static> as Lists>⟧.opens ⟦<SystemLists<'static> as Lists>⟧.fails
+        ⟦<SystemLists<'static> as Lists>⟧.closes ⟦<File as Source>⟧.reads ⟦<File as Read>⟧.remaining in
+        let network = network_of
+        ⟦<TcpStream as Stream>⟧.reads ⟦<TcpStream as Stream>⟧.writes ⟦<TcpStream as Stream>⟧.flushes
+        ⟦<TcpStream as Read>⟧.remaining ⟦<TcpStream as Write>⟧.contents
+        ⟦<TcpListener as Listener>⟧.accepts ⟦<TcpListener as Listener>⟧.closes
+        ⟦<Loopback<'static> as Ports>⟧.listens ⟦<Loopback<'static> as Ports>⟧.fails
+        ⟦<Loopback<'static> as Ports>⟧.stops in
+        (files : _) × (files' : _) × (lists : _) × (lists' : _) × (ports : _) × (ports' : _)
+        × CarriesOut access list_access network words files lists ports status files' lists' ports'
+        input input' out out' error error' };
+}
+
 /// Carries out these words, the arguments after the program's name, and returns the exit status.
 pub fn carry_out<'a, R: Read, W: Write, E: Write>(
     rt: &HostRuntime,
@@ -53,19 +86,8 @@ pub fn carry_out<'a, R: Read, W: Write, E: Write>(
     ensures no_wasted_read { StopsAtEnd input.old input.new }
     ensures no_wasted_write { StopsAtFailure output.old output.new }
     ensures no_wasted_error { StopsAtFailure error.old error.new }
-    ensures carries_out { let list_access = list_access_of
-        ⟦<SystemLists<'static> as Lists>⟧.opens ⟦<SystemLists<'static> as Lists>⟧.fails
-        ⟦<SystemLists<'static> as Lists>⟧.closes ⟦<File as Source>⟧.reads ⟦<File as Read>⟧.remaining in
-        let access = file_access ⟦<FileStore<FileFrom<Wary>> as Store>⟧
-        ⟦<SystemFiles<'static, Wary> as Files<FileStore<FileFrom<Wary>>>>⟧.opens ⟦<SystemFiles<'static, Wary> as Files<FileStore<FileFrom<Wary>>>>⟧.finds
-        ⟦<SystemFiles<'static, Wary> as Files<FileStore<FileFrom<Wary>>>>⟧.fails ⟦<SystemFiles<'static, Wary> as Closes<Connection<FileStore<FileFrom<Wary>>>>>⟧.closes in
-        let network = network_of ⟦<TcpStream as Stream>⟧.reads ⟦<TcpStream as Stream>⟧.writes ⟦<TcpStream as Stream>⟧.flushes
-        ⟦<TcpStream as Read>⟧.remaining ⟦<TcpStream as Write>⟧.contents
-        ⟦<TcpListener as Listener>⟧.accepts ⟦<TcpListener as Listener>⟧.closes
-        ⟦<Loopback<'static> as Ports>⟧.listens ⟦<Loopback<'static> as Ports>⟧.fails ⟦<Loopback<'static> as Ports>⟧.stops in
-        (files : _) × (files' : _) × (lists : _) × (lists' : _) × (ports : _) × (ports' : _)
-        × CarriesOut access list_access network
-        (map (λ word. word.now) words.entry.now) files lists ports result files' lists' ports'
+    ensures carries_out { ⟦<Wary as OverSystem>⟧.carries_out
+        (map (λ word. word.now) words.entry.now) result
         (input_of R.remaining input.old) (input_of R.remaining input.new)
         (output_of W.contents output.old) (output_of W.contents output.new)
         (output_of E.contents error.old) (output_of E.contents error.new) }
@@ -91,19 +113,8 @@ pub fn carry_out_over<'a, S: Start, R: Read, W: Write, E: Write>(
     ensures no_wasted_read { StopsAtEnd input.old input.new }
     ensures no_wasted_write { StopsAtFailure output.old output.new }
     ensures no_wasted_error { StopsAtFailure error.old error.new }
-    ensures carries_out { let list_access = list_access_of
-        ⟦<SystemLists<'static> as Lists>⟧.opens ⟦<SystemLists<'static> as Lists>⟧.fails
-        ⟦<SystemLists<'static> as Lists>⟧.closes ⟦<File as Source>⟧.reads ⟦<File as Read>⟧.remaining in
-        let access = file_access ⟦<FileStore<FileFrom<S>> as Store>⟧
-        ⟦<SystemFiles<'static, S> as Files<FileStore<FileFrom<S>>>>⟧.opens ⟦<SystemFiles<'static, S> as Files<FileStore<FileFrom<S>>>>⟧.finds
-        ⟦<SystemFiles<'static, S> as Files<FileStore<FileFrom<S>>>>⟧.fails ⟦<SystemFiles<'static, S> as Closes<Connection<FileStore<FileFrom<S>>>>>⟧.closes in
-        let network = network_of ⟦<TcpStream as Stream>⟧.reads ⟦<TcpStream as Stream>⟧.writes ⟦<TcpStream as Stream>⟧.flushes
-        ⟦<TcpStream as Read>⟧.remaining ⟦<TcpStream as Write>⟧.contents
-        ⟦<TcpListener as Listener>⟧.accepts ⟦<TcpListener as Listener>⟧.closes
-        ⟦<Loopback<'static> as Ports>⟧.listens ⟦<Loopback<'static> as Ports>⟧.fails ⟦<Loopback<'static> as Ports>⟧.stops in
-        (files : _) × (files' : _) × (lists : _) × (lists' : _) × (ports : _) × (ports' : _)
-        × CarriesOut access list_access network
-        (map (λ word. word.now) words.entry.now) files lists ports result files' lists' ports'
+    ensures carries_out { ⟦<S as OverSystem>⟧.carries_out
+        (map (λ word. word.now) words.entry.now) result
         (input_of R.remaining input.old) (input_of R.remaining input.new)
         (output_of W.contents output.old) (output_of W.contents output.new)
         (output_of E.contents error.old) (output_of E.contents error.new) }
