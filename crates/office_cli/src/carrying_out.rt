@@ -178,48 +178,47 @@ pub fn carry_out_from<
         (output_of W.contents output.old) (output_of W.contents output.new)
         (output_of E.contents error.old) (output_of E.contents error.new) }
 {
-    match program(alloc, words) {
-        Ok(Program::New { database }) => make_in_file(alloc, files, database, output),
-        Ok(Program::Migrate { database }) => migrate_in_file(alloc, files, database, output),
-        Ok(Program::Do { database, words }) => {
+    let program = match program(alloc, words) {
+        Ok(program) => program,
+        Err(fault) => return refuse(fault, output, error),
+    };
+    match program {
+        Program::New { database } => make_in_file(alloc, files, database, output),
+        Program::Migrate { database } => migrate_in_file(alloc, files, database, output),
+        Program::Do { database, words } => {
             let line = Action::Line(words);
             with_office(alloc, files, database, line, lists, ports, input, output)
         }
-        Ok(Program::Lines { database }) => {
+        Program::Lines { database } => {
             let lines = Action::Lines;
             with_office(alloc, files, database, lines, lists, ports, input, output)
         }
-        Ok(
-            Program::Import {
-                database,
-                kind,
-                label,
-                list,
-            },
-        ) => {
+        Program::Import {
+            database,
+            kind,
+            label,
+            list,
+        } => {
             let import = Action::Import { kind, label, list };
             with_office(alloc, files, database, import, lists, ports, input, output)
         }
-        Ok(Program::Export { database, kind }) => {
+        Program::Export { database, kind } => {
             let export = Action::Export(kind);
             with_office(alloc, files, database, export, lists, ports, input, output)
         }
-        Ok(
-            Program::Serve {
-                database,
-                port,
-                count,
-            },
-        ) => {
+        Program::Serve {
+            database,
+            port,
+            count,
+        } => {
             let serve = Action::Serve { port, count };
             with_office(alloc, files, database, serve, lists, ports, input, output)
         }
-        Ok(Program::Rehearse) => rehearse_anew(alloc, input, output),
-        Ok(Program::Words { seed, count }) => match words_text(alloc, seed, count as usize) {
+        Program::Rehearse => rehearse_anew(alloc, input, output),
+        Program::Words { seed, count } => match words_text(alloc, seed, count as usize) {
             Ok(text) => print(output, text.as_str(), ACCEPTED),
             Err(_) => refuse(WordFault::OutOfMemory, output, error),
         },
-        Err(fault) => refuse(fault, output, error),
     }
 }
 
