@@ -1,8 +1,10 @@
 //! Parsing the program's arguments.
 ghost use Rattle.std.specs.Prelude.{◌≡◌, ◌≢◌, ◌<◌, ◌≤◌, IfErr, IfSome, length, map, option_map};
 ghost use Rattle.clap.specs.Words.{all_of, first_of, found_of, kind_of, rows_of};
-ghost use Rattle.office_cli.specs.Programs.{do_program, entered_line, export_program, import_program, export_kind_named, label_given, line_of};
-ghost use Rattle.office_cli.specs.Programs.{lines_program, list_kind_given, migrate_program, new_program, number_of, program_of, serve_program, words_program};
+ghost use Rattle.office_cli.specs.Programs.{do_program, entered_line, export_program, import_program};
+ghost use Rattle.office_cli.specs.Programs.{export_kind_named, label_given, line_of};
+ghost use Rattle.office_cli.specs.Programs.{lines_program, list_kind_given, migrate_program, new_program, number_of};
+ghost use Rattle.office_cli.specs.Programs.{program_of, serve_program, words_program};
 ghost use Rattle.office_lines.specs.parse.Understanding.{Understands, UnderstandsAs};
 
 use crate::seeds::parse_seed;

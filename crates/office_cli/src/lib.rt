@@ -1,5 +1,5 @@
-//! The program `rooms`: parses its arguments and carries out the subcommand on an office file, in memory (a rehearsal), or
-//! without an office (the words of a draw).
+//! The program `rooms`: parses its arguments and carries out the subcommand on an office file, in memory (a rehearsal),
+//! or without an office (the words of a draw).
 #![tactic(auto)]
 
 pub mod arguments;
