@@ -1,6 +1,7 @@
 //! Theorems on what a crash leaves of an office. The contract of each function states a theorem, and the function does
 //! nothing.
-ghost use Rattle.office_store.specs.Crashes.{LeavesAfterRequest, LeavesAfterRun, LeavesNothingOnceClosed, LeavesWhatIsShown};
+ghost use Rattle.office_store.specs.Crashes.{LeavesAfterRequest, LeavesAfterRun, LeavesNothingOnceClosed};
+ghost use Rattle.office_store.specs.Crashes.{LeavesWhatIsShown};
 
 use sqlite::Alter;
 

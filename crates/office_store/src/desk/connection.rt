@@ -2,6 +2,7 @@
 ghost use Rattle.std.specs.Prelude.{◌≡◌, false, IfOk};
 ghost use Rattle.office_store.specs.Handling.{TellsIfOpen};
 
+use crate::committed::show_committed;
 use crate::desk::Desk;
 use crate::desk::faults::Unavailable;
 use sqlite::{Alter, Error, ErrorCode};
@@ -19,16 +20,12 @@ impl<S: Alter> Desk<S> {
     pub fn is_open(&mut self) -> Result<bool, Unavailable>
         ensures tells { TellsIfOpen S.Store self.old result self.new }
     {
-        // The proof needs these two lines, and the same two after the statement is prepared: outside a transaction, an
-        // open connection shows what is committed.
-        let before = self.conn.is_autocommit();
-        prove!(before);
+        show_committed(&self.conn);
         let answer = match self.conn.prepare("") {
             Ok(_) => Ok(true),
             Err(error) => openness_after(error),
         };
-        let after = self.conn.is_autocommit();
-        prove!(after);
+        show_committed(&self.conn);
         answer
     }
 }

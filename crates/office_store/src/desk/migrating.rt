@@ -9,7 +9,8 @@ ghost use Rattle.office_schema.specs.tables.Steps.{Follows, IsIntact};
 ghost use Rattle.office_schema.specs.tables.InLayout.{HoldsOfficeIn};
 ghost use Rattle.office_schema.specs.declared.tables.layouts.Layout.{Layout as AnyLayout};
 ghost use Rattle.office_db.specs.loading.Finding.{AreWhole, names_round};
-ghost use Rattle.office_migration.specs.Causes.{AreRowsAsStated, HoldsEarlier, HoldsLayoutVersion, StatesVersion, HoldsEarlierFirst};
+ghost use Rattle.office_migration.specs.Causes.{AreRowsAsStated, HoldsEarlier, HoldsLayoutVersion, StatesVersion};
+ghost use Rattle.office_migration.specs.Causes.{HoldsEarlierFirst};
 ghost use Rattle.office_schema.specs.tables.FirstTables.{BeginsOffice};
 ghost use Rattle.office_migration.specs.Names.{uses_missing_name};
 ghost use Rattle.office_migration.specs.Renewed.{CommitsMigrated};
@@ -17,6 +18,7 @@ ghost use Rattle.office_migration.specs.Versions.{HasEarlierLayout, IsNotEarlier
 ghost use Rattle.office_store.specs.Desk.{Shows};
 ghost use Rattle.office_store.specs.Migrating.{IsFaultOfMigration, MayNotMigrate, migrating_fault};
 
+use crate::committed::show_committed;
 use crate::desk::Desk;
 use crate::desk::faults::{Back, DeskFault};
 use office_migration::{MigrateFault, migrate};
@@ -112,9 +114,7 @@ impl<S: Alter> Desk<S> {
         let mut conn = connection;
         match migrate(alloc, &mut conn) {
             Ok(office) => {
-                // The proof needs these two lines: outside a transaction, an open connection shows what is committed.
-                let outside = conn.is_autocommit();
-                prove!(outside);
+                show_committed(&conn);
                 Ok(Desk {
                     conn,
                     cached: Some(office),

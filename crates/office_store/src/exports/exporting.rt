@@ -13,6 +13,7 @@ ghost use Rattle.office_store.specs.exports.Ending.{StopsWithin, has_failed, sen
 ghost use Rattle.office_store.specs.exports.Exports.{exported};
 ghost use Rattle.office_store.specs.exports.Stepping.{GivesRecord, IsAtStart, KeepsTables, HoldsLawfulOffice};
 
+use crate::committed::show_committed;
 use crate::exports::ending::ExportEnd;
 use crate::exports::exported::Exported;
 use office_lists::{ExportKind, head_bytes};
@@ -106,9 +107,7 @@ fn export_rows<E: Exported, S: Alter, W: Write>(
     ensures flushes { watched_flushes output.new ≡ watched_flushes output.old }
     ensures stops { StopsAtFailure output.old output.new }
 {
-    // The proof needs these two lines: outside a transaction, an open connection shows what is committed.
-    let outside = conn.is_autocommit();
-    prove!(outside);
+    show_committed(conn);
     let Ok(mut rows) = conn.query(E::query(), &[]) else {
         return Err(ExportEnd::Unavailable { sent: 0 });
     };

@@ -1,4 +1,4 @@
-use Rattle.std.proofs.Common.{rules, not, sym, ap, ◌∙◌, subst}
+use Rattle.std.proofs.Common.{sym, subst}
 use Rattle.sqlite.specs.Held.{state}
 use Rattle.office_schema.specs.tables.Crashes.{ShowsCommitted}
 use Rattle.office_store.specs.Handling.{TellsIfOpen}
@@ -11,10 +11,8 @@ returns g c =
     let old = c.self.inside.conn in
     let new = c.prepare.new.self in
     let cached = c.self.inside.cached in
-    let settled =
-    c.is_autocommit-before.ensures.settled
-    (c.is_autocommit-before.ensures.value ∙ ap not c.self.invariant.outside) in
-    let committed : ShowsCommitted (state g.S.Store new) = search rules in
+    let settled = c.show_committed.ensures in
+    let committed : ShowsCommitted (state g.S.Store new) = c.show_committed-2.ensures in
     record {
       tells = subst (λ desk. TellsIfOpen g.S.Store desk c.match-prepare.answer (record { conn = new; cached = cached }))
           c.self.view_is

@@ -1,4 +1,4 @@
-use Rattle.std.proofs.Common.{rules, ◌≡◌, [], not, sym, ap, ◌∙◌, subst, arith}
+use Rattle.std.proofs.Common.{rules, ◌≡◌, [], sym, subst, arith}
 use Rattle.sqlite.specs.Held.{Held, state}
 use Rattle.sqlite.specs.State.{CommitsShowing, FailsToQuery, HasCleanDisk, Survives}
 use Rattle.office_db.specs.loading.Reading.{OnlyReads}
@@ -16,8 +16,7 @@ returns-in_default-clause-reads g c =
     let fails : HasCleanDisk new → FailsToQuery c.query.result.now [] old new c.in_default.field-0 = search rules in
     let asks = subst OnlyAsks (sym c.query.ensures.text) c.query.ensures.asks.asks in
     reads_refused c.query.result.now [] old new _ c.in_default.field-0 kept
-    (asks_nothing_new c.query.result.now [] old new asks kept)
-    (c.is_autocommit-outside.ensures.settled (c.is_autocommit-outside.ensures.value ∙ ap not c.requires)) fails
+    (asks_nothing_new c.query.result.now [] old new asks kept) c.show_committed.ensures fails
 
 pub returns-clause-reads : goal.returns-clause-reads
 returns-clause-reads g c =
@@ -25,8 +24,7 @@ returns-clause-reads g c =
     let asks = subst OnlyAsks (sym c.query.ensures.text) c.query.ensures.asks.asks in
     subst (λ (h : Held g.row.S.Denot). OnlyReads (state g.S.Store c.args.conn.now) (state g.S.Store h)) (sym same)
     (reads_through g.S.Store c.query.result.now [] c.args.conn.now c.in-Ok.rows.conn.now c.send_rows.new.rows.conn.now
-    asks c.in-Ok.ensures.survives c.in-Ok.ensures.begun
-    (c.is_autocommit-outside.ensures.settled (c.is_autocommit-outside.ensures.value ∙ ap not c.requires))
+    asks c.in-Ok.ensures.survives c.in-Ok.ensures.begun c.show_committed.ensures
     c.send_rows.ensures.survives c.send_rows.ensures.keeps)
 
 pub returns-clause-whole : goal.returns-clause-whole
