@@ -9,9 +9,9 @@ use Rattle.office_store.specs.Storing.{changes_nothing}
 use Rattle.office_core.specs.declared.requests.Answer.TheVariants.{Reply, Unavailable}
 use Rattle.office_core.specs.declared.requests.Request.TheVariants.{Office as Request-Office}
 use Rattle.office_store.proofs.desks.Certain.{changes_are_stored, false_is_not_true}
-use Rattle.office_store.proofs.desks.Requests.{cached_office_answers, carried_out, changes_something, command_committed}
-use Rattle.office_store.proofs.desks.Requests.{no_length, nothing_stored, represents_still, stays_cached}
-use Rattle.office_store.proofs.desks.Requests.{unavailable_keeps_desk, unavailable_uncached}
+use Rattle.office_store.proofs.desks.Caches.{changes_something, no_length, stays_cached}
+use Rattle.office_store.proofs.desks.Requests.{cached_office_answers, carried_out, command_committed, nothing_stored}
+use Rattle.office_store.proofs.desks.Requests.{represents_still, unavailable_keeps_desk, unavailable_uncached}
 use Rattle.office_store.proofs.desk.Desk.execute.Goals as goal
 
 pub returns-in_default-clause-handles : goal.returns-in_default-clause-handles
