@@ -8,7 +8,8 @@ ghost use Rattle.office_schema.specs.tables.Layouts.{version_of};
 ghost use Rattle.office_schema.specs.declared.tables.layouts.Layout.{Layout as AnyLayout};
 ghost use Rattle.office_schema.specs.tables.FirstTables.{Begins};
 ghost use Rattle.office_db.specs.loading.Reading.{OnlyReads};
-ghost use Rattle.office_migration.specs.Causes.{AreEarlierRows, AreNoEarlierRows, BeginsAt, IsNameFault, HoldsEarlierFirst};
+ghost use Rattle.office_migration.specs.Causes.{AreEarlierRows, AreNoEarlierRows, BeginsAt, IsNameFault};
+ghost use Rattle.office_migration.specs.Causes.{HoldsEarlierFirst};
 ghost use Rattle.office_migration.specs.Versions.{IsEarlier};
 
 use crate::migrating::MigrateFault;

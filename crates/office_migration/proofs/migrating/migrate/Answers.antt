@@ -1,35 +1,31 @@
-use Rattle.std.proofs.Common.{◌≡◌, true, false, IsTrue, true≢false, pos, sym, ap, ap₂, ◌∙◌, subst, inl, inr}
+use Rattle.std.proofs.Common.{◌≡◌, true, false, true≢false, pos, sym, ap, ap₂, ◌∙◌, subst, inl, inr}
 use Rattle.std.proofs.lemmas.Result.{err_from_is_err_and}
-use Rattle.sqlite.specs.Effect.{Database, IsDatabase}
+use Rattle.sqlite.specs.Effect.{Database}
 use Rattle.sqlite.specs.Held.{state}
-use Rattle.sqlite.specs.State.{State, HasCleanDisk}
-use Rattle.office_schema.specs.declared.tables.layouts.Layout.{Layout}
-use Rattle.office_schema.specs.tables.Crashes.{LeavesOldOr, WasOpen}
 use Rattle.office_schema.specs.cells.WellFormed.{IsWellFormed}
 use Rattle.office_schema.specs.rows.Tables.{rows_at}
-use Rattle.office_schema.specs.tables.Layouts.{schema_of, version_of}
+use Rattle.office_schema.specs.tables.Layouts.{version_of}
 use Rattle.office_schema.specs.tables.InLayout.{HoldsOfficeIn}
-use Rattle.office_schema.proofs.statements.Crashes.{old_or_weaker}
 use Rattle.office_schema.proofs.statements.Steps.{intact_before}
 use Rattle.office_db.specs.loading.Finding.{AreWhole, HoldsVersion, names_round}
 use Rattle.office_schema.specs.tables.FirstTables.{BeginsOffice}
 use Rattle.office_db.specs.loading.Numbers.{IsLaidOut}
-use Rattle.office_db.specs.loading.Reading.{OnlyReads}
 use Rattle.office_db.proofs.found_offices.Finding.{same_layout}
-use Rattle.office_db.proofs.found_offices.Following.{committed_after_reading}
 use Rattle.office_db.proofs.found_offices.Versions.{none_some, own_round}
 use Rattle.office_db.proofs.found_offices.Versions.{layout_states_version, same_some}
 use Rattle.office_db.proofs.loaded.VersionMeanings.{same_begins_office}
 use Rattle.office_db.proofs.loaded.WholeRows.{laid_if_sound}
-use Rattle.office_migration.specs.Causes.{AreEarlierRows, AreNoEarlierRows, BeginsAt, HoldsEarlier, IsVersionFault, HoldsEarlierFirst}
+use Rattle.office_migration.specs.Causes.{AreEarlierRows, AreNoEarlierRows, BeginsAt, HoldsEarlier, IsVersionFault}
+use Rattle.office_migration.specs.Causes.{HoldsEarlierFirst}
 use Rattle.office_migration.specs.declared.migrating.MigrateFault.TheVariants.{AlreadyThere}
 use Rattle.office_migration.specs.Names.{uses_missing_name, takes_name}
-use Rattle.office_migration.specs.Renewed.{CommitsMigrated, CommitsRenewed}
 use Rattle.office_migration.specs.Versions.{IsEarlier, IsOfVersion}
 use Rattle.office_migration.proofs.earlier.Causes.{none_in_layout, none_of_other, only_unavailable}
-use Rattle.office_migration.proofs.earlier.Causes.{declared_then, declares_then, name_allowed, name_cause, none_declared}
+use Rattle.office_migration.proofs.earlier.Causes.{declared_then, declares_then, name_allowed, name_cause}
+use Rattle.office_migration.proofs.earlier.Causes.{none_declared}
 use Rattle.office_migration.proofs.earlier.Causes.{pos_injective, takes_none}
 use Rattle.office_migration.proofs.earlier.Causes.{first_states_version, takes_used}
+use Rattle.office_migration.proofs.earlier.Committed.{migrated_once}
 use Rattle.office_migration.proofs.earlier.First.{declares_first, declares_laid, layout_begins_office}
 use Rattle.office_db.proofs.found_offices.LayoutTests.{office_names_round}
 use Rattle.office_migration.proofs.migrating.migrate.Goals as goal
@@ -50,7 +46,8 @@ returns-then-not-names_round-clause-other g c clean version states later =
 pub returns-in_err-version-clause-cause : goal.returns-in_err-version-clause-cause
 returns-in_err-version-clause-cause g c =
     let p = err_from_is_err_and c.from_residual.result c.from_residual.ensures.1 in
-    let first_tables = subst BeginsOffice c.schema-2.ensures.value (c.begins_office.ensures.0 c.if-not-begins_office.false) in
+    let first_tables =
+    subst BeginsOffice c.schema-2.ensures.value (c.begins_office.ensures.0 c.if-not-begins_office.false) in
     rw (p.1, p.2) (λ clean. c.in_err-version.ensures.cause clean first_tables)
 
 pub returns-in_err-version-clause-accepts : goal.returns-in_err-version-clause-accepts
@@ -83,10 +80,12 @@ returns-then-takes_name-clause-accepts g c clean layout office h =
 pub returns-then-version-clause-cause : goal.returns-then-version-clause-cause
 returns-then-version-clause-cause g c clean =
     let start = state g.S.Store c.args.conn.now in
-    let first_tables = subst BeginsOffice c.schema-2.ensures.value (c.begins_office.ensures.0 c.if-not-begins_office.false) in
+    let first_tables =
+    subst BeginsOffice c.schema-2.ensures.value (c.begins_office.ensures.0 c.if-not-begins_office.false) in
     let has = sym c.schema-3.ensures.value ∙ (rw c.in-Some.is at c.of-declared.ensures.laid) in
     let free = subst (λ s. uses_missing_name c.in_ok-version.version s ≡ false) c.schema-3.ensures.value
-    (ap₂ (λ g n. takes_name g n c.in_ok-version.version) (sym c.of-declared.ensures.grade) (sym c.of-declared.ensures.going)
+    (ap₂ (λ g n. takes_name g n c.in_ok-version.version)
+    (sym c.of-declared.ensures.grade) (sym c.of-declared.ensures.going)
     ∙ sym c.takes_name.ensures ∙ c.if-takes_name.false) in
     inr (none_of_other start.now first_tables c.in_ok-version.version c.in_ok-version.ensures.earlier
     (c.in_ok-version.ensures.held clean first_tables) c.in-Some.layout has free
@@ -115,7 +114,8 @@ returns-in-Ok-Some-clause-migrated g c clean layout is wide =
     let office = c.in-Ok-Some.office in
     let laid = sym c.schema-3.ensures.value ∙ (rw c.in-Some.is at c.of-declared.ensures.laid) in
     let layouts = same_layout layout found start.now.schema is laid in
-    let sound = (c.schema-3.ensures.live (c.earlier_version.ensures.reads.keeps.follows.was_open at_one.0 at_one.1)).0 in
+    let sound =
+    (c.schema-3.ensures.live (c.earlier_version.ensures.reads.keeps.follows.was_open at_one.0 at_one.1)).0 in
     let whole = laid_if_sound found start.now sound laid (subst (λ l. AreWhole l start.now.trees) (sym layouts) wide) in
     let here = subst (λ (d : Database). IsLaidOut found d) (sym same) whole in
     let done = (rw c.in-Ok-Some.field-0-is at c.in-Ok-Some.ensures.renewed) clean here in
@@ -136,9 +136,11 @@ returns-in-Ok-Some-clause-stated g c clean layout is =
     (clean, c.in-Ok-Some.ensures.is_open clean) in
     let laid = sym c.schema-3.ensures.value ∙ (rw c.in-Some.is at c.of-declared.ensures.laid) in
     let same = ap version_of (same_layout layout c.in-Some.layout start.now.schema is laid) in
-    let first_tables = subst BeginsOffice c.schema-2.ensures.value (c.begins_office.ensures.0 c.if-not-begins_office.false) in
+    let first_tables =
+    subst BeginsOffice c.schema-2.ensures.value (c.begins_office.ensures.0 c.if-not-begins_office.false) in
     let version : version_of c.in-Some.layout ≡ c.in_ok-version.version = cc in
-    subst (λ v. HoldsVersion start.now (pos v)) (sym version ∙ same) (c.in_ok-version.ensures.held at_one.0 first_tables)
+    subst (λ v. HoldsVersion start.now (pos v)) (sym version ∙ same)
+    (c.in_ok-version.ensures.held at_one.0 first_tables)
 
 pub returns-in-Ok-Some-clause-accepts : goal.returns-in-Ok-Some-clause-accepts
 returns-in-Ok-Some-clause-accepts g c clean layout office h =
@@ -152,8 +154,8 @@ returns-in-Ok-Some-clause-accepts g c clean layout office h =
     let layouts = same_layout layout c.in-Some.layout start.now.schema h.rows.schema laid in
     let here = subst (λ l. HoldsEarlier l one.now office) (sym layouts)
     (subst (λ (d : Database). HoldsEarlier layout d office) (sym same) h) in
-    let done = (rw c.in-Ok-Some.field-0-is at c.in-Ok-Some.ensures.found) clean office here.lawful here.well_formed here.kind
-    here.rows in
+    let done = (rw c.in-Ok-Some.field-0-is at c.in-Ok-Some.ensures.found)
+    clean office here.lawful here.well_formed here.kind here.rows in
     (same_some c.in-Ok-Some.office office done.0, done.1)
 
 pub returns-in-Ok-None-clause-cause : goal.returns-in-Ok-None-clause-cause
@@ -164,10 +166,12 @@ returns-in-Ok-None-clause-cause g c clean =
     let at_one = intact_before one two c.renewed_office.ensures.follows
     (clean, c.in-Ok-None.ensures.is_open clean) in
     let same = c.earlier_version.ensures.reads.keeps.same at_one in
-    let first_tables = subst BeginsOffice c.schema-2.ensures.value (c.begins_office.ensures.0 c.if-not-begins_office.false) in
+    let first_tables =
+    subst BeginsOffice c.schema-2.ensures.value (c.begins_office.ensures.0 c.if-not-begins_office.false) in
     let has = sym c.schema-3.ensures.value ∙ (rw c.in-Some.is at c.of-declared.ensures.laid) in
     let free = subst (λ s. uses_missing_name c.in_ok-version.version s ≡ false) c.schema-3.ensures.value
-    (ap₂ (λ g n. takes_name g n c.in_ok-version.version) (sym c.of-declared.ensures.grade) (sym c.of-declared.ensures.going)
+    (ap₂ (λ g n. takes_name g n c.in_ok-version.version)
+    (sym c.of-declared.ensures.grade) (sym c.of-declared.ensures.going)
     ∙ sym c.takes_name.ensures ∙ c.if-takes_name.false) in
     inr (none_in_layout start.now first_tables c.in_ok-version.version c.in_ok-version.ensures.earlier
     (c.in_ok-version.ensures.held at_one.0 first_tables) c.in-Some.layout has free (λ office h.
@@ -196,8 +200,8 @@ pub returns-then-not-names_round-clause-taken :
     goal.returns-then-not-names_round-clause-taken
 returns-then-not-names_round-clause-taken g c clean layout office h used =
     let start = state g.S.Store c.args.conn.now in
-    absurd (true≢false (sym (office_names_round start.now.schema h.first_tables) ∙ ap names_round (sym c.schema.ensures.value)
-    ∙ sym c.names_round.ensures ∙ c.if-not-names_round.true))
+    absurd (true≢false (sym (office_names_round start.now.schema h.first_tables)
+    ∙ ap names_round (sym c.schema.ensures.value) ∙ sym c.names_round.ensures ∙ c.if-not-names_round.true))
 
 pub returns-in_err-version-clause-taken : goal.returns-in_err-version-clause-taken
 returns-in_err-version-clause-taken g c clean layout office h used =
@@ -254,7 +258,8 @@ returns-in-Ok-None-clause-taken g c clean layout office h used =
 pub returns-then-not-has_tables-clause-cause : goal.returns-then-not-has_tables-clause-cause
 returns-then-not-has_tables-clause-cause g c clean =
     let start = state g.S.Store c.args.conn.now in
-    let first_tables = subst BeginsOffice c.schema-2.ensures.value (c.begins_office.ensures.0 c.if-not-begins_office.false) in
+    let first_tables =
+    subst BeginsOffice c.schema-2.ensures.value (c.begins_office.ensures.0 c.if-not-begins_office.false) in
     inr (none_declared start.now first_tables c.in_ok-version.version c.in_ok-version.ensures.earlier
     (c.in_ok-version.ensures.held clean first_tables)
     (declared_then c.schema-3.result.now start.now.schema c.in_ok-version.version _ _ _ c.in_ok-version.ensures.earlier
@@ -268,9 +273,10 @@ returns-then-not-has_tables-clause-accepts g c clean layout office h =
     let version = pos_injective _ _
     (c.in_ok-version.ensures.returned clean first_tables (pos (version_of layout))
     (layout_states_version layout start.now office h.rows)) in
-    absurd (declared_then c.schema-3.result.now start.now.schema c.in_ok-version.version _ _ _ c.in_ok-version.ensures.earlier
-    c.schema-3.ensures.value c.of-declared.ensures.first c.of-declared.ensures.second c.has_tables.ensures.first
-    c.has_tables.ensures.second c.if-not-has_tables.true layout version (declares_laid layout start.now.schema h.rows.schema))
+    absurd (declared_then c.schema-3.result.now start.now.schema c.in_ok-version.version _ _ _
+    c.in_ok-version.ensures.earlier c.schema-3.ensures.value c.of-declared.ensures.first c.of-declared.ensures.second
+    c.has_tables.ensures.first c.has_tables.ensures.second c.if-not-has_tables.true layout version
+    (declares_laid layout start.now.schema h.rows.schema))
 
 pub returns-then-not-has_tables-clause-taken : goal.returns-then-not-has_tables-clause-taken
 returns-then-not-has_tables-clause-taken g c clean layout office h used =
@@ -278,9 +284,10 @@ returns-then-not-has_tables-clause-taken g c clean layout office h used =
     let version = pos_injective _ _
     (c.in_ok-version.ensures.returned clean h.first_tables (pos (version_of layout))
     (first_states_version layout start.now office h)) in
-    absurd (declared_then c.schema-3.result.now start.now.schema c.in_ok-version.version _ _ _ c.in_ok-version.ensures.earlier
-    c.schema-3.ensures.value c.of-declared.ensures.first c.of-declared.ensures.second c.has_tables.ensures.first
-    c.has_tables.ensures.second c.if-not-has_tables.true layout version (declares_first layout start.now.schema h.tables))
+    absurd (declared_then c.schema-3.result.now start.now.schema c.in_ok-version.version _ _ _
+    c.in_ok-version.ensures.earlier c.schema-3.ensures.value c.of-declared.ensures.first c.of-declared.ensures.second
+    c.has_tables.ensures.first c.has_tables.ensures.second c.if-not-has_tables.true layout version
+    (declares_first layout start.now.schema h.tables))
 
 -- ---- where the name of a missing table is taken
 
@@ -289,9 +296,11 @@ returns-then-takes_name-clause-cause g c clean =
     let start = state g.S.Store c.args.conn.now in
     let clean_one = c.refused_for_name.ensures.reads.keeps.follows.clean clean in
     let same = c.earlier_version.ensures.reads.keeps.same (clean_one, c.in_ok-version.ensures.is_open clean_one) in
-    let first_tables = subst BeginsOffice c.schema-2.ensures.value (c.begins_office.ensures.0 c.if-not-begins_office.false) in
+    let first_tables =
+    subst BeginsOffice c.schema-2.ensures.value (c.begins_office.ensures.0 c.if-not-begins_office.false) in
     let taken = subst (λ s. uses_missing_name c.in_ok-version.version s ≡ true) c.schema-3.ensures.value
-    (ap₂ (λ g n. takes_name g n c.in_ok-version.version) (sym c.of-declared.ensures.grade) (sym c.of-declared.ensures.going)
+    (ap₂ (λ g n. takes_name g n c.in_ok-version.version)
+    (sym c.of-declared.ensures.grade) (sym c.of-declared.ensures.going)
     ∙ sym c.takes_name.ensures ∙ c.if-takes_name.true) in
     name_cause start.now first_tables c.in_ok-version.version c.in_ok-version.ensures.earlier
     (c.in_ok-version.ensures.held clean_one first_tables) c.refused_for_name.result c.refused_for_name.ensures.kind
@@ -299,7 +308,8 @@ returns-then-takes_name-clause-cause g c clean =
     c.schema-3.ensures.value c.of-declared.ensures.first c.of-declared.ensures.second c.has_tables.ensures.first
     c.has_tables.ensures.second c.if-not-has_tables.false)
     taken
-    (λ is. subst (λ (d : Database). BeginsAt c.in_ok-version.version d.schema) same (c.refused_for_name.ensures.known is))
+    (λ is.
+    subst (λ (d : Database). BeginsAt c.in_ok-version.version d.schema) same (c.refused_for_name.ensures.known is))
     (λ is. subst (AreNoEarlierRows c.in_ok-version.version) same (c.refused_for_name.ensures.none is clean))
     (λ is. subst (AreEarlierRows c.in_ok-version.version) same (c.refused_for_name.ensures.rows is clean))
 
@@ -307,9 +317,11 @@ pub returns-then-takes_name-clause-allowed : goal.returns-then-takes_name-clause
 returns-then-takes_name-clause-allowed g c =
     let start = state g.S.Store c.args.conn.now in
     let taken = subst (λ s. uses_missing_name c.in_ok-version.version s ≡ true) c.schema-3.ensures.value
-    (ap₂ (λ g n. takes_name g n c.in_ok-version.version) (sym c.of-declared.ensures.grade) (sym c.of-declared.ensures.going)
+    (ap₂ (λ g n. takes_name g n c.in_ok-version.version)
+    (sym c.of-declared.ensures.grade) (sym c.of-declared.ensures.going)
     ∙ sym c.takes_name.ensures ∙ c.if-takes_name.true) in
-    let first_tables = subst BeginsOffice c.schema-2.ensures.value (c.begins_office.ensures.0 c.if-not-begins_office.false) in
+    let first_tables =
+    subst BeginsOffice c.schema-2.ensures.value (c.begins_office.ensures.0 c.if-not-begins_office.false) in
     name_allowed start.now.schema c.in_ok-version.version c.refused_for_name.result c.refused_for_name.ensures.kind
     c.in_ok-version.ensures.earlier first_tables taken
 
@@ -326,7 +338,8 @@ returns-then-takes_name-clause-taken g c clean layout office h used =
     let clean_one = c.refused_for_name.ensures.reads.keeps.follows.clean clean in
     let same = c.earlier_version.ensures.reads.keeps.same (clean_one, c.in_ok-version.ensures.is_open clean_one) in
     let version = pos_injective _ _
-    (c.in_ok-version.ensures.returned clean_one h.first_tables (pos (version_of layout)) (first_states_version layout start.now office h)) in
+    (c.in_ok-version.ensures.returned clean_one h.first_tables (pos (version_of layout))
+    (first_states_version layout start.now office h)) in
     c.refused_for_name.ensures.returned clean layout office version
     (subst (λ (d : Database). HoldsEarlierFirst layout d office) (sym same) h)
 
@@ -350,43 +363,32 @@ returns-in_err-version-clause-rows g c =
 
 -- ---- after a crash
 
--- What is committed after the version was read. The office is in the layout that was found.
-migrated_once : (layout : Layout) (start one two : State) → start.now.schema ≡ schema_of layout → IsEarlier (version_of layout)
-    → (IsTrue start.is_open → IsDatabase start.now) → OnlyReads start one → WasOpen one one → (HasCleanDisk two → HasCleanDisk one)
-    → LeavesOldOr (CommitsRenewed layout one.now) one two → LeavesOldOr (CommitsMigrated start.now) start two
-migrated_once layout start one two laid earlier live reads is_open early renewed =
-    old_or_weaker (CommitsRenewed layout start.now) (CommitsMigrated start.now) start two
-    (λ clean after h. record {
-      earlier = (layout, laid, earlier);
-      found = λ other is whole.
-          let same = same_layout layout other start.now.schema laid is in
-          let sound = live (reads.keeps.follows.was_open (early clean) (is_open (early clean))) in
-          let held = h.found (laid_if_sound layout start.now sound laid (subst (λ l. AreWhole l start.now.trees) same whole)) in
-          let there : HoldsEarlier layout start.now h.office = record { earlier = earlier; lawful = h.lawful; well_formed = held.1; kind = h.kind; rows = held.0 } in
-          (h.office, subst (λ l. HoldsEarlier l start.now h.office) (sym same) there);
-      holds = λ other office it.
-          let here = subst (λ l. HoldsEarlier l start.now office) (sym (same_layout other layout start.now.schema it.rows.schema laid)) it in
-          h.same office here.lawful here.well_formed here.kind here.rows;
-    })
-    (committed_after_reading (CommitsRenewed layout) start one two reads is_open early renewed)
-
 pub returns-in-Ok-Some-clause-crash : goal.returns-in-Ok-Some-clause-crash
 returns-in-Ok-Some-clause-crash g c =
     let version : version_of c.in-Some.layout ≡ c.in_ok-version.version = cc in
-    migrated_once c.in-Some.layout (state g.S.Store c.args.conn.now) (state g.S.Store c.earlier_version.new.conn) (state g.S.Store c.renewed_office.new.conn)
-    (sym c.schema-3.ensures.value ∙ (rw c.in-Some.is at c.of-declared.ensures.laid)) (subst IsEarlier (sym version) c.in_ok-version.ensures.earlier)
-    (λ is_open. (c.schema-3.ensures.live is_open).0) c.earlier_version.ensures.reads c.in_ok-version.ensures.is_open c.renewed_office.ensures.follows.clean c.renewed_office.ensures.crash
+    migrated_once c.in-Some.layout (state g.S.Store c.args.conn.now) (state g.S.Store c.earlier_version.new.conn)
+    (state g.S.Store c.renewed_office.new.conn)
+    (sym c.schema-3.ensures.value ∙ (rw c.in-Some.is at c.of-declared.ensures.laid))
+    (subst IsEarlier (sym version) c.in_ok-version.ensures.earlier)
+    (λ is_open. (c.schema-3.ensures.live is_open).0) c.earlier_version.ensures.reads c.in_ok-version.ensures.is_open
+    c.renewed_office.ensures.follows.clean c.renewed_office.ensures.crash
 
 pub returns-in-Ok-None-clause-crash : goal.returns-in-Ok-None-clause-crash
 returns-in-Ok-None-clause-crash g c =
     let version : version_of c.in-Some.layout ≡ c.in_ok-version.version = cc in
-    migrated_once c.in-Some.layout (state g.S.Store c.args.conn.now) (state g.S.Store c.earlier_version.new.conn) (state g.S.Store c.renewed_office.new.conn)
-    (sym c.schema-3.ensures.value ∙ (rw c.in-Some.is at c.of-declared.ensures.laid)) (subst IsEarlier (sym version) c.in_ok-version.ensures.earlier)
-    (λ is_open. (c.schema-3.ensures.live is_open).0) c.earlier_version.ensures.reads c.in_ok-version.ensures.is_open c.renewed_office.ensures.follows.clean c.renewed_office.ensures.crash
+    migrated_once c.in-Some.layout (state g.S.Store c.args.conn.now) (state g.S.Store c.earlier_version.new.conn)
+    (state g.S.Store c.renewed_office.new.conn)
+    (sym c.schema-3.ensures.value ∙ (rw c.in-Some.is at c.of-declared.ensures.laid))
+    (subst IsEarlier (sym version) c.in_ok-version.ensures.earlier)
+    (λ is_open. (c.schema-3.ensures.live is_open).0) c.earlier_version.ensures.reads c.in_ok-version.ensures.is_open
+    c.renewed_office.ensures.follows.clean c.renewed_office.ensures.crash
 
 pub returns-in-Err-clause-crash : goal.returns-in-Err-clause-crash
 returns-in-Err-clause-crash g c =
     let version : version_of c.in-Some.layout ≡ c.in_ok-version.version = cc in
-    migrated_once c.in-Some.layout (state g.S.Store c.args.conn.now) (state g.S.Store c.earlier_version.new.conn) (state g.S.Store c.renewed_office.new.conn)
-    (sym c.schema-3.ensures.value ∙ (rw c.in-Some.is at c.of-declared.ensures.laid)) (subst IsEarlier (sym version) c.in_ok-version.ensures.earlier)
-    (λ is_open. (c.schema-3.ensures.live is_open).0) c.earlier_version.ensures.reads c.in_ok-version.ensures.is_open c.renewed_office.ensures.follows.clean c.renewed_office.ensures.crash
+    migrated_once c.in-Some.layout (state g.S.Store c.args.conn.now) (state g.S.Store c.earlier_version.new.conn)
+    (state g.S.Store c.renewed_office.new.conn)
+    (sym c.schema-3.ensures.value ∙ (rw c.in-Some.is at c.of-declared.ensures.laid))
+    (subst IsEarlier (sym version) c.in_ok-version.ensures.earlier)
+    (λ is_open. (c.schema-3.ensures.live is_open).0) c.earlier_version.ensures.reads c.in_ok-version.ensures.is_open
+    c.renewed_office.ensures.follows.clean c.renewed_office.ensures.crash
