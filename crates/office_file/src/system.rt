@@ -1,4 +1,5 @@
-//! Desks over the files of the system.
+//! Desks over the files of the system. In contracts, `start` represents what the file and its log held before the call,
+//! as in `open_file`.
 ghost use Rattle.std.specs.Prelude.{◌≡◌, IfOk, Some};
 ghost use Rattle.sqlite_wal.specs.Files.{image_at};
 ghost use Rattle.sqlite.specs.Files.{file_state, over_files};
@@ -35,15 +36,11 @@ pub trait OnFile {
     ghost use Rattle.office_file.specs.System.{system_access};
     ghost use Rattle.office_store.specs.Desk.{Shows};
 
-    /// Creates the tables of the empty office in the file at this path. Returns a desk over that office. Creates a
-    /// missing file.
+    /// Creates an empty office in the file at this path, as `create_in` does.
     ///
     /// # Errors
     ///
-    /// `AlreadyThere` if and only if a table, an index, a view or a trigger of the opened database has the name of one
-    /// of an office's ten tables. `Unavailable` otherwise: the file was not opened, its schema has something under
-    /// other names, the disk failed, or memory ran out. On an error the tables are unchanged, with the exceptions that
-    /// `create_in` lists.
+    /// Those of `create_in`.
     fn create_file(rt: &HostRuntime, path: &str) -> Result<FileDesk<Wary>, DeskFault>
         ensures shows { IfOk result
             (λ desk. HasCleanDisk (file_state desk.conn) → Shows over_files desk empty_office) }
@@ -52,38 +49,21 @@ pub trait OnFile {
             (λ desk. OpensBlank (system_access (image_at ⟦<Wary as Start>⟧)) tt path.now desk tt) }
         ensures cause { IsCreateFault (system_access (image_at ⟦<Wary as Start>⟧)) tt path.now result tt };
 
-    /// Opens a desk over the office that the file at this path holds. The tables must have the version of this
-    /// program. Does not create a missing file.
+    /// Opens a desk over the office that the file at this path holds, as `find_in` does.
     ///
     /// # Errors
     ///
-    /// - `NotAnOffice`: nothing has the name of table `round`, or the tables do not hold the rows of an office.
-    /// - `OtherVersion`: the row of table `round` holds the version that the fault names, which is not the version of
-    ///   this program.
-    /// - `Unavailable`: the file was not opened, the schema is not that of an office, the database failed, or memory
-    ///   ran out.
-    ///
-    /// `Desk::adopt` has the exact conditions for an opened file. On an error the tables are unchanged, with the
-    /// exceptions that `find_in` lists.
+    /// Those of `find_in`.
     fn on_file(rt: &HostRuntime, path: &str) -> Result<FileDesk<Wary>, DeskFault>
         ensures shows { IfOk result
             (λ desk. OpensFound (system_access (image_at ⟦<Wary as Start>⟧)) tt path.now desk tt) }
         ensures cause { IsFileFault (system_access (image_at ⟦<Wary as Start>⟧)) tt path.now result tt };
 
-    /// Migrates the office in the file at this path from version 1 or 2 to the version of this program. Returns a desk
-    /// over the office. Does not create a missing file.
+    /// Migrates the office in the file at this path to the version of this program, as `migrate_in` does.
     ///
     /// # Errors
     ///
-    /// - `NotAnOffice`: nothing has the name of table `round`, or the tables do not hold the rows of an office of the
-    ///   version in that table.
-    /// - `OtherVersion`: the row of table `round` holds the version that the fault names, which is neither 1 nor 2.
-    /// - `AlreadyThere`: something has the name of a table that the version in table `round` lacks.
-    /// - `Unavailable`: the file was not opened, the schema is not that of an office, the version in table `round` is
-    ///   not an integer, the database failed, or memory ran out.
-    ///
-    /// `Desk::migrate` has the exact conditions for an opened file. On an error the tables are unchanged, with the
-    /// exceptions that `migrate_in` lists.
+    /// Those of `migrate_in`.
     fn migrate_file(rt: &HostRuntime, path: &str) -> Result<FileDesk<Wary>, DeskFault>
         ensures shows { IfOk result
             (λ desk. OpensMigrated (system_access (image_at ⟦<Wary as Start>⟧)) tt path.now desk tt) }
@@ -104,14 +84,11 @@ impl OnFile for Desk<FileStore<FileFrom<Wary>>> {
     }
 }
 
-/// Does what `create_file` of `OnFile` does, whatever the file held.
-///
-/// In contracts, `start` represents what the file and its log held before the call. No code can know these contents;
-/// the contract of this function holds for any contents.
+/// Does what `create_file` of `OnFile` does, whatever the file and its log held.
 ///
 /// # Errors
 ///
-/// Those of `create_file`.
+/// Those of `create_in`.
 pub fn create_over<S: Start>(
     rt: &HostRuntime,
     path: &str,
@@ -128,14 +105,11 @@ pub fn create_over<S: Start>(
     create_in(rt.alloc(), &mut files, path)
 }
 
-/// Does what `on_file` of `OnFile` does, whatever the file held.
-///
-/// In contracts, `start` represents what the file and its log held before the call. No code can know these contents;
-/// the contract of this function holds for any contents.
+/// Does what `on_file` of `OnFile` does, whatever the file and its log held.
 ///
 /// # Errors
 ///
-/// Those of `on_file`.
+/// Those of `find_in`.
 pub fn find_over<S: Start>(rt: &HostRuntime, path: &str, start: S) -> Result<FileDesk<S>, DeskFault>
     ensures shows { IfOk result
         (λ desk. OpensFound (system_access (image_at S.Start)) tt path.now desk tt) }
@@ -145,14 +119,11 @@ pub fn find_over<S: Start>(rt: &HostRuntime, path: &str, start: S) -> Result<Fil
     find_in(rt.alloc(), &mut files, path)
 }
 
-/// Does what `migrate_file` of `OnFile` does, whatever the file held.
-///
-/// In contracts, `start` represents what the file and its log held before the call. No code can know these contents;
-/// the contract of this function holds for any contents.
+/// Does what `migrate_file` of `OnFile` does, whatever the file and its log held.
 ///
 /// # Errors
 ///
-/// Those of `migrate_file`.
+/// Those of `migrate_in`.
 pub fn migrate_over<S: Start>(
     rt: &HostRuntime,
     path: &str,
