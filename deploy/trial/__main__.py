@@ -60,6 +60,7 @@ from office_figures import try_office_figures
 from office_forget import try_office_forget
 from office_former import try_office_former
 from office_formats import try_office_formats
+from office_given_up import try_office_given_up
 from office_halfway import try_office_halfway
 from office_identifiers import try_office_identifiers
 from office_keys import try_office_keys
@@ -118,7 +119,7 @@ def all_parts(program, folder):
         try_unanswered, try_unread, try_office_tried, try_mail_changed, try_mail_gone, try_office_on_record,
         try_office_overview, try_office_words, try_office_languages, try_office_marked, try_certificate, try_authority,
         try_signin_account, try_office_beside, try_office_identifiers, try_office_former, try_new_keys, try_erased,
-        try_office_halfway, try_office_unsure, try_untaken, try_forgotten,
+        try_office_halfway, try_office_given_up, try_office_unsure, try_untaken, try_forgotten,
     ]
     of_browser: list[Callable[..., None]] = [try_page, try_link, try_page_told, try_page_dates, try_signin_browser, try_office_page,
                                              try_office_mail_browser, try_office_wayback_browser, try_record_browser,
@@ -141,7 +142,7 @@ def gate_parts(program):
         try_ciphers, try_unanswered, try_unread, try_office_overview, try_office_words, try_office_languages, try_certificate,
         try_office_beside, try_office_identifiers, try_office_former, try_office_tried, try_mail_changed,
         try_mail_gone, try_office_on_record, try_new_keys, try_erased,
-        try_office_halfway, try_office_unsure, try_untaken, try_forgotten,
+        try_office_halfway, try_office_given_up, try_office_unsure, try_untaken, try_forgotten,
     ]
     of_office = [partial(one, program) for one in of_program]
     return [try_parts, try_branching, try_mail_parts, try_replacing, try_audit_told, *of_office]

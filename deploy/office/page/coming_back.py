@@ -45,14 +45,17 @@ class Had(NamedTuple):
         """Of whom the round has something."""
         return {*self.going, *self.withdrawn, *self.choices}
 
-    def may_be_away(self, ident: str) -> bool:
-        """Whether somebody's list may have come in by an import that was to be followed by a note or a withdrawal."""
-        lists = {label: whose for label, whose in self.imported.items() if whose is None or ident in whose}
+    def may_be_away(self, ident: str, newer: "Had | None" = None) -> bool:
+        """Whether somebody's list may have come in by an import that was to be followed by a note or a withdrawal; with a newer
+        round, before that one was given up."""
+        later = newer.imported if newer else {}
+        lists = {label: whose for label, whose in self.imported.items()
+                 if label not in later and (whose is None or ident in whose)}
         return bool(lists) and not any(whose and label.startswith(TAKES_PART) for label, whose in lists.items())
 
 
 class Later(NamedTuple):
-    """A round that was given up later than another one: of whom it has something, too, or why nobody knows that."""
+    """A round that was given up later than another one: who said something in it, too, or why nobody knows that."""
 
     number: int
     people: list[str]
@@ -175,14 +178,29 @@ def compare_list(ident: str, wishes: list[str], now: list[str], had: Had, back: 
     """A list of somebody who has one on record. If that is a part of it, the rest was out of use when it came back; but if the rest
     was in use all the time, the person has taken it out."""
     back.here.append(_("{person}: a list", person=ident))
-    if now != [code for code in wishes if code in now]:
+    if not is_part(now, wishes):
         return
-    lacks = {code for code in back.old[ident] if code not in now}
+    lacks = set(back.old[ident]).difference(now)
     if lacks and lacks <= had.reopened:
         back.longer[ident] = back.old[ident]
     if lacks <= had.reopened and had.may_be_away(ident):
         back.same.append(ident)
     name_lost(ident, [code for code in wishes if code not in now and code not in back.old[ident]], back)
+
+
+def is_part(now: list[str], wishes: list[str]) -> bool:
+    """Whether a list is another one, maybe without some of its rooms."""
+    return now == [code for code in wishes if code in now]
+
+
+def said_in(newer: Had, office: Office, older: Had, ident: str) -> bool:
+    """Whether somebody said something in a newer round that was given up, too: withdrew, was to leave, or handed in a list. A list
+    of the older round that came back by an import says nothing: what was to follow it may have been stopped."""
+    if ident in newer.withdrawn + newer.going:
+        return True
+    now, wishes = (had.choices.get(ident, []) for had in (newer, older))
+    is_same = is_part(now, wishes) and older.reopened.issuperset(set(usable(office, wishes)).difference(now))
+    return bool(now) and not (is_same and older.may_be_away(ident, newer))
 
 
 def has_come_again(office: Office, ident: str, back: Back) -> bool:
@@ -191,15 +209,17 @@ def has_come_again(office: Office, ident: str, back: Back) -> bool:
     return bool(office.choices.get(ident)) and ident not in back.same
 
 
-def said_later(office: Office, copy: str) -> list[Later]:
-    """The rounds that were given up after the one of this copy. What their people said last is there, and would be replaced by what
-    they had said before. A copy that is damaged has nothing that could come back, and keeps nothing else from coming back."""
+def said_later(office: Office, copy: str, had: Had) -> list[Later]:
+    """The rounds that were given up after the one of this copy, which had this. What their people said last is there, and would be
+    replaced by what they had said before. A copy that is damaged has nothing that could come back, and keeps nothing else from
+    coming back."""
     later: list[Later] = []
     for given_up in rounds(office):
         if given_up.copy == copy:
             break
         try:
-            later.append(Later(given_up.number, sorted(had_in(given_up.copy).people)))
+            newer = had_in(given_up.copy)
+            later.append(Later(given_up.number, sorted(one for one in had.people if said_in(newer, office, had, one))))
         except KeeperFault as fault:
             later.append(Later(given_up.number, [], str(fault).rstrip(".")))
     return later
@@ -207,9 +227,9 @@ def said_later(office: Office, copy: str) -> list[Later]:
 
 def all_missing(office: Office) -> list[tuple[GivenUp, str]]:
     """What of the rounds that were given up is not back in the round that is open, but could be, the newest round first. A clerk
-    has to know it before the round is closed. Somebody of whom a newer round has something is named with that one alone."""
+    has to know it before the round is closed. Somebody who said something in a newer round is named with that one alone."""
     found: list[tuple[GivenUp, str]] = []
-    newer: set[str] = set()
+    newer: list[Had] = []
     for given_up in rounds(office) if office.phase == "open" else []:
         try:
             had = had_in(given_up.copy)
@@ -218,19 +238,21 @@ def all_missing(office: Office) -> list[tuple[GivenUp, str]]:
             continue
         if missing := missing_of(office, had, newer):
             found.append((given_up, missing))
-        newer |= had.people
+        newer.append(had)
     return found
 
 
-def missing_of(office: Office, had: Had, newer: set[str]) -> str:
-    """What of a round is not back in the round of now, but could be, without these people; or nothing."""
+def missing_of(office: Office, had: Had, newer: list[Had]) -> str:
+    """What of a round is not back in the round of now, but could be, without what newer ones have; or nothing."""
     back = what_is_left(office, had)
+    said = {ident for ident in had.people if any(said_in(one, office, had, ident) for one in newer)}
+    named = said.union(*(one.people for one in newer))  # with a list, be it the same one
     away = {N_("were to leave the college, and take part now ({people})"): back.going,
             N_("had withdrawn, and take part now ({people})"): back.withdrawn}
     left = {what: [one for one in idents if not has_come_again(office, one, back)] for what, idents in away.items()}
-    left[N_("lists that are not back ({people})")] = list(back.lists_but(back.away))
+    left[N_("lists that are not back ({people})")] = [one for one in back.lists_but(back.away) if one not in named]
     left[N_("lists without rooms that are in use again ({people})")] = list(back.longer)
-    people = {what: [one for one in idents if one not in newer] for what, idents in left.items()}
+    people = {what: [one for one in idents if one not in said] for what, idents in left.items()}
     return "; ".join(_(what, people=listed(idents)) for what, idents in people.items() if idents)
 
 

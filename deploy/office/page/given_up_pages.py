@@ -46,8 +46,8 @@ def round_of(office: Office, copy: str) -> GivenUp:
 
 
 def out_of(back: Back, later: list[str]) -> TakenOut:
-    """Who is not ticked: the one person who is being undone, and of whom a later round has something; or everybody whom the clerk
-    has taken out before."""
+    """Who is not ticked: the one person who is being undone, and who said something in a later round; or everybody whom the clerk has
+    taken out before."""
     query = dict(request.query)
     if "out" not in query:
         return TakenOut([*query.get("but", "").split(), *(one for one in back.away if one in later)],
@@ -74,9 +74,10 @@ def rows_of(office: Office, back: Back, idents: list[str], out: list[str]) -> li
 def given_up(copy: str) -> str:
     """What of a round can come back, for the clerk to choose from."""
     office = office_now()
-    found, back = round_of(office, copy), what_is_left(office, had_in(copy))
+    found, had = round_of(office, copy), had_in(copy)
+    back = what_is_left(office, had)
     later = [one._replace(people=[ident for ident in one.people if ident in back.away or ident in back.lists])
-             for one in said_later(office, copy)]
+             for one in said_later(office, copy, had)]
     out = out_of(back, [ident for one in later for ident in one.people])
     parts = {"going": rows_of(office, back, back.going, out.idents), "withdrawn": rows_of(office, back, back.withdrawn, out.idents)}
     away = [row.ident for rows in parts.values() for row in rows if row.is_ticked]

@@ -1,0 +1,97 @@
+"""Two rounds are given up one after the other: /usr/bin/python3 deploy/trial/office_given_up.py PROGRAM.
+
+What came back into the second round by an import says nothing of what people want: who was to leave or had withdrawn in the first
+one is named until that is back, too. What people said themselves in the second round counts.
+"""
+
+import re
+import sys
+from pathlib import Path
+
+# The repository stays as it is.
+sys.dont_write_bytecode = True
+
+# pylint: disable=wrong-import-position  # nothing may be written before
+from office_forms import boxes, seen_at, send_as_it_is
+from office_requests import Page, hand_in
+from office_second import away, fill
+from stand import Stand, check, key_of
+
+LISTS = {"P01": "A-109", "P02": "A-110 A-111", "P03": "A-111", "P04": "A-112", "P05": "A-109 A-112", "P06": "A-110",
+         "P07": "A-112", "P08": "A-109"}
+GOING, WITHDRAWN = ["P01", "P02", "P05"], ["P04", "P06"]
+OWN, SAME = "P05", "P06"  # in the second round one hands in another list, and one withdraws again
+BACK = [person for person in LISTS if person != OWN]  # whose list comes back into the second round
+
+NOTES = "ere to leave the college, and take part now (P01, P02); had withdrawn, and take part now (P04)"
+
+
+def imported(stand, label, people):
+    """Lists of the first round are imported, as a clerk does without the page."""
+    text = "".join(f"{person},{LISTS[person]}\n" for person in people)
+    answer = stand.script("rooms-office", "import", "choices", label, "-", given=f"person,choices\n{text}")
+    check(f"the list {label} comes in", answer == f"added {len(people)}\n", answer)
+
+
+def given_up_twice(stand):
+    """The second round has lists of the first one, without the notes and withdrawals, and what two people said. It is given up."""
+    for line in ("open", *(f"choose {person} {rooms}" for person, rooms in LISTS.items()), *(f"going {one}" for one in GOING),
+                 *(f"withdraw {one}" for one in WITHDRAWN), "cancel", "shut A-111", "open"):
+        stand.office(line)
+    LISTS["P02"] = "A-110"
+    imported(stand, "back-1", [person for person in BACK if person != "P03"])
+    check("one hands in another list", hand_in(stand, key_of(OWN), ["A-112"]) == 200)
+    for line in (f"withdraw {SAME}", "reopen A-111", "cancel", "open"):
+        stand.office(line)
+
+
+def try_named(page, notes):
+    """The overview, and the question before closing."""
+    for path in ("/office/", "/office/step/close"):
+        shown = seen_at(page, path)
+        check(f"{path} names who was to leave and who had withdrawn in the first round", notes in shown, shown)
+    return shown
+
+
+def try_given_up_twice(stand, page):
+    """All that is not back is named once, and the form of the first round ticks it."""
+    shown = try_named(page, NOTES)
+    lists = "lists that are not back (P01, P02, P04, P05, P07, P08)"
+    check("who withdrew in the second round, and the lists that it has, are named with it alone",
+          f"ad withdrawn, and take part now ({SAME}); {lists}" in shown and shown.count("(P03)") == 1, shown)
+    newer, older = re.findall(r'href="(/office/given-up/[^"]+)"', page.get("/office/")[2])[:2]
+    shown, ticked = seen_at(page, older), boxes(page.get(older)[2])
+    check("the form of the first round names who said something in the second one", f"people, too: {OWN}, {SAME}. They" in shown,
+          shown)
+    expected = {**{("going", one): one != OWN for one in GOING}, **{("withdrawn", one): one != SAME for one in WITHDRAWN},
+                **{("list", one): one not in (OWN, SAME) for one in LISTS}, ("sure", "yes"): False}
+    check("and ticks everybody else", ticked == expected, ticked)
+    send_as_it_is(page, newer)
+    check("the second round comes back", stand.recorded() == {
+        one: rooms.split() for one, rooms in {**LISTS, OWN: "A-112"}.items() if one != "P03"}, stand.recorded())
+    check("with the withdrawal", away(stand) == (set(), {SAME}), away(stand))
+    shown = try_named(page, NOTES)
+    check("and a list without a room that was out of use", "lists that are not back (P03); lists without rooms that are in use "
+          "again (P02)" in shown, shown)
+    send_as_it_is(page, older)
+    check("then the first round comes back", away(stand) == ({"P01", "P02"}, {"P04", SAME}), away(stand))
+    check("and nothing is left", "which was given up" not in seen_at(page, "/office/"), seen_at(page, "/office/"))
+
+
+def try_office_given_up(program):
+    """All of it."""
+    with Stand(program) as stand:
+        fill(stand)
+        stand.start()
+        stand.start_page()
+        stand.start_proxy()
+        page = Page(stand)
+        given_up_twice(stand)
+        try_given_up_twice(stand, page)
+        check("the page has noted no fault of its own", "rooms-page:" not in stand.log("page"), stand.log("page"))
+
+
+if __name__ == "__main__":
+    if len(sys.argv) != 2 or not Path(sys.argv[1]).exists():
+        sys.exit("usage: /usr/bin/python3 deploy/trial/office_given_up.py PROGRAM")
+    try_office_given_up(sys.argv[1])
