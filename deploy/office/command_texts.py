@@ -119,13 +119,14 @@ def forgotten_text(people: str, command: str) -> str:
 def went_back_texts(answer: dict[str, Any], command: Callable[[str], str]) -> list[str]:
     """What has become of people by a way back. `command` gives a command as a clerk of this office enters it."""
     keys = [person for person in answer.get("keys", []) if person not in answer["newer_then"]]
-    come, gone, forgotten, lost = ([person for person, _ in answer.get("come", [])],
-                                   *(" ".join(answer.get(part, [])) for part in ("gone", "forgotten", "lost")))
+    come, gone, forgotten, lost, away = ([person for person, _ in answer.get("come", [])],
+                                         *(" ".join(answer.get(part, [])) for part in ("gone", "forgotten", "lost", "part")))
     return [*([keys_again_text(keys, command("rooms-office key PERSON"))] if keys else []),
             *([f"what was kept of these identifiers may have been of other people, and was erased: {gone}"] if gone else []),
             *([come_again_text(come)] if come else []),
             *([forgotten_text(forgotten, command("rooms-office forget PERSON"))] if forgotten else []),
             *([f"these people had another list, which does not count now: {lost}. Tell them so"] if lost else []),
+            *([f"the withdrawal, or the note that they leave the college, is again as it was: {away}. Tell them so"] if away else []),
             *([answer["unkept"]] if answer.get("unkept") else [])]
 
 

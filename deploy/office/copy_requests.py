@@ -124,7 +124,7 @@ class CopyRequests:
             raise Fault(why)
         way = GoingBack(self.office, self.beside, name, bool(job.get("newer_keys")))
         change = self.worker.change(Change(job["who"], way.line, way.carry_out, whole=True, kind=BACK, before=f"back {name}",
-                                           damaged=True, why_not=lambda: look(still=True), before_put=way.erase))
+                                           damaged=True, why_not=lambda: look(still=True), before_put=way.prepare))
         if is_refused(change.answers):
             said = change.answers[-1].text.strip()
             raise Fault(_("the program does not take this copy ({said}). Nothing was changed.", said=said))

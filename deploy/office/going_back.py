@@ -23,6 +23,7 @@ class GoingBack:
 
     def __init__(self, office: Office, beside: BesideRegister, name: str, newer_keys: bool) -> None:
         self.office, self.beside, self.name, self.newer_keys = office, beside, name, newer_keys
+        self.now: Rows | None = None
         self.then: Rows = {}
         self.found: dict[str, Any] = {}
 
@@ -34,16 +35,16 @@ class GoingBack:
     def carry_out(self, copy: Path) -> list[Answer]:
         """Puts the kept copy over one of the present office, which may be damaged. A copy from before an upgrade of the program
         is brought to the program's version."""
-        now, keys, program = None, {}, self.office.program
+        keys, program = {}, self.office.program
         with contextlib.suppress(sqlite3.Error):
-            now, keys = rows_of(copy), keys_in(copy)
+            self.now, keys = rows_of(copy), keys_in(copy)
         self.office.backups.take(self.name, copy)
         answer = program.look(copy)
         if is_of_earlier_version(answer):
             answer = program.migrate(copy)
         if answer.status == 0:
             self.then = rows_of(copy)
-            self.found = self.compared(now)
+            self.found = self.compared()
             if stay := self.stay():
                 lines = [f"key {person} {keys[person]}" for person in stay]
                 answers = program.tell_all(lines, copy)
@@ -51,11 +52,11 @@ class GoingBack:
                     raise not_kept(stay[len(answers) - 1], keys, copy) or refusal(lines, answers, False)
         return [answer]
 
-    def compared(self, now: Rows | None) -> dict[str, Any]:
+    def compared(self) -> dict[str, Any]:
         """What becomes of people. Of a damaged office, all that is known is who may be somebody else."""
         parting = Parting(self.office, Branches(self.office.journal.entries(whole=True)), self.name)
-        if now:
-            return parting.compared(self.then, now)
+        if self.now:
+            return parting.compared(self.then, self.now)
         everybody = people_in(self.then)
         return {"gone": sorted(parting.others(everybody, everybody))}
 
@@ -63,11 +64,14 @@ class GoingBack:
         """Who keeps the key of now."""
         return self.found.get("newer_now", []) if self.newer_keys else []
 
-    def erase(self) -> None:
-        """Erases what the keeper has beside the register of people who may be somebody else in the copy."""
+    def prepare(self) -> None:
+        """Just before the copy takes the office's place: erases what the keeper has beside the register of people who may be somebody
+        else in the copy, and lets receipts know of the others what they saw."""
         people = set(self.found["gone"])
         self.found["gone"] = sorted(self.beside.with_something(people))
         self.beside.erase_others(people)
+        if self.now:
+            self.beside.post.going_back(self.now, self.then, self.found["others"])
 
     def told(self) -> dict[str, Any]:
         """What became of people, of whom some have kept their keys."""

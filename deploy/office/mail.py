@@ -34,7 +34,7 @@ from mail_why import GIVEN_UP, RESTARTED, STOPPED, kept
 from mail_words import KINDS, RECEIPT, Text, faults_of, filled, is_address
 from office import Office
 from register import people_in
-from seen import why_stale
+from seen import Rows, why_stale
 from settings import Fault
 from times import now
 from told import mark_of
@@ -106,6 +106,11 @@ class Post:  # pylint: disable=too-many-instance-attributes  # the parts of the 
         """A round was opened just now."""
         with contextlib.suppress(Fault, OSError, sqlite3.Error):  # then lists of the first seconds bring no receipts
             self.receipts.opened()
+
+    def going_back(self, before: Rows, then: Rows, others: list[str]) -> None:
+        """The office is about to go back to a copy, in which `others` may be other people."""
+        with contextlib.suppress(Fault, OSError, sqlite3.Error):  # then changes of the last minutes bring no receipts
+            self.receipts.going_back(before, then, others)
 
     def stop(self) -> None:
         """Ends what sends."""

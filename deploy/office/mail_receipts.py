@@ -97,6 +97,18 @@ class Receipts:  # pylint: disable=too-many-instance-attributes  # the parts of 
             if self.book.wanted().on:
                 self.book.begin_round(self.worker.view.rows()["number"], {})
 
+    def going_back(self, before: Rows, then: Rows, others: list[str]) -> None:
+        """The office is about to go back to a copy of the same round. Who changed something lately knows of that, and gets a receipt
+        of what counts then, also if there was none yet of the change; not who may be somebody else there."""
+        with self.lock:
+            wanted = self.book.wanted()
+            if not wanted.on or not wanted.round == before["number"] == then["number"] or before["phase"] == "idle":
+                return
+            saw, marks, at = self.book.marks(before), self.book.marks(then), now()
+            known = people_in(then).difference(others)
+            pairs = {one: (marks.get(one, NOTHING), saw.get(one, NOTHING)) for one in {**saw, **marks} if one in known}
+            self.book.saw({one: Entry(mark, at, was) for one, (mark, was) in pairs.items() if was not in (mark, LEAVES)}, [])
+
     def waiting(self) -> list[str]:
         """Who waits for a receipt: not who has no address, or leaves, since they get none."""
         addresses = self.book.book.addresses()

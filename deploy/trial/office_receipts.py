@@ -243,6 +243,36 @@ def try_withdrawn(stand, server):
     check("and another withdrawal is one", "You have withdrawn from round 2" in texts_of(server, "T06")[-1], server.went())
 
 
+def try_back_soon(stand, page, server):
+    """The office goes back before receipts of the last changes are due: who made them reads what counts now."""
+    hand_in(stand, key_of("T08"), ROOMS[:1])
+    until(lambda: texts_of(server, "T08"), 60, "a receipt of a list")
+    copy = stand.ask(ask="backup")["name"]
+    server.forget()
+    settle_mail(stand, server, **{"receipt-seconds": "60"})
+    stand.office("withdraw T08")
+    hand_in(stand, key_of("T09"), ROOMS[:2])
+    stand.office("going T10")
+    time.sleep(1)  # the keeper looks at the lists meanwhile
+    check("somebody hands in another list just before", hand_in(stand, key_of("T11"), ROOMS[:1]) == 200)
+    place = f"/office/copies/{copy}/back"
+    page.form(place, page=place)
+    shown = flat(page.get("/office/")[2])
+    check("the page names whose withdrawal or note does not count", "or the note that they leave the college, is again as it was: "
+          "T08, T10. Tell" in shown, shown)
+    check("and whose list", "another list before, which does not count now: T09, T11. Tell" in shown, shown)
+    check("none of them had a receipt", not server.got, server.went())
+    settle_mail(stand, server, **{"receipt-seconds": str(SECONDS)})
+    until(lambda: len(server.got) == 3, 60, "three receipts after the way back")
+    quiet(server, "after a way back who changed something in the last moment gets a receipt, and nobody else", 3)
+    again = "Your withdrawal no longer counts: you take part in round 2 again."
+    check("who withdrew reads that it no longer counts", says(texts_of(server, "T08"), said(
+        f"{again} A list of yours with 1 room has been on record in round 2 since about {{time}}.")), texts_of(server, "T08"))
+    for person in ("T09", "T11"):
+        check(f"and who handed in a list reads of none: {person}", says(texts_of(server, person), said(NO_ROOM.format(number=2))),
+              texts_of(server, person))
+
+
 def try_uncertain_elsewhere(stand, page, server):
     """Who may not have got a receipt is named once the next round is open, too."""
     server.forget()
@@ -286,6 +316,7 @@ def try_office_receipts(program):
     """All of it."""
     with MailServer() as server, Stand(program) as stand:
         stand.fill(ROOMS, PEOPLE)
+        stand.fill_homes({"T10": "A-6"})
         settle_mail(stand, server, **{"receipt-seconds": str(SECONDS)})
         stand.start()
         stand.start_page()
@@ -300,6 +331,7 @@ def try_office_receipts(program):
         try_ended(stand, page, server)
         try_rounds(stand, server)
         try_withdrawn(stand, server)
+        try_back_soon(stand, page, server)
         try_uncertain_elsewhere(stand, page, server)
         try_end(stand, page, server)
         check("no address, name or key is in a log or in the journal", not logs_of(stand), logs_of(stand))

@@ -275,6 +275,9 @@ def back(name: str) -> None:
                       people=", ".join(forgotten)))
     if lost := found.get("lost"):
         tell("bad", _(LOST[found["round"][1] == "open"], people=", ".join(lost)))
+    if part := found.get("part"):
+        tell("bad", _("Of these people the withdrawal, or the note that they leave the college, is again as it was: {people}. Tell "
+                      "them so.", people=", ".join(part)))
     if unkept := found.get("unkept"):
         tell("bad", unkept)
     if keys := [person for person in found.get("keys", []) if person not in found["newer_then"]]:
