@@ -51,6 +51,29 @@ def undo_of(page, person):
     return seen_at(page, page.get(f"/office/undo/{person}")[1]["location"])
 
 
+def try_undo_closed(stand, page):
+    """A note is seen to be a mistake once the round is closed: the copy from before it is a way then, too."""
+    before, lists = away(stand), stand.recorded()
+    stand.office("going P06")
+    stand.office("close")
+    shown = page.get("/office/undo/P06")[2]
+    copies = re.findall(r"/office/copies/([^/]+)/back", shown)
+    check("once the round is closed the page still offers the copy from before the note", len(copies) == 1
+          and "There are three ways." in flat(shown) and "undoes what happened since then: the close of the round. R" in flat(shown),
+          flat(shown))
+    stand.ask(ask="draw", who="anna", seed=SEED)
+    shown = seen_at(page, "/office/undo/P06")
+    check("once the order is drawn it names that, too", "the close of the round; the order that was drawn. R" in shown, shown)
+    stand.office("run")
+    shown = seen_at(page, "/office/undo/P06")
+    check("and then the results", "the close of the round; the order that was drawn; the results. R" in shown, shown)
+    place = f"/office/copies/{copies[0]}/back"
+    page.form(place, page=place)
+    check("it leads back to the open round, without the note", stand.ask(ask="view")["phase"] == "open"
+          and (away(stand), stand.recorded()) == (before, lists), (away(stand), stand.recorded()))
+    check("then there is nothing to undo", "There is nothing to undo: this person takes part in the round." in undo_of(page, "P06"))
+
+
 def try_left(stand, page):
     """P06 and P07 leave the college; P12 and P02 only get no room."""
     for line in ("going P06", "going P07"):
@@ -62,6 +85,9 @@ def try_left(stand, page):
     expected = {**HOMES, "P04": "A-111", "P09": "A-109", "P10": "A-112"}
     expected = {one: room for one, room in expected.items() if one not in ("P02", "P06", "P07")}
     check("the round is settled", homes(stand) == expected, homes(stand))
+    check("then a page of before does not say that who left takes part",
+          "No round is under way. It can no longer be undone. Somebody who leaves the college has no" in undo_of(page, "P06"))
+    check("nor that anybody else does", "No round is under way, so there is nothing to undo." in undo_of(page, "P04"))
     check("the overview names them", "Left the college in round 3: 2" in seen_at(page, "/office/"), seen_at(page, "/office/"))
     check("so does the question before the next round", "2 people who left the college in round 3"
           in seen_at(page, "/office/step/open"))

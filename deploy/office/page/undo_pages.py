@@ -18,6 +18,7 @@ from people_pages import person_of
 from questions import away_facts, must_be_sure
 
 WITHDRAWN, GOING = "withdrawn", "going"  # why somebody takes no part
+CLOSED, DRAWN, RESULTS = N_("the close of the round"), N_("the order that was drawn"), N_("the results")
 # How the person can be helped without undoing it.
 LATER = {
     WITHDRAWN: N_("Somebody who has withdrawn keeps the room that they have. After the round is settled, somebody without a room "
@@ -26,6 +27,8 @@ LATER = {
               "then. Do not remove the person from the register. After the round is settled you can let them move into a free room "
               "(page People), or they can take part in a second round."),
 }
+# What a way back to the open round undoes, by the phase of now.
+UNDONE = {"open": (), "closed": (CLOSED,), "drawn": (CLOSED, DRAWN), "ran": (CLOSED, DRAWN, RESULTS)}
 # The steps of the long way, which the page takes itself.
 STEPS = {"cancel": plain.CANCELLABLE, "open": ("idle",)}
 
@@ -54,7 +57,7 @@ def given_up_with(office: Office, ident: str) -> tuple[GivenUp, str] | None:
 
 
 def others_in(found: dict[str, Any], ident: str) -> list[str]:
-    """What else would become of people by going back to a copy, in a few words each."""
+    """What else would become of people and rooms by going back to a copy, in a few words each."""
     lists, names, keys, come, gone, grades, rooms, others = (
         len(found[part]) for part in ("lists", "names", "keys", "come", "go", "grades", "rooms", "others"))
     part = sum(1 for one in found["part"] if one != ident)
@@ -77,15 +80,15 @@ def copy_before(office: Office, ident: str) -> Before | None:
     """The newest copy from before this one step, alone or in a bundle of lines, if it is of this round as it is now. A resident
     who withdraws makes none."""
     named = re.compile(rf"before (?:.*[,;] )?(?:going|withdraw) (?:{re.escape(ident)}(?![A-Z0-9])|\([0-9]+\))")
-    for name, _, why in reversed(ask("backups")["backups"]):
+    for name, _size, why in reversed(ask("backups")["backups"]):
         if not named.match(why):
             continue
         try:
             found = ask("compare", name=name)
         except KeeperFault:  # the copy is damaged, or has gone
             continue
-        if found["round"] == [office.number, office.phase] and ident in found["part"] and ident not in found["others"]:
-            return Before(name, others_in(found, ident))
+        if found["round"] == [office.number, "open"] and ident in found["part"] and ident not in found["others"]:
+            return Before(name, [*map(_, UNDONE[office.phase]), *others_in(found, ident)])
     return None
 
 
@@ -95,15 +98,21 @@ def undo(ident: str) -> str:
     office = office_now()
     place, part = person_of(office, ident), part_of(office, ident)
     if part and office.phase in STEPS["cancel"]:
-        before = copy_before(office, ident) if office.phase == "open" else None
-        return show("undo", office=office, person=office.people[ident], left=part == GOING, step="cancel", before=before, copy="",
-                    facts=away_facts(office), later=_(LATER[part]))
+        return show("undo", office=office, person=office.people[ident], left=part == GOING, step="cancel", copy="",
+                    before=copy_before(office, ident), facts=away_facts(office), later=_(LATER[part]))
     if not part and (found := given_up_with(office, ident)):
         return next_step(office, ident, *found)
-    tell("bad", _("{phase}. It can no longer be undone. {later}", phase=_(plain.PHASES[office.phase].title), later=_(LATER[part]))
-         if part else
-         _("There is nothing to undo: this person takes part, and took part in the last round that was given up."))
+    has_left = office.phase == "idle" and any(one.ident == ident for one in office.left)
+    tell("bad", why_not(office, GOING if has_left else part))
     return go_to(place)
+
+
+def why_not(office: Office, part: str) -> str:
+    """Why nothing is undone of somebody who takes no part for this reason, or takes part."""
+    if part:
+        return _("{phase}. It can no longer be undone. {later}", phase=_(plain.PHASES[office.phase].title), later=_(LATER[part]))
+    return (_("No round is under way, so there is nothing to undo.") if office.phase == "idle" else
+            _("There is nothing to undo: this person takes part in the round."))
 
 
 def next_step(office: Office, ident: str, given_up: GivenUp, part: str) -> str:
