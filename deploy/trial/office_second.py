@@ -12,6 +12,7 @@ ROOMS = [f"A-{number}" for number in range(101, 113)]
 PEOPLE = [f"P{number:02}" for number in range(1, 13)]
 HOMES = dict(zip(PEOPLE[:8], ROOMS))  # P01 to P08 live in; nobody lives in
 SEED = "5eed" * 16
+TO_WITHDRAW = "If nobody with a room is to swap, you can withdraw them once the round is open."
 
 
 def fill(stand):
@@ -114,7 +115,7 @@ def try_second_round(stand, page):
     check("the overview leads to a second round", 'href="/office/second"' in page.get("/office/")[2])
     shown = seen_at(page, "/office/second")
     for text in ("2 people have no room, and 3 rooms are free", "Somebody with a room who hands in no list keeps it",
-                 "Open the next round"):
+                 "Open the next round", TO_WITHDRAW):
         check(f"the page says: {text}", text in shown, shown)
     listed = page.get("/office/export/without-room.csv")[2]
     check("the list of the people without a room", listed == "person,name,home\nP02,Person P02,\nP12,Person P12,\n", listed)
@@ -129,7 +130,20 @@ def try_second_round(stand, page):
     check("it offers to withdraw those who have a room and no list, and asks",
           "Withdraw them from the round: 8 people" in flat(shown)
           and set(re.findall("<td>(P[0-9]+)</td>", shown)) == tenants and away(stand) == (set(), set()), shown)
+    check("while it does, nothing says to wait for the round to open", TO_WITHDRAW not in seen_at(page, "/office/second"))
+    copy = stand.ask(ask="backup")["name"]
+    for person in sorted(tenants):
+        stand.office(f"withdraw {person}")
+    shown = seen_at(page, "/office/second")
+    check("once all of them are withdrawn, the page says that nobody is left to withdraw",
+          "Everybody with a room has a list on record, or takes no part." in shown and "withdraw them" not in shown
+          and "You need not withdraw" not in shown, shown)
+    stand.ask(ask="back", name=copy)
+    seen_at(page, "/office/")
     finish_round(stand)
+    shown = seen_at(page, "/office/second")
+    check("once the round is closed, nothing says that anybody can change their mind", "withdraw them" not in shown
+          and "change their mind" not in shown, shown)
     stand.office("settle")
     check("a tenant without a list keeps the room, and P12 gets a free one", homes(stand) == {**before, "P12": "A-104"},
           homes(stand))
