@@ -58,22 +58,23 @@ def had_in(rows: Rows) -> dict[str, Any]:
             "withdrawn": withdrawn_in(rows), "going": going_in(rows)}
 
 
-def imported_since(office: Office, then: Rows, now: Rows) -> dict[str, list[str] | None]:
-    """The lists of choices that were imported since then, by label, and whose choices each has. Of one that was blanked nobody
-    knows that."""
+def imported_since(office: Office, then: Rows, now: Rows) -> dict[str, dict[str, list[str]] | None]:
+    """The lists of choices that were imported since then, by label, and the choices of each person in it. Of one that was blanked
+    nobody knows that."""
     had = {label for label, *_rest in then["lists"]}
     blank = {label: bool(is_blank) for label, kind, _added, is_blank in now["lists"] if kind == CHOICES and label not in had}
     if not blank:
         return {}
     with office.copies.copied() as file, contextlib.closing(sqlite3.connect(file)) as database:
         bodies = dict(database.execute(KEPT_LISTS, (CHOICES,)))
-    return {label: None if is_blank else [person for person, *_rest in records_of(bodies[label]) if IDENTIFIER.fullmatch(person)]
+    return {label: None if is_blank else {person: " ".join(rest).split() for person, *rest in records_of(bodies[label])
+                                          if IDENTIFIER.fullmatch(person)}
             for label, is_blank in blank.items() if label in bodies}
 
 
 def given_up(office: Office, view: View, name: str | None) -> dict[str, Any]:
     """The rounds that were given up; or, with the name of the copy of one, what that round had, whose identifiers may be
-    somebody else's by now, and whose lists were imported since."""
+    somebody else's by now, and which lists were imported since."""
     now = view.rows()
     found = rounds(office.backups, now)
     if name is None:

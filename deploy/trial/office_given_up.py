@@ -78,6 +78,23 @@ def try_given_up_twice(stand, page):
     check("and nothing is left", "which was given up" not in seen_at(page, "/office/"), seen_at(page, "/office/"))
 
 
+def try_own_list(stand, page):
+    """Who hands in a list without a room that is in use again has left the room out: the page does not put it back."""
+    old = ["A-109", "A-112", "A-110"]
+    for line in ("cancel", "open", f"choose P07 {' '.join(old)}", f"choose P08 {' '.join(old)}", "shut A-112", "cancel",
+                 "reopen A-112", "open"):
+        stand.office(line)
+    for person, what in (("P07", "hands in a list anew"), ("P08", "replaces the list that came back")):
+        check(f"{person} {what}", hand_in(stand, key_of(person), ["A-109", "A-110"]) == 200)
+        link = re.findall(r'href="(/office/given-up/[^"]+)"', page.get("/office/")[2])[0]
+        check("the overview does not name it", "in use again" not in seen_at(page, "/office/"), seen_at(page, "/office/"))
+        check("nor does the page change it", ("longer", "yes") not in boxes(page.get(link)[2]), page.get(link)[2])
+        if person == "P07":
+            send_as_it_is(page, link)
+            check("the other one's list comes back", stand.recorded()["P08"] == old, stand.recorded())
+    check("both lists stay", stand.recorded()["P07"] == stand.recorded()["P08"] == ["A-109", "A-110"], stand.recorded())
+
+
 def try_office_given_up(program):
     """All of it."""
     with Stand(program) as stand:
@@ -88,6 +105,7 @@ def try_office_given_up(program):
         page = Page(stand)
         given_up_twice(stand)
         try_given_up_twice(stand, page)
+        try_own_list(stand, page)
         check("the page has noted no fault of its own", "rooms-page:" not in stand.log("page"), stand.log("page"))
 
 

@@ -255,7 +255,7 @@ def try_reopened(stand, page, link):
     all is back."""
     stand.office("shut A-111")
     old = {**stand.recorded(), "P04": ["A-101"]}
-    stand.office("choose P04 A-101")
+    stand.script("rooms-office", "import", "choices", "shorter-1", "-", given="person,choices\nP04,A-101\n")
     check("a room out of use is still named", "P04: of the list A-111, out of use" in seen_at(page, link), seen_at(page, link))
     stand.office("reopen A-111")
     shown = seen_at(page, link)
@@ -269,7 +269,7 @@ def try_reopened(stand, page, link):
     page.post(link, form)
     check("which stays", stand.recorded() == {**old, "P04": ["A-109"]} and "changed after you looked" in seen_at(page, link))
     check("and which lacks nothing", ("longer", "yes") not in boxes(page.get(link)[2]))
-    stand.office("choose P04 A-101")
+    stand.script("rooms-office", "import", "choices", "shorter-2", "-", given="person,choices\nP04,A-101\n")
     onward = send_as_it_is(page, link, but="P12")
     shown = seen_at(page, onward)
     check("the room comes back, at its place", stand.recorded() == {**old, "P04": ["A-111", "A-101"]}

@@ -29,7 +29,7 @@ class GivenUp(NamedTuple):
 
 class Had(NamedTuple):
     """What a round had when it was given up, but for `others`, whose identifiers may be another person's by now; the rooms that
-    were brought back into use since; and the lists that were imported since, by label, with whose choices each has, if that is
+    were brought back into use since; and the lists that were imported since, by label, with the choices of each person, if they are
     known."""
 
     number: int
@@ -38,20 +38,25 @@ class Had(NamedTuple):
     choices: dict[str, list[str]]
     others: list[str]
     reopened: set[str]
-    imported: dict[str, list[str] | None]
+    imported: dict[str, dict[str, list[str]] | None]
 
     @property
     def people(self) -> set[str]:
         """Of whom the round has something."""
         return {*self.going, *self.withdrawn, *self.choices}
 
-    def may_be_away(self, ident: str, newer: "Had | None" = None) -> bool:
-        """Whether somebody's list may have come in by an import that was to be followed by a note or a withdrawal; with a newer
-        round, before that one was given up."""
+    def came_in(self, ident: str, now: list[str]) -> bool:
+        """Whether this list of somebody came in by an import since. Another one says what the person wants."""
+        return any(lists is not None and lists.get(ident) == now for lists in self.imported.values())
+
+    def may_be_away(self, ident: str, now: list[str], newer: "Had | None" = None) -> bool:
+        """Whether this list of somebody may have come in by an import that was to be followed by a note or a withdrawal; with a
+        newer round, before that one was given up."""
         later = newer.imported if newer else {}
-        lists = {label: whose for label, whose in self.imported.items()
-                 if label not in later and (whose is None or ident in whose)}
-        return bool(lists) and not any(whose and label.startswith(TAKES_PART) for label, whose in lists.items())
+        found = {label: lists for label, lists in self.imported.items()
+                 if label not in later and (lists is None or ident in lists)}
+        return (any(lists is None or lists[ident] == now for lists in found.values())
+                and not any(lists and label.startswith(TAKES_PART) for label, lists in found.items()))
 
 
 class Later(NamedTuple):
@@ -175,15 +180,15 @@ def name_lost(ident: str, rooms: list[str], back: Back) -> None:
 
 
 def compare_list(ident: str, wishes: list[str], now: list[str], had: Had, back: Back) -> None:
-    """A list of somebody who has one on record. If that is a part of it, the rest was out of use when it came back; but if the rest
-    was in use all the time, the person has taken it out."""
+    """A list of somebody who has one on record. If that came back, and is a part of it, the rest was out of use then; but if the
+    rest was in use all the time, or the person has handed in a list since, the person has taken it out."""
     back.here.append(_("{person}: a list", person=ident))
     if not is_part(now, wishes):
         return
     lacks = set(back.old[ident]).difference(now)
-    if lacks and lacks <= had.reopened:
+    if lacks and lacks <= had.reopened and had.came_in(ident, now):
         back.longer[ident] = back.old[ident]
-    if lacks <= had.reopened and had.may_be_away(ident):
+    if lacks <= had.reopened and had.may_be_away(ident, now):
         back.same.append(ident)
     name_lost(ident, [code for code in wishes if code not in now and code not in back.old[ident]], back)
 
@@ -200,7 +205,7 @@ def said_in(newer: Had, office: Office, older: Had, ident: str) -> bool:
         return True
     now, wishes = (had.choices.get(ident, []) for had in (newer, older))
     is_same = is_part(now, wishes) and older.reopened.issuperset(set(usable(office, wishes)).difference(now))
-    return bool(now) and not (is_same and older.may_be_away(ident, newer))
+    return bool(now) and not (is_same and older.may_be_away(ident, now, newer))
 
 
 def has_come_again(office: Office, ident: str, back: Back) -> bool:

@@ -46,8 +46,8 @@ def round_of(office: Office, copy: str) -> GivenUp:
 
 
 def out_of(back: Back, later: list[str]) -> TakenOut:
-    """Who is not ticked: the one person who is being undone, and who said something in a later round; or everybody whom the clerk has
-    taken out before."""
+    """Who is not ticked: the one person who is being undone, and who said something in a later round; or everybody whom the clerk
+    has taken out before."""
     query = dict(request.query)
     if "out" not in query:
         return TakenOut([*query.get("but", "").split(), *(one for one in back.away if one in later)],
