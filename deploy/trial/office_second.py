@@ -52,6 +52,20 @@ def undo_of(page, person):
     return seen_at(page, page.get(f"/office/undo/{person}")[1]["location"])
 
 
+def try_shut(stand, page):
+    """The question before a room is taken out of use says what becomes of who lives there: somebody who takes part, leaves, or has
+    withdrawn."""
+    copy, loses = stand.ask(ask="backup")["name"], "loses the room at once"
+    for line in ("going P07", "withdraw P08"):
+        stand.office(line)
+    for room, said in (("A-106", f"{loses}. In a round this person takes part like somebody without a room, and may end"),
+                       ("A-107", f"{loses}, and not only at the end of the round. This person leaves the college, and takes no"),
+                       ("A-108", f"{loses}. This person has withdrawn, so the round gives them no other one. Only after")):
+        shown = seen_at(page, f"/office/rooms/{room}/shut")
+        check(f"of {room} it says: {said}", said in shown, shown)
+    stand.ask(ask="back", name=copy)
+
+
 def try_undo_closed(stand, page):
     """A note is seen to be a mistake once the round is closed: the copy from before it is a way then, too."""
     before, lists = away(stand), stand.recorded()
@@ -60,7 +74,7 @@ def try_undo_closed(stand, page):
     shown = page.get("/office/undo/P06")[2]
     copies = re.findall(r"/office/copies/([^/]+)/back", shown)
     check("once the round is closed the page still offers the copy from before the note", len(copies) == 1
-          and "There are three ways." in flat(shown) and "undoes what happened since then: the close of the round. R" in flat(shown),
+          and "There are three ways." in flat(shown) and "what happened since then: the close of the round. R" in flat(shown),
           flat(shown))
     stand.ask(ask="draw", who="anna", seed=SEED)
     shown = seen_at(page, "/office/undo/P06")

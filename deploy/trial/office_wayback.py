@@ -19,7 +19,7 @@ sys.dont_write_bytecode = True
 # pylint: disable=wrong-import-position  # nothing may be written before
 from office_forms import boxes, filled_in, flat, seen_at, send_as_it_is
 from office_requests import Page, hand_in
-from office_second import away, fill, try_left, try_second_round, try_undo_closed, undo_of
+from office_second import away, fill, try_left, try_second_round, try_shut, try_undo_closed, undo_of
 from stand import HOST, Stand, check, key_of, unchecked
 
 LABELS = 200  # as many lists as an office takes
@@ -368,6 +368,7 @@ def try_office_wayback(program):
         stand.office("choose P11 A-109 A-110")
         try_long_way(stand, page)
         try_changed(stand, page)
+        try_shut(stand, page)
         try_undo_closed(stand, page)
         try_left(stand, page)
         try_second_round(stand, page)

@@ -31,6 +31,20 @@ def tenant_of(office: Office, code: str) -> str:
     return office.rooms[code].tenant or "" if code in office.rooms else ""
 
 
+def told_of(office: Office, tenant: str) -> str:
+    """What becomes of somebody whose room is taken out of use."""
+    person = office.people[tenant]
+    values = {"who": f"{person.name} ({tenant})", "room": person.home}
+    if person.going:
+        return _("{who} lives in {room} and loses the room at once, and not only at the end of the round. This person leaves the "
+                 "college, and takes no part in the round.", **values)
+    if person.withdrawn:
+        return _("{who} lives in {room} and loses the room at once. This person has withdrawn, so the round gives them no other "
+                 "one. Only after the round can you let them move into a free room.", **values)
+    return _("{who} lives in {room} and loses the room at once. In a round this person takes part like somebody without a room, "
+             "and may end without one.", **values)
+
+
 @app.get("/office/rooms/<code>/shut")
 def ask_shut(code: str) -> str:
     """Asks before a room is shut in which somebody lives."""
@@ -38,9 +52,7 @@ def ask_shut(code: str) -> str:
     tenant = tenant_of(office, code)
     if not tenant:
         go_to("/office/rooms")
-    name = f"{office.people[tenant].name} ({tenant})"
-    says = [_("{who} lives in {room} and loses the room at once. In a round this person takes part like somebody without a room, "
-              "and may end without one.", who=name, room=code),
+    says = [told_of(office, tenant),
             _("While a round is open nobody can be given the room back, not even by bringing it back into use."),
             _(plain.COPY_FIRST)]
     title = _("Take {room} out of use?", room=code)
