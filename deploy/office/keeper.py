@@ -29,6 +29,7 @@ from pathlib import Path
 from typing import Any, Protocol
 
 from accounts import KeyRequests
+from house_places import here
 from journal import masked
 from languages import ENGLISH, _, speak
 from keeper_requests import Requests
@@ -43,6 +44,7 @@ OPEN, ALL_OPEN = 12, 64    # connections of one account, and of all, at a time; 
 REQUEST_SECONDS = 3.0      # within which a request has to be here, from its connection on
 ANSWER_SECONDS = 20.0      # within which an answer has to be taken
 LAST_WORDS = 2.0           # seconds for the answers that are on their way when the keeper ends
+DAMAGED = (sqlite3.SQLITE_CORRUPT, sqlite3.SQLITE_NOTADB)
 OFFICE, ACCOUNTS = "office", "accounts"  # the sockets; the second is so named by FileDescriptorName= of its unit
 
 
@@ -74,6 +76,15 @@ def send(connection: socket.socket, answer: dict[str, Any]) -> None:
         connection.sendall(json.dumps(answer).encode() + b"\n")
 
 
+def fault_of(why: Exception) -> str:
+    """What a fault of the system or of SQLite's says. The mail has its own file, and a copy that is damaged is named before: so a file
+    that SQLite cannot read is the office's."""
+    if getattr(why, "sqlite_errorcode", sqlite3.SQLITE_OK) & 0xff in DAMAGED:
+        return _("the office's file is damaged ({why}). Call the administrator, who puts a copy back: {command}", why=why,
+                 command=here().command("rooms-office back NAME"))
+    return _("the file, the disk or the memory did not serve ({why})", why=why)
+
+
 class RequestHandler(socketserver.StreamRequestHandler):
     """One request, on its connection."""
 
@@ -91,7 +102,7 @@ class RequestHandler(socketserver.StreamRequestHandler):
         except FileNotFoundError as why:
             answer = {"fault": _("there is no file {path}", path=why.filename)}
         except (OSError, sqlite3.Error) as why:
-            answer = {"fault": _("the file, the disk or the memory did not serve ({why})", why=why)}
+            answer = {"fault": fault_of(why)}
         except (ValueError, TypeError, RecursionError) as why:
             answer = {"fault": f"not understood: {type(why).__name__}"}
         send(self.connection, answer)

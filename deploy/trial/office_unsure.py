@@ -127,6 +127,27 @@ def try_away(stand, between, page):
           and "make new keys for them once more" in flat(shown), flat(shown)[:2500])
 
 
+def try_damaged(stand, page):
+    """SQLite cannot read the office's file: each page says what to do, and sends nobody to a page that cannot be shown either."""
+    copy = stand.script("rooms-office", "backup").strip()
+    stand.stop_keeper()
+    with open(stand.file, "r+b") as file:
+        file.seek(4096)
+        file.write(bytes(8192))
+    stand.start_keeper()
+    for path in ("/office/", "/office/copies", "/office/journal"):
+        status, _, down = page.get(path)
+        check(f"{path} says that the file is damaged, and what to do", status == 503
+              and "The office's file is damaged (" in flat(down)
+              and "Call the administrator, who puts a copy back: rooms-office back NAME" in flat(down), flat(down))
+        check("and sends nobody to another page", "before you try again" not in flat(down), flat(down))
+    told = stand.command("view")
+    check("so does the clerk's command", "the office's file is damaged (" in told[2] and "rooms-office back NAME" in told[2], told)
+    told = stand.command("back", copy)
+    stand.until_listening(stand.server_port)
+    check("that command puts it right", told[0] == 0 and page.get("/office/")[0] == 200, told)
+
+
 def try_page(stand, between, page):
     """The page itself is killed during a yes, and then it is not there."""
     shown, held = asked(page, {"text": "T080 T081"})
@@ -160,6 +181,7 @@ def try_office_unsure(program):
         try_one(stand, between, page)
         try_removed(stand, between, page)
         try_away(stand, between, page)
+        try_damaged(stand, page)
         try_page(stand, between, page)
         keys = list(keys_of(stand).values())
         said = "".join([stand.proxy_log(), stand.log("page"), stand.log("keeper"), (stand.data / "journal").read_text("utf-8")])

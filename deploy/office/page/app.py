@@ -307,8 +307,9 @@ app.install(once)
 # --- what goes wrong
 
 def down(why: str, unsure: bool = False) -> str:
-    """The page of what cannot be shown or done, or of which nobody knows whether it was done."""
-    return views.render("down", plain=plain, why=plain.begun(why), unsure=unsure)
+    """The page of what cannot be shown or done, or of which nobody knows whether it was done. Who only wanted to read something has
+    nothing to look for."""
+    return views.render("down", plain=plain, why=plain.begun(why), unsure=unsure, pressed=unsure or request.method == "POST")
 
 
 def tell_keeper_faults(callback: Callable[..., Any]) -> Callable[..., Any]:
