@@ -8,6 +8,7 @@
 | | | who were forgotten since |
 | | | date: whether that of the round is forgotten; mark: of what would be undone, as `back` takes it |
 | given-up | name of a copy, or none | rounds: copy, number, phase of each; or what that one had, and what has changed since |
+| take-out | name of a copy, people | nothing: who does not come back of that round |
 | back | name, seen, mark, newer_keys | name: of the copy of the office of before; what has become of people, if it could be read; |
 | | | forgotten: as `compare` |
 | | | unkept: faults of figures |
@@ -24,10 +25,11 @@ from change import Change
 from dates import Dates
 from figures_back import Brought
 from figures_kept import Round
-from given_up import given_up
+from given_up import given_up, take_out
 from going_back import GoingBack, forgotten_in
 from job import Job, is_other, seen_in, text
 from languages import N_, _
+from lines import IDENTIFIER
 from office import Office
 from parting import Parting
 from program import is_refused
@@ -55,7 +57,7 @@ class CopyRequests:
     def requests(self) -> dict[str, Callable[[Job], Job]]:
         """What can be asked."""
         return {"backup": self.backup, "backups": self.list_backups, "days": self.set_days, "compare": self.compare,
-                "given-up": self.given_up, "back": self.put_back}
+                "given-up": self.given_up, "take-out": self.take_out, "back": self.put_back}
 
     def backup(self, job: Job) -> Job:
         """Keeps a copy of the office while the server runs."""
@@ -115,6 +117,14 @@ class CopyRequests:
     def given_up(self, job: Job) -> Job:
         """The rounds that were given up, or what one of them had."""
         return given_up(self.office, self.worker.view, text(job, "name") if "name" in job else None)
+
+    def take_out(self, job: Job) -> Job:
+        """Who does not come back of a round that was given up."""
+        people = job["people"]
+        if not isinstance(people, list) or not all(isinstance(one, str) and IDENTIFIER.fullmatch(one) for one in people):
+            raise Fault("not understood: people are identifiers")
+        take_out(self.office, self.worker.view, text(job, "name"), people, job["who"])
+        return {}
 
     def put_back(self, job: Job) -> Job:
         """Puts a kept copy in the office's place. The present office is copied before, even if it is damaged."""

@@ -3,12 +3,14 @@ and the lists. The office's page brings these back into a later round.
 """
 
 import contextlib
+import re
 import sqlite3
 from pathlib import Path
 from typing import Any
 
 from backups import Backups
 from branches import Branches, named_in
+from happened import Entry, lines_of
 from copies import kept_copy
 from languages import _
 from office import Office
@@ -21,6 +23,8 @@ from settings import Fault
 
 GIVE_UP, SETTLE = "cancel", "settle"  # the kinds of the copies that are made before a round is given up, or settled
 CHOICES = "choices"  # the kind of a list of lists
+# What the journal says of people whom a clerk has taken out of what comes back.
+TAKEN_OUT = re.compile(r"not back from round (\d+): (.+)")
 KEPT_LISTS = "SELECT label, body FROM list WHERE kind = ?"
 
 
@@ -72,9 +76,23 @@ def imported_since(office: Office, then: Rows, now: Rows) -> dict[str, dict[str,
             for label, is_blank in blank.items() if label in bodies}
 
 
+def taken_out(entries: list[Entry], number: int) -> list[str]:
+    """Whom a clerk has taken out of what comes back of a round."""
+    found = [TAKEN_OUT.fullmatch(line) for entry in entries for line in lines_of(entry)]
+    return sorted({person for one in found if one and int(one[1]) == number for person in one[2].split()})
+
+
+def take_out(office: Office, view: View, name: str, people: list[str], who: str) -> None:
+    """Notes whom a clerk has taken out of what comes back of the round of a copy, so that no page offers it to another clerk."""
+    numbers = {copy: number for copy, number, _phase in rounds(office.backups, view.rows())}
+    if name in numbers and people:
+        with office.journal.change(who, f"not back from round {numbers[name]}: {' '.join(people)}"):
+            pass
+
+
 def given_up(office: Office, view: View, name: str | None) -> dict[str, Any]:
     """The rounds that were given up; or, with the name of the copy of one, what that round had, whose identifiers may be
-    somebody else's by now, and which lists were imported since."""
+    somebody else's by now, whom a clerk has taken out, and which lists were imported since."""
     now = view.rows()
     found = rounds(office.backups, now)
     if name is None:
@@ -86,4 +104,5 @@ def given_up(office: Office, view: View, name: str | None) -> dict[str, Any]:
     parting = Parting(office, Branches(office.journal.entries(whole=True)), name)
     # A list that came back before a room was reopened lacks it.
     return {**had_in(rows), "others": sorted(parting.others_in(rows, now)), "imported": imported_since(office, rows, now),
+            "taken_out": taken_out(parting.fork.before_other, rows["number"]),
             "reopened": sorted(named_in(parting.fork.before_other, "reopen"))}

@@ -95,6 +95,34 @@ def try_own_list(stand, page):
     check("both lists stay", stand.recorded()["P07"] == stand.recorded()["P08"] == ["A-109", "A-110"], stand.recorded())
 
 
+def undo(page, person):
+    """A clerk undoes a withdrawal by the steps of the page, up to the last one. What the last page says."""
+    place = f"/office/undo/{person}"
+    for step in ({"step": "cancel", "sure": "yes"}, {"step": "open"}):
+        page.form(place, step, page=place)
+    link = re.findall(r'href="(/office/given-up/[^"]+)"', page.get(place)[2])
+    return seen_at(page, send_as_it_is(page, link[0]) if link else place)
+
+
+def try_undone(stand, page):
+    """A clerk undoes a withdrawal of somebody without a list. No other clerk reads that it is not back."""
+    for line in ("cancel", "open", "withdraw P09", "withdraw P10"):
+        stand.office(line)
+    shown = undo(page, "P09")
+    check("all else is back", "All else is back" in shown and away(stand) == (set(), {"P10"}), shown)
+    for path in ("/office/", "/office/step/close"):
+        check(f"{path} does not name who was undone", "P09)" not in seen_at(page, path), seen_at(page, path))
+    copy = max(name for name, _, why in stand.ask(ask="backups")["backups"] if "before cancel" in why)
+    shown = page.get(f"/office/given-up/{copy}")[2]
+    check("nor does the form tick them for another clerk", boxes(shown)[("withdrawn", "P09")] is False
+          and "Taken out: this does not come back" in shown, shown)
+    for line in ("cancel", "open", "withdraw P11"):
+        stand.office(line)
+    shown = undo(page, "P11")
+    check("also if nobody else had anything", "It is undone" in shown and "P11)" not in seen_at(page, "/office/"),
+          (shown, seen_at(page, "/office/")))
+
+
 def try_office_given_up(program):
     """All of it."""
     with Stand(program) as stand:
@@ -106,6 +134,7 @@ def try_office_given_up(program):
         given_up_twice(stand)
         try_given_up_twice(stand, page)
         try_own_list(stand, page)
+        try_undone(stand, page)
         check("the page has noted no fault of its own", "rooms-page:" not in stand.log("page"), stand.log("page"))
 
 

@@ -30,7 +30,7 @@ class GivenUp(NamedTuple):
 class Had(NamedTuple):
     """What a round had when it was given up, but for `others`, whose identifiers may be another person's by now; the rooms that
     were brought back into use since; and the lists that were imported since, by label, with the choices of each person, if they are
-    known."""
+    known; and whom a clerk has taken out of what comes back."""
 
     number: int
     withdrawn: list[str]
@@ -39,6 +39,7 @@ class Had(NamedTuple):
     others: list[str]
     reopened: set[str]
     imported: dict[str, dict[str, list[str]] | None]
+    taken_out: set[str]
 
     @property
     def people(self) -> set[str]:
@@ -74,7 +75,7 @@ class Back(NamedTuple):
     have no list on record now, or an empty one: the office's file has the same rows of both. `old` has all lists of that
     round, without rooms that nobody may list now. `longer` has those of which only a part is on record, since a room was
     out of use when they came back, and is in use again. `same` are people whose list on record is the one of that round, which
-    came in by an import: it says nothing of what they want now.
+    came in by an import: it says nothing of what they want now. `out` are people whose note or withdrawal a clerk has taken out.
     """
 
     going: list[str]
@@ -85,6 +86,7 @@ class Back(NamedTuple):
     old: dict[str, list[str]]
     longer: dict[str, list[str]]
     same: list[str]
+    out: set[str]
 
     @property
     def away(self) -> list[str]:
@@ -113,12 +115,13 @@ def had_in(copy: str) -> Had:
     withdrawn, going = ([ident for ident in found[part] if ident not in others] for part in ("withdrawn", "going"))
     choices = {ident: wishes for ident, wishes in found["choices"].items() if ident not in others}
     lost = sorted(others.intersection(found["withdrawn"] + found["going"] + list(found["choices"])))
-    return Had(found["number"], withdrawn, going, choices, lost, set(found["reopened"]), found["imported"])
+    return Had(found["number"], withdrawn, going, choices, lost, set(found["reopened"]), found["imported"], set(found["taken_out"]))
 
 
 def what_is_left(office: Office, had: Had) -> Back:
     """What of a round can come back into the round of now."""
-    back = Back([], [], {}, [], [], {ident: usable(office, wishes) for ident, wishes in had.choices.items()}, {}, [])
+    back = Back([], [], {}, [], [], {ident: usable(office, wishes) for ident, wishes in had.choices.items()}, {}, [],
+                had.taken_out)
     back.never.extend(_("{person}: the identifier may be another person's by now.", person=ident) for ident in had.others)
     for ident in had.going:
         sort_in(ident, back.going, back, why_not(office, ident, "going"))
@@ -209,9 +212,9 @@ def said_in(newer: Had, office: Office, older: Had, ident: str) -> bool:
 
 
 def has_come_again(office: Office, ident: str, back: Back) -> bool:
-    """Whether somebody who took no part has a list now, and no empty one: they seem to want to take part. A list that came back
-    says nothing: what was to follow it may have been stopped."""
-    return bool(office.choices.get(ident)) and ident not in back.same
+    """Whether somebody who took no part has a list now, and no empty one: they seem to want to take part; or a clerk has said so. A
+    list that came back says nothing: what was to follow it may have been stopped."""
+    return ident in back.out or bool(office.choices.get(ident)) and ident not in back.same
 
 
 def said_later(office: Office, copy: str, had: Had) -> list[Later]:

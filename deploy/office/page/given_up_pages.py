@@ -9,7 +9,7 @@ from languages import N_, _
 from seen import Saw, why_other
 
 import plain
-from app import app, ask, clerk, field, go_to, memory, office_now, show, tell, ticked
+from app import app, ask, clerk, field, go_to, is_done, memory, office_now, show, tell, ticked
 from coming_back import (LISTS, TAKES_PART, Back, GivenUp, bodies, had_in, has_come_again, listed, rounds, said_later,
                          what_is_left)
 from keeper_client import KeeperFault, answers_of
@@ -63,8 +63,9 @@ def rows_of(office: Office, back: Back, idents: list[str], out: list[str]) -> li
     """The people of a part of the form. People who have handed in a list since are not ticked either."""
     found = []
     for ident in idents:
-        note = (_("Taken out: this does not come back") if ident in out else
-                _("Has a list on record in this round") if has_come_again(office, ident, back) else "")
+        has_list = office.choices.get(ident) and ident not in back.same and ident not in out
+        note = (_("Has a list on record in this round") if has_list else
+                _("Taken out: this does not come back") if ident in out or ident in back.out else "")
         person = office.people[ident]
         found.append(Row(ident, person.name, person.home or _("no room"), not note, note))
     return found
@@ -103,6 +104,9 @@ def bring_back(copy: str) -> None:
         go_to(place)
     if why := why_other(office.view, Saw("all", [*back.away, *back.longer], field("saw"))):
         tell("bad", why)
+        go_to(place)
+    leave = [one for one in out.idents if not has_come_again(office, one, back)]
+    if (going or withdrawn or lists or field("longer")) and not is_done("take-out", name=copy, people=leave):
         go_to(place)
     came, before = Came(takes_part=out.idents), office
     if lists:  # before the withdrawals, as it was: nobody's list is lost by a way back later on

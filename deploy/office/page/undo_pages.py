@@ -10,7 +10,7 @@ from typing import Any, NamedTuple
 from languages import N_, _, ngettext
 
 import plain
-from app import app, ask, change, field, go_to, office_now, show, tell
+from app import app, ask, change, field, go_to, is_done, office_now, show, tell
 from coming_back import GivenUp, had_in, has_come_again, rounds, what_is_left
 from keeper_client import KeeperFault
 from office_view import Office
@@ -135,5 +135,6 @@ def take_step(ident: str) -> None:
         go_to(place)
     if step == "cancel":
         must_be_sure(place)
-    change("do", lines=[step])
+    if change("do", lines=[step]) and step == "open" and (found := given_up_with(office_now(), ident)):
+        is_done("take-out", name=found[0].copy, people=[ident])
     go_to(place)
