@@ -9,7 +9,7 @@ from collections.abc import Iterable, Iterator
 from typing import NamedTuple
 
 import times
-from happened import DONE, NOT_DONE, WENT_BACK, Entry, Happened, Known, kept_at, lines_of, merged, said_of
+from happened import DONE, LAST_STEPS, NOT_DONE, WENT_BACK, Entry, Happened, Known, kept_at, lines_of, merged, said_of
 
 SECOND = datetime.timedelta(seconds=1)
 LATEST = datetime.datetime.max.replace(tzinfo=datetime.timezone.utc) - SECOND
@@ -108,7 +108,10 @@ class Branches:
 
     def behind(self, copy: str) -> Iterator[int]:
         """The places of the entries that led to the state of a copy, the last one first."""
-        place = self.moment_of(copy).last
+        return self.led_to(self.moment_of(copy).last)
+
+    def led_to(self, place: int) -> Iterator[int]:
+        """The places of the entries that led to a state, the last one first."""
         while place > 0:
             place -= 1
             if way := self.ways.get(place):
@@ -126,6 +129,12 @@ class Branches:
         nobody knows what came before it."""
         first = self.moment_of(copy).first if times.moment_of(copy) else 0
         return named_in(self.entries[first:], "forget")
+
+    def ended(self, now: Known) -> dict[int, str]:
+        """By which step each round ended on the way to now, as far as the journal says so."""
+        happened, led = Happened(self.entries, now), set(self.led_to(self.now.last))
+        return {number: step.verb for index, step in enumerate(happened.steps) for number in happened.numbers(index)
+                if step.verb in LAST_STEPS and step.place in led and happened.outcomes[index] is not NOT_DONE}
 
     def removed_since_settled(self, now: Known) -> set[str]:
         """Who was removed since the last round was settled. Who has come in again since then did not leave in that round."""

@@ -7,7 +7,8 @@
 | compare | name | what becomes of people by going back to a copy (`compared` in parting.py); forgotten: those of who comes back |
 | | | who were forgotten since |
 | | | date: whether that of the round is forgotten; mark: of what would be undone, as `back` takes it |
-| given-up | name of a copy, or none | rounds: copy, number, phase of each; or what that one had, and what has changed since |
+| given-up | name of a copy, or none | rounds: copy, number, phase of each; gone: numbers of those without a copy; or what |
+| | | that one had, and what has changed since |
 | take-out | name of a copy, people | nothing: who does not come back of that round |
 | back | name, seen, mark, newer_keys | name: of the copy of the office of before; what has become of people, if it could be read; |
 | | | forgotten: as `compare` |

@@ -36,13 +36,18 @@ def round_in(file: Path) -> tuple[int, str] | None:
     return None
 
 
+def last_ended(now: Rows) -> int:
+    """The number of the last round that is over."""
+    return int(now["number"]) if now["phase"] == "idle" else int(now["number"]) - 1
+
+
 def rounds(backups: Backups, now: Rows) -> list[tuple[str, int, str]]:
     """The copy, the number and the phase of each round that was given up since the last one was settled, the newest first.
 
     After a way back to a copy, a round that was given up, or settled, may be under way again: then it is none. The office knows a
     settled round by its moves. One in which nobody moved is known by the copy before it was settled, as long as that one is kept.
     """
-    last = now["number"] if now["phase"] == "idle" else now["number"] - 1
+    last = last_ended(now)
     found: dict[int, tuple[str, int, str]] = {}
     settled = set(now["settled"])
     for name in reversed(backups.names()):
@@ -54,6 +59,19 @@ def rounds(backups: Backups, now: Rows) -> list[tuple[str, int, str]]:
             else:
                 found[had[0]] = (name, *had)
     return sorted((one for one in found.values() if one[1] > max(settled, default=0)), key=lambda one: one[1], reverse=True)
+
+
+def without_copy(office: Office, now: Rows, known: list[int]) -> list[int]:
+    """The other rounds that were given up since the last one was settled, by the journal, the newest first: their copies are not on
+    this machine, or cannot be read."""
+    number = last_ended(now)
+    if not set(range(max(now["settled"], default=0) + 1, number + 1)).difference(known):
+        return []
+    ended, found = Branches(office.journal.entries(whole=True)).ended((now["number"], now["phase"])), []
+    while number > max(now["settled"], default=0) and ended.get(number, GIVE_UP) == GIVE_UP:
+        found += [number] if number in ended and number not in known else []
+        number -= 1
+    return found
 
 
 def had_in(rows: Rows) -> dict[str, Any]:
@@ -91,12 +109,12 @@ def take_out(office: Office, view: View, name: str, people: list[str], who: str)
 
 
 def given_up(office: Office, view: View, name: str | None) -> dict[str, Any]:
-    """The rounds that were given up; or, with the name of the copy of one, what that round had, whose identifiers may be
-    somebody else's by now, whom a clerk has taken out, and which lists were imported since."""
+    """The rounds that were given up, and those of them of which there is no copy; or, with the name of the copy of one, what that
+    round had, whose identifiers may be somebody else's by now, whom a clerk has taken out, and which lists were imported since."""
     now = view.rows()
     found = rounds(office.backups, now)
     if name is None:
-        return {"rounds": found}
+        return {"rounds": found, "gone": without_copy(office, now, [number for _copy, number, _phase in found])}
     if name not in [copy for copy, _, _ in found]:
         raise Fault(_("no round was given up after this copy was made, or the copy is gone"))
     with office.backups.taken_out(name) as copy:

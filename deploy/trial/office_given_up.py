@@ -5,6 +5,7 @@ one is named until that is back, too. What people said themselves in the second 
 """
 
 import re
+import shutil
 import sys
 from pathlib import Path
 
@@ -14,7 +15,7 @@ sys.dont_write_bytecode = True
 # pylint: disable=wrong-import-position  # nothing may be written before
 from office_forms import boxes, seen_at, send_as_it_is
 from office_requests import Page, hand_in
-from office_second import away, fill
+from office_second import away, fill, finish_round
 from stand import Stand, check, key_of
 
 LISTS = {"P01": "A-109", "P02": "A-110 A-111", "P03": "A-111", "P04": "A-112", "P05": "A-109 A-112", "P06": "A-110",
@@ -123,6 +124,35 @@ def try_undone(stand, page):
           (shown, seen_at(page, "/office/")))
 
 
+def try_gone(stand, page):
+    """The copy of a round that was given up is not here, as on a new machine. The journal knows the round, and the page says so
+    until a round is settled."""
+    for line in ("cancel", "open", "withdraw P12", "cancel"):
+        stand.office(line)
+    number, gone = stand.ask(ask="view")["number"], "The copy from before it was given up is not on this machine, or is damaged."
+    copies = sorted(name for name, _, why in stand.ask(ask="backups")["backups"] if "before cancel" in why)
+    shutil.rmtree(stand.data / "backups" / copies[-1])
+    shown = seen_at(page, "/office/")
+    check("while no round is open the overview says what cannot come back", f"Round {number} was given up {gone}" in shown, shown)
+    stand.office("open")
+    for path in ("/office/", "/office/step/close"):
+        shown = seen_at(page, path)
+        check(f"{path} says that nobody knows what is not back", re.search(
+            f"From round {number}, which was given up:? [Nn]obody knows here what of it is not back: the copy", shown), shown)
+    shown = seen_at(page, f"/office/given-up/{copies[-3]}")
+    check("so does the page of a round before", f"Round {number} was given up later, and nobody knows of whom" in shown, shown)
+    check("and nobody is led to a copy that is not here", copies[-1] not in page.get("/office/")[2])
+    finish_round(stand)
+    stand.office("settle")
+    check("once a round is settled nothing says so", "was given up" not in seen_at(page, "/office/"), seen_at(page, "/office/"))
+    for line in ("open", "cancel"):
+        stand.office(line)
+    copy = max(name for name, _, why in stand.ask(ask="backups")["backups"] if "before cancel" in why)
+    (stand.data / "backups" / copy / "rooms.db").write_bytes(b"no office")
+    shown = seen_at(page, "/office/")
+    check("a copy of which nobody can read the round is named, too", f"Round {number + 2} was given up {gone}" in shown, shown)
+
+
 def try_office_given_up(program):
     """All of it."""
     with Stand(program) as stand:
@@ -135,6 +165,7 @@ def try_office_given_up(program):
         try_given_up_twice(stand, page)
         try_own_list(stand, page)
         try_undone(stand, page)
+        try_gone(stand, page)
         check("the page has noted no fault of its own", "rooms-page:" not in stand.log("page"), stand.log("page"))
 
 

@@ -14,6 +14,8 @@ from keeper_client import KeeperFault
 from office_view import Office
 
 MOST_NAMED = 10
+NOT_HERE = N_("its copy is not on this machine, or is damaged")
+GONE = N_("nobody knows here what of it is not back: the copy from before it was given up is not on this machine, or is damaged")
 # The labels of lists that come back. The lists of people whom the clerk has taken out, so that they take part again, have a label
 # of their own: so the office's file says whose list came back without a note or a withdrawal after it.
 LISTS, TAKES_PART = "choices", "takes-part"
@@ -105,6 +107,16 @@ def rounds(office: Office) -> list[GivenUp]:
     try:
         return [GivenUp(*found) for found in ask("given-up")["rounds"]]
     except KeeperFault:  # no copy can be read, and the page Copies says why; what the clerk asked for goes on
+        return []
+
+
+def without_copy(office: Office) -> list[int]:
+    """The numbers of the rounds that were given up, and whose copies are not here, the newest first."""
+    if office.phase not in ("idle", "open"):
+        return []
+    try:
+        return [int(number) for number in ask("given-up")["gone"]]
+    except KeeperFault:  # as above
         return []
 
 
@@ -224,6 +236,7 @@ def said_later(office: Office, copy: str, had: Had) -> list[Later]:
     later: list[Later] = []
     for given_up in rounds(office):
         if given_up.copy == copy:
+            later += [Later(number, [], _(NOT_HERE)) for number in without_copy(office) if number > given_up.number]
             break
         try:
             newer = had_in(given_up.copy)
@@ -247,7 +260,9 @@ def all_missing(office: Office) -> list[tuple[GivenUp, str]]:
         if missing := missing_of(office, had, newer):
             found.append((given_up, missing))
         newer.append(had)
-    return found
+    if office.phase == "open":
+        found += [(GivenUp("", number, ""), _(GONE)) for number in without_copy(office)]
+    return sorted(found, key=lambda one: one[0].number, reverse=True)
 
 
 def missing_of(office: Office, had: Had, newer: list[Had]) -> str:

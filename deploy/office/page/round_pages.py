@@ -43,7 +43,8 @@ def overview() -> str:
     given_up = coming_back.rounds(office) if office.phase == "idle" else []
     stopped = None if office.serves else why_stopped(office.ended)
     return show("overview", office=office, faults=explaining.faults_of(office), stopped=stopped, given_up=given_up,
-                missing=coming_back.all_missing(office))
+                missing=coming_back.all_missing(office),
+                without_copy=coming_back.without_copy(office) if office.phase == "idle" else [])
 
 
 def why_stopped(status: int | None) -> plain.Meaning:
@@ -89,7 +90,8 @@ def warnings(office: Office, step: str) -> list[str]:
                              len(office.left), number=office.number))
     for given_up, missing in coming_back.all_missing(office) if step == "close" else ():
         says.append(_("From round {number}, which was given up: {missing}. The overview leads to it.",
-                      number=given_up.number, missing=missing))
+                      number=given_up.number, missing=missing) if given_up.copy else
+                    _("From round {number}, which was given up: {missing}.", number=given_up.number, missing=missing))
     if step == "close" and office.without_list:
         says.append(ngettext("{count} of {all} participants has no list on record, or an empty one.",
                              "{count} of {all} participants have no list on record, or an empty one.", len(office.without_list),

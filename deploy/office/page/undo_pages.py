@@ -11,7 +11,7 @@ from languages import N_, _, ngettext
 
 import plain
 from app import app, ask, change, field, go_to, is_done, office_now, show, tell
-from coming_back import GivenUp, had_in, has_come_again, rounds, what_is_left
+from coming_back import GivenUp, had_in, has_come_again, rounds, what_is_left, without_copy
 from keeper_client import KeeperFault
 from office_view import Office
 from people_pages import person_of
@@ -50,6 +50,8 @@ def part_of(office: Office, ident: str) -> str:
 def given_up_with(office: Office, ident: str) -> tuple[GivenUp, str] | None:
     """The last round that was given up, if the person took no part in it, and why."""
     for found in rounds(office)[:1]:
+        if any(number > found.number for number in without_copy(office)):
+            break
         had = had_in(found.copy)
         if ident in had.withdrawn + had.going:
             return found, WITHDRAWN if ident in had.withdrawn else GOING
