@@ -8,7 +8,8 @@ from languages import N_, _, filled
 RESTARTED = N_("the keeper was started again")
 ENDED_MEANWHILE = N_("the keeper was ended, or could not write, while this message was on its way")
 FAILED = N_("the keeper failed ({kind})")
-GONE_ON = N_("the round has gone on")
+GONE_ON = N_("the round was not at this step any more")
+GONE_ON_EARLIER = N_("the round has gone on")  # as versions up to 3.1.0 wrote it
 MANY_REFUSED = N_("the mail server has refused {count} messages one after the other")
 # Of these two the file of the mail has the first text alone. Whose message it was, and what the mail server answered, stands with
 # that message, and is erased with its person.
@@ -28,8 +29,8 @@ UNREADABLE = N_("{path} cannot be read ({why}). Tell the administrator.")
 NOT_WRITTEN = N_("{path} is not written as it should be ({kind}). Tell the administrator.")
 WRONG = N_("{path}: {why}. Tell the administrator.")
 
-ALL = (RESTARTED, ENDED_MEANWHILE, FAILED, GONE_ON, MANY_REFUSED, TAKES_NONE, AWAY, NOBODY_KNOWS, UNKNOWN, UNWRITTEN, STOPPED,
-       GIVEN_UP, NO_ANSWER, ANSWERS, BROKEN, NO_MAIL, UNREADABLE, NOT_WRITTEN, WRONG)
+ALL = (RESTARTED, ENDED_MEANWHILE, FAILED, GONE_ON, GONE_ON_EARLIER, MANY_REFUSED, TAKES_NONE, AWAY, NOBODY_KNOWS, UNKNOWN,
+       UNWRITTEN, STOPPED, GIVEN_UP, NO_ANSWER, ANSWERS, BROKEN, NO_MAIL, UNREADABLE, NOT_WRITTEN, WRONG)
 
 
 def kept(text: str, **values: object) -> str:

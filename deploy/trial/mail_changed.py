@@ -186,6 +186,39 @@ def try_ended_late(stand, page, server):
     check("and what was erased does not come back", not [one for one in kept if one[:2] == ["results", 2]], kept)
 
 
+def stopped(page):
+    """What the page of mail says of a run that was stopped."""
+    return flat(page.get(FORM)[2]).partition(": stopped ")[2].partition(" Begun by ")[0]
+
+
+def try_step_gone(stand, page, server):
+    """Messages wait while the mail server is away, and the office goes on, goes back, or gives the round up: what the page says of
+    what waits is so."""
+    before = stand.ask(ask="backup")["name"]
+    publish(stand)
+    server.stop()
+    press(page, "results")
+    check("messages of results wait", rest(stand)["state"] == "paused" and "Nothing is lost" in stopped(page), stopped(page))
+    copy, told = stand.ask(ask="backup")["name"], "Tell these people in another way"
+    for how, act, said in (
+            ("back before the results", lambda: stand.ask(ask="back", name=before), "does not count now. Tell it to nobody"),
+            ("given up then", lambda: stand.office("cancel"), "not at this step any more. What waits cannot be sent any more, and"),
+            ("back at the results", lambda: stand.ask(ask="back", name=copy), "Nothing is lost: what waits is not sent yet."),
+            ("settled", lambda: stand.office("settle"), f"has gone on since: what waits cannot be sent any more. {told}")):
+        act()
+        shown = stopped(page)
+        check(f"{how} the page says so", said in shown and (how == "settled") == (told in shown), shown)
+    page.form(f"{FORM}/run", {"act": "give-up"}, page=FORM)
+    stand.office("open")
+    press(page, "reminder")
+    check("reminders wait", rest(stand)["state"] == "paused", rest(stand))
+    stand.office("close")
+    check("nobody is told to hand in a list once the round is closed", "and is of no use. Give it up." in stopped(page)
+          and told not in stopped(page), stopped(page))
+    page.form(f"{FORM}/run", {"act": "give-up"}, page=FORM)
+    server.start()
+
+
 def try_mail_changed(program):
     """All of it."""
     with MailServer() as server, Stand(program) as stand:
@@ -206,6 +239,7 @@ def try_mail_changed(program):
         try_given_up(stand, page, server, before)
         try_erased(stand, page, server)
         try_ended_late(stand, page, server)
+        try_step_gone(stand, page, server)
         check("no address, name or key is in a log or in the journal", not logs_of(stand), logs_of(stand))
 
 

@@ -269,7 +269,7 @@ def try_settling(stand, page, server):
           and 'value="give-up"' in shown and 'value="go-on"' not in shown, shown)
     for person, count, said in (("T03", 2, "It waited for 1 person, too, who is out of the register since: the name is erased."),
                                 ("T04", 1, "It waited for 2 people, too, who are out of the register since: their names are"),
-                                ("T01", 0, "nothing waits any more. Give it up. It waited for 3 people, too,")):
+                                ("T01", 0, "and nothing waits. Give it up. It waited for 3 people, too,")):
         home = next(row[2] for row in stand.ask(ask="view")["people"] if row[0] == person)
         stand.ask(ask="do", lines=[*([f"leave {person}"] if home else []), f"remove {person}"])
         shown = flat(page.get(FORM)[2])

@@ -12,6 +12,7 @@ from seen import stamp_of
 from told import mark_of
 
 import explaining
+import plain
 from app import app, ask, field, go_to, office_now, residents_page, show, tell, tell_fault, text_of
 from keeper_client import KeeperFault
 from office_view import Office
@@ -52,11 +53,27 @@ def waiting_in(run: dict[str, Any] | None, office: Office, kind: str) -> int:
     return int(run["waiting"])
 
 
+def since(office: Office, run: dict[str, Any]) -> str:
+    """Where the office is since a run began: at the same step, or `back` before it; `on` behind it, if the results of that round
+    count; or behind it with nothing that would still be worth telling: the round is closed, or was given up."""
+    number, phase, order = run["round"], KINDS[run["kind"]].phase, list(plain.PHASES)
+    if office.stamp == stamp_of(number, phase):
+        return ""
+    if office.number < number or office.number == number and "idle" != office.phase and (
+            order.index(office.phase) < order.index(phase)):
+        return "back"
+    found = ask("given-up")
+    given_up = [*(one for _copy, one, _phase in found["rounds"]), *found["gone"]]
+    return "on" if phase == "published" and number not in given_up else "over"
+
+
 @app.get(HOME)
 def mail() -> str:
     """Who has an address, what is being sent, and the kinds of messages."""
-    return show("mail", office=office_now(), mail=ask("mail"), kinds=KINDS, in_words=in_words, stamp_of=stamp_of,
-                waiting_in=waiting_in)
+    office, mail_now = office_now(), ask("mail")
+    run = mail_now["run"]
+    return show("mail", office=office, mail=mail_now, kinds=KINDS, in_words=in_words, waiting_in=waiting_in,
+                gone=since(office, run) if run and run["state"] == "paused" else "")
 
 
 # --- a kind of message
