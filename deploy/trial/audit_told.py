@@ -17,6 +17,7 @@ from stand import OFFICE, check
 sys.path[1:1] = [str(OFFICE / "page"), str(OFFICE)]
 
 import audit_words  # type: ignore[import]  # pylint: disable=import-error  # it is in the folder of the page
+import explaining  # type: ignore[import]  # pylint: disable=import-error  # as above
 from audit import Audit
 from made_up_language import between, outside
 
@@ -39,8 +40,25 @@ def drawn(chance):
     }
 
 
+def try_chain():
+    """P0 got the room of P1, who got a vacant one: P2 reads of an exchange, and of none between these two."""
+    rooms = ["R-0", "R-1", "R-2"]
+    found = explaining.Explainer(Audit({
+        "rooms": [(room, False) for room in rooms],
+        "people": [("P0", "", "R-0", False), ("P1", "", "R-1", False), ("P2", "", None, False)],
+        "choices": {"P0": ["R-1"], "P1": ["R-2"], "P2": ["R-1"]},
+        "words": [(f"P{place}", f"{place:016x}") for place in range(3)],
+        "results": [("P0", "R-1"), ("P1", "R-2"), ("P2", None)]})).facts_of("P2").gone
+    check("a letter says that who lived there got another room", [explaining.to_a_resident(one) for one in found] == [
+        "R-1, your choice 1, went to the resident at place 1, in an exchange in which the resident who lived there got another "
+        "room."], found)
+    check("and the office reads which", [explaining.to_whom(one) for one in found] == [
+        "R-1, choice 1, went in step 1 to P0, at place 1, in an exchange in which P1, who lived there, got R-2."], found)
+
+
 def try_audit_told():
     """The audit reports what it finds in drawn rounds in English as it is, and in another language whole."""
+    try_chain()
     chance = random.Random(2027)
     found = [fault for _ in range(ROUNDS) for fault in Audit(drawn(chance)).faults()]
     used = []

@@ -19,13 +19,14 @@ if TYPE_CHECKING:
 class Gone(NamedTuple):
     """A better room that another person got, as the audit found it, with that person's place in the order.
 
-    `tenant` is the person who lived there and gave it up in an exchange; if it is the own room of the person who got
-    it, that person.
+    `tenant` is the person who lived there and gave it up in an exchange, in which that person got `new`; if it is the own room of
+    the person who got it, that person.
     """
 
     found: "audit.Gone"
     place: int
     tenant: str
+    new: str
 
 
 class Facts(NamedTuple):
@@ -103,7 +104,8 @@ class Explainer:
 
     def gone(self, found: "audit.Gone") -> Gone:
         """A better room, with what its sentence needs."""
-        return Gone(found, self.place[found.to], found.giver if self.audit.home[found.giver] == found.room else "")
+        tenant = found.giver if self.audit.home[found.giver] == found.room else ""
+        return Gone(found, self.place[found.to], tenant, self.audit.got[found.giver] or "")
 
 
 def explainer_of(office: Office) -> Explainer | None:
@@ -161,8 +163,8 @@ def to_whom(gone: Gone) -> str:
     if gone.tenant == found.to:
         return _("{room}, choice {choice}, stayed in step {step} with {other}, who lives there.", **values)
     if gone.tenant:
-        return _("{room}, choice {choice}, went in step {step} to {other}, at place {place}, in an exchange with {tenant}, who "
-                 "lived there.", **values, place=gone.place, tenant=gone.tenant)
+        return _("{room}, choice {choice}, went in step {step} to {other}, at place {place}, in an exchange in which {tenant}, who "
+                 "lived there, got {new}.", **values, place=gone.place, tenant=gone.tenant, new=gone.new)
     return _("{room}, choice {choice}, went in step {step} to {other}, at place {place}.", **values, place=gone.place)
 
 
@@ -172,8 +174,8 @@ def to_a_resident(gone: Gone) -> str:
     if gone.tenant == gone.found.to:
         return _("{room}, your choice {choice}, stayed with the resident who lives there.", **values)
     if gone.tenant:
-        return _("{room}, your choice {choice}, went to the resident at place {place}, in an exchange with the resident who lived "
-                 "there.", **values, place=gone.place)
+        return _("{room}, your choice {choice}, went to the resident at place {place}, in an exchange in which the resident who "
+                 "lived there got another room.", **values, place=gone.place)
     return _("{room}, your choice {choice}, went to the resident at place {place}.", **values, place=gone.place)
 
 
