@@ -122,6 +122,16 @@ def try_left(stand, page):
     check("and removes those who are ticked", set(PEOPLE) - people_of(stand) == {"P06", "P11"}, people_of(stand))
     stand.office("home P07 A-106")
     check("who has a room again is not offered", page.get("/office/left")[1].get("location") == "/office/")
+    check("since nobody of those who left is there", "Nobody who left the college in the last round" in seen_at(page, "/office/"))
+    copy = stand.ask(ask="backup")["name"]
+    for line in ("open", "cancel"):
+        stand.office(line)
+    page.get("/office/left")
+    shown = seen_at(page, "/office/")
+    check("after a round that was given up the page says that it does not know who left", "the page does not know it any more"
+          in shown and "Nobody who left" not in shown, shown)
+    stand.ask(ask="back", name=copy)
+    seen_at(page, "/office/")
 
 
 def try_second_round(stand, page):
