@@ -3,7 +3,8 @@
 | ask | fields | answer |
 |---|---|---|
 | mail | | from; per_minute; with, without: who has an address; strangers; run; kinds (mail_state.py) |
-| mail-show | kind, link, person, language, subject, body | to, subject, body: the message as this person gets it, if in this |
+| mail-show | kind, link, person, language, subject, body | none: whether this person gets none, though it can be sent; |
+| | | to, subject, body: the message as this person gets it, if in this |
 | | | language; gets: in which one they get it; faults: of the text |
 | mail-text | kind, language, subject, body, saw | nothing: the text is kept |
 | mail-send | kind, mark, link, seen | to: to how many people it goes now |
@@ -25,7 +26,7 @@ from collections.abc import Callable
 from job import Job, is_other
 from languages import _, languages, ngettext, speaking
 from mail_book import ENDED, PAUSED, RUNNING, Book, Run
-from mail_people import values_of
+from mail_people import goes_to, values_of
 from mail_receipts import Receipts, receipt_to
 from mail_run import LAST_WORDS, Sender
 from mail_settings import must_read
@@ -193,7 +194,9 @@ class Post:  # pylint: disable=too-many-instance-attributes  # the parts of the 
             with speaking(language):
                 shown = filled(text, values_of(kind, rows, person, link, self.sender.moves(rows)))
         gets = self.state.texts(kind).language_for(self.languages.of(person))
-        return {"faults": [], "to": self.book.address(person), "subject": shown.subject, "body": shown.body, "gets": gets}
+        is_sent = kind != RECEIPT and rows["phase"] == KINDS[kind].phase
+        return {"faults": [], "none": is_sent and person not in goes_to(kind, rows, self.sender.moves(rows)),
+                "to": self.book.address(person), "subject": shown.subject, "body": shown.body, "gets": gets}
 
     # --- texts, and another turn
 

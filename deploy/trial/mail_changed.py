@@ -106,6 +106,9 @@ def try_moves(stand, page, server):
           and "Tell them in another way" in shown, shown)
     got = sent_by(page, stand, server, "moves")
     check("the one who moves reads when", list(got) == [mail_of("T04")], got)
+    shown = flat(page.get(f"{FORM}/moves/in/en/to/T01")[2])
+    check("who gets no such message reads no message", "gets no such message now. It goes to everybody who moves." in shown
+          and "not known yet" not in shown, shown)
     shown = flat(page.get(f"{FORM}/moves/again")[2])
     check("and another one can be begun", "1 person has got this message. If you go on, they can get another one" in shown, shown)
     shown = flat(page.get("/office/about/T04")[2])

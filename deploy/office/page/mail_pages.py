@@ -84,8 +84,8 @@ def text_of_form() -> Text:
 
 
 def shown_to(state: dict[str, Any], office: Office) -> str:
-    """For whom a message is shown, unless the clerk chooses: the first person who would get it, or anybody."""
-    return next(iter([*state["to"], *office.people]), "")
+    """For whom a message is shown, unless the clerk chooses: the first person who would get it, or has got it, or anybody."""
+    return next(iter([*state["to"], *(one for one, *_rest in state["sent"]), *office.people]), "")
 
 
 def name_of(language: str) -> str:
