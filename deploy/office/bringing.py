@@ -1,7 +1,7 @@
 """Brings the parts of a machine's backup that are beside the office's file, one file after the other.
 
-Nothing that is there is lost: a file that differs gets a second name beside it, and what was there is named, with a word if
-it is newer than the backup's.
+Nothing that is there is lost: a file that differs gets a second name beside it, for its owner alone, and what was there is named,
+with a word if it is newer than the backup's.
 """
 
 import contextlib
@@ -103,6 +103,8 @@ def bring(goal: Goal, owner: Owner) -> str:
             os.link(goal.target, old, follow_symlinks=False)
             said += f"; what was there{newer} is kept: {old}"
         part.rename(goal.target)
+        if there and not old.is_symlink():  # it may name somebody who is forgotten since
+            old.chmod(0o600)
         to_disk(goal.target.parent)
     return said
 

@@ -312,6 +312,7 @@ def other_pictures(new, made):
     texts, kept = (list((new.folder / "told").glob(f"{name}.before-*")) for name in ("told.json.gz", added))
     check("the text and its picture are kept beside, and it says so", told[0] == 0 and len(texts) == 1 and len(kept) == 1
           and kept[0].read_bytes() == picture and f"which is kept: {kept[0]}" in told[1], (told, texts, kept))
+    check("and the text is for its owner alone", [one.stat().st_mode & 0o777 for one in texts] == [0o600], texts)
     check("residents do not see it", added not in pictures_of(new), pictures_of(new))
 
 
