@@ -126,7 +126,8 @@ def went_back_texts(answer: dict[str, Any], command: Callable[[str], str]) -> li
             *([come_again_text(come)] if come else []),
             *([forgotten_text(forgotten, command("rooms-office forget PERSON"))] if forgotten else []),
             *([f"these people had another list, which does not count now: {lost}. Tell them so"] if lost else []),
-            *([f"the withdrawal, or the note that they leave the college, is again as it was: {away}. Tell them so"] if away else []),
+            *([f"the withdrawal, or the note that they leave the college, is again as it was: {away}. Tell them so"]
+              if away else []),
             *([answer["unkept"]] if answer.get("unkept") else [])]
 
 

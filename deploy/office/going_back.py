@@ -65,8 +65,8 @@ class GoingBack:
         return self.found.get("newer_now", []) if self.newer_keys else []
 
     def prepare(self) -> None:
-        """Just before the copy takes the office's place: erases what the keeper has beside the register of people who may be somebody
-        else in the copy, and lets receipts know of the others what they saw."""
+        """Just before the copy takes the office's place: erases what the keeper has beside the register of people who may be
+        somebody else in the copy, and lets receipts know of the others what they saw."""
         people = set(self.found["gone"])
         self.found["gone"] = sorted(self.beside.with_something(people))
         self.beside.erase_others(people)

@@ -77,8 +77,8 @@ def send(connection: socket.socket, answer: dict[str, Any]) -> None:
 
 
 def fault_of(why: Exception) -> str:
-    """What a fault of the system or of SQLite's says. The mail has its own file, and a copy that is damaged is named before: so a file
-    that SQLite cannot read is the office's."""
+    """What a fault of the system or of SQLite's says. The mail has its own file, and a copy that is damaged is named before: so a
+    file that SQLite cannot read is the office's."""
     if getattr(why, "sqlite_errorcode", sqlite3.SQLITE_OK) & 0xff in DAMAGED:
         return _("the office's file is damaged ({why}). Call the administrator, who puts a copy back: {command}", why=why,
                  command=here().command("rooms-office back NAME"))

@@ -98,8 +98,8 @@ class Receipts:  # pylint: disable=too-many-instance-attributes  # the parts of 
                 self.book.begin_round(self.worker.view.rows()["number"], {})
 
     def going_back(self, before: Rows, then: Rows, others: list[str]) -> None:
-        """The office is about to go back to a copy of the same round. Who changed something lately knows of that, and gets a receipt
-        of what counts then, also if there was none yet of the change; not who may be somebody else there."""
+        """The office is about to go back to a copy of the same round. Who changed something lately knows of that, and gets a
+        receipt of what counts then, also if there was none yet of the change; not who may be somebody else there."""
         with self.lock:
             wanted = self.book.wanted()
             if not wanted.on or not wanted.round == before["number"] == then["number"] or before["phase"] == "idle":
