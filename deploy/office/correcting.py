@@ -22,7 +22,8 @@ from change import Change
 from job import Job, identifier_in, saw_in, seen_in, text
 from journal import masked, masked_line, spoken_of
 from languages import _
-from lines import IDENTIFIER, LABEL, UNAVAILABLE, gone_by, name_shows_a_key, named
+from lines import IDENTIFIER, LABEL, UNAVAILABLE, gone_by, name_shows_a_key, named, verb_of
+from meanings import failed, meaning_of
 from office import Office
 from program import NOT_UNDERSTOOD, Answer, is_refused
 from register import homes_in
@@ -38,21 +39,13 @@ PARTS = ("key", "name")
 def why_refused(line: str, answer: Answer, reached: bool) -> str:
     """Why the program has not carried out a line `name`, `key` or `blank`, as a clerk reads it. `reached` is whether it was to do
     so in the office's file: what it does on a copy takes no effect."""
-    verb, what = line.split(" ")[:2]
-    said, number = "; ".join(answer.text.splitlines()), answer.text.split()[1:2]
+    said = "; ".join(answer.text.splitlines())
     if answer.status == UNAVAILABLE:
-        return (_("the disk or the memory did not serve ({why}). Look whether this took effect.", why=said) if reached else
-                _("the disk or the memory did not serve ({why}).", why=said))
-    if number == ["25"]:
-        return _("no list has come in under the label {label}.", label=repr(what))
-    if verb == "blank":
-        return _("the program does not blank this list ({said}).", said=said)
-    if number == ["2"]:
-        return _("nobody has the identifier {person}.", person=repr(what))
-    if number == ["6"]:
-        return _("another person has this key.")
-    return _("the program does not take this name or key ({said}). A name is not empty and has at most 60 bytes, of which a letter "
-             "with an accent takes two; a key has 16 to 64 small letters and digits.", said=said)
+        return failed(said, reached)
+    if answer.status == NOT_UNDERSTOOD.status and verb_of(line) in PARTS:
+        return _("the program does not take this name or key ({said}). A name is not empty and has at most 60 bytes, of which a "
+                 "letter with an accent takes two; a key has 16 to 64 small letters and digits.", said=said.strip())
+    return str(meaning_of(answer.text))
 
 
 def unchanged(why: str, answer: Answer = NOT_UNDERSTOOD) -> Fault:
@@ -70,8 +63,8 @@ def refusal(lines: list[str], answers: list[Answer], reached: bool) -> Fault:
 def half_corrected(line: str, answer: Answer) -> Fault:
     """The fault of the second line of a correction, after which the new key works."""
     if answer.status == UNAVAILABLE:
-        return NotKnown(_("the new key works. Then the disk or the memory did not serve ({why}): look whether the name is another "
-                          "one, too.", why="; ".join(answer.text.splitlines())))
+        return NotKnown(_("the new key works. Then the file, the disk or the memory failed ({why}): look whether the name is "
+                          "another one, too.", why="; ".join(answer.text.splitlines())))
     return Fault(_("{why} The new key works, and the name is as it was.", why=why_refused(line, answer, True)))
 
 
@@ -79,7 +72,7 @@ def lines_for(person: str, values: dict[str, str]) -> list[str]:
     """The lines that correct a person. The program would take away spaces that are too many, and so another value than it gets."""
     lines = [f"{part} {person} {values[part]}" for part in PARTS if part in values]
     if not IDENTIFIER.fullmatch(person):
-        raise unchanged(_("nobody has the identifier {person}.", person=repr(person)))
+        raise unchanged(str(meaning_of("refused 2 UnknownPerson")))
     for line in lines:
         if not all(line.split(" ")) or line.endswith("\r"):
             raise unchanged(why_refused(line, NOT_UNDERSTOOD, False))
@@ -101,7 +94,7 @@ class Corrections:
         label = text(job, "label")
         lines = [f"blank {label}"]
         if not LABEL.fullmatch(label):
-            raise unchanged(_("no list has come in under the label {label}.", label=repr(label)))
+            raise unchanged(str(meaning_of("refused 25 UnknownLabel")))
         change = self.worker.change(Change(job["who"], masked(lines[0]), lambda file: self.program.tell_all(lines, file),
                                            lines=lines, erases=True, seen=seen_in(job)))
         if is_refused(change.answers):

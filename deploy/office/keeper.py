@@ -33,6 +33,7 @@ from house_places import here
 from journal import masked
 from languages import ENGLISH, _, speak
 from keeper_requests import Requests
+from meanings import failed
 from office import Office
 from register import people_in
 from settings import Fault, Refused, Settings, from_environment
@@ -82,7 +83,7 @@ def fault_of(why: Exception) -> str:
     if getattr(why, "sqlite_errorcode", sqlite3.SQLITE_OK) & 0xff in DAMAGED:
         return _("the office's file is damaged ({why}). Call the administrator, who puts a copy back: {command}", why=why,
                  command=here().command("rooms-office back NAME"))
-    return _("the file, the disk or the memory did not serve ({why})", why=why)
+    return failed(why, False)
 
 
 class RequestHandler(socketserver.StreamRequestHandler):

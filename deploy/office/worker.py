@@ -22,6 +22,7 @@ from change import Change, besides
 from copies import make_whole
 from languages import _, in_english, speaking, what_says
 from lines import NOT_TAKEN, reason_to_copy
+from meanings import failed
 from office import Office
 from program import Answer, NotOpened, Unanswered, is_refused
 from register import people_in
@@ -196,9 +197,8 @@ class Worker:  # pylint: disable=too-many-instance-attributes  # the parts of th
                 change.fault, change.unknown = what_says(fault), fault.unknown
             except (OSError, sqlite3.Error) as fault:
                 change.unknown = change.reached
-                change.fault = (_("the disk or the memory did not serve ({why}). Look whether this took effect.", why=fault)
-                                if change.reached else
-                                _("the disk or the memory did not serve ({why}). Nothing was changed.", why=fault))
+                why = failed(fault, change.reached)
+                change.fault = why if change.reached else _("{why} Nothing was changed.", why=why)
             finally:
                 change.done.set()
 

@@ -97,8 +97,8 @@ def try_lines(stand):
     check("a label of no list is refused", told[:2] == (1, "refused 25 UnknownLabel\n"), told)
     for label in ("none", "No Label", "a\nb", ""):
         answer = stand.ask(ask="blank", label=label)
-        check(f"and {label!r} by the command", answer["fault"] == f"no list has come in under the label {label!r}. Nothing was "
-              "changed.", answer)
+        check(f"and {label!r} by the command", answer["fault"] == "No list has come in under this label. The page Lists in has the "
+              "labels. Nothing was changed.", answer)
 
 
 def alarms(stand):

@@ -51,7 +51,7 @@ def refused(stand, **job):
     """Whether the keeper says in words that the disk is full and nothing was changed."""
     answer = stand.ask(**job)
     said = answer.get("fault", "") or str(answer.get("answers"))
-    return "Nothing was changed" in said or "did not serve" in said or "unavailable" in said, said
+    return "Nothing was changed" in said or "memory failed" in said or "unavailable" in said, said
 
 
 def hand_in(stand):

@@ -210,7 +210,7 @@ def corrected(stand, is_program):
     check("and the old one is nobody's", told[:2] == (1, "refused 2 UnknownPerson\n"), told)
     check("a key can be given", stand.ask(ask="correct", person="R7", key=new)["corrected"] == "R7")
     answer = stand.ask(ask="correct", person="R9", key=new)
-    check("but not another person's", "another person has this key" in answer["fault"], answer)
+    check("but not another person's", "Another person has this key. Choose another key." in answer["fault"], answer)
     wrong = [{"person": "NOBODY", "name": "No One"}, {"person": "R9"}]
     wrong += [{"person": "R9", "name": "Two  Spaces"}, {"person": "R9", "key": "short"}] if is_program else []
     for values in wrong:
@@ -278,7 +278,7 @@ def blanked(stand):
         check(f"{body!r} under its label is another list", is_told, told)
     check("the rooms are as before", stand.office("rooms") == rooms)
     told = stand.command("blank", "no-such")
-    is_told = told[:2] == (1, "refused 25 UnknownLabel\n") and "no list has come in" in told[2]
+    is_told = told[:2] == (1, "refused 25 UnknownLabel\n") and "No list has come in" in told[2]
     check("a label that nobody gave is named", is_told, told)
 
 

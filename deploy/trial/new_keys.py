@@ -95,7 +95,7 @@ def try_between(stand, between, page):
           all(after[one] == keys[one] for one in keys), (keys, shown[:3000]))
     check("nobody else has another key", {one for one in after if before[one] != after[one]} == set(keys))
     check("the page says how many there are, and at which line it ended", "for the first 2 of 4 people" in shown and
-          "At the line key T013 (key) it ended: Nobody has the identifier 'T013'." in shown, shown[:3000])
+          "At the line key T013 (key) it ended: No person has this identifier." in shown, shown[:3000])
     onward = re.search('href="(/office/many/[0-9a-f]+)"', sheet)
     again = page.get(onward[1])[2] if onward else ""
     check("the form behind the slips has the others", ">T013\nT014</textarea>" in again, again[:3000])
@@ -105,13 +105,14 @@ def try_between(stand, between, page):
     between.before_next(between.by_hand("remove T015"))
     page.form("/office/person/T015/key", page="/office/person/T015/key")
     shown = flat(page.get("/office/register")[2])
-    check("if nobody got one, nothing was changed", "obody has the identifier 'T015'. Nothing was changed." in shown, shown[:3000])
+    check("if nobody got one, nothing was changed", "No person has this identifier. Look the person up on the page People. "
+          "Nothing was changed." in shown, shown[:3000])
     full = fill_copies(stand)
     between.before_next(between.by_hand("remove T016"))
     answer = stand.ask(ask="keys", keys={"T016": KEY})
     check("a copy before nothing pushes no older one out", copies_of_kind(stand) == full, (full, copies_of_kind(stand)))
-    check("and the keeper says so", answer == {"fault": "nobody has the identifier 'T016'. Nothing was changed.",
-                                               "refused": ["refused 2 UnknownPerson\n", 1]}, answer)
+    check("and the keeper says so", answer == {"fault": "No person has this identifier. Look the person up on the page People. "
+                                               "Nothing was changed.", "refused": ["refused 2 UnknownPerson\n", 1]}, answer)
     between.before_next(between.by_hand("name T017 By Hand"))
     check("a name that comes by hand meanwhile stays", stand.ask(ask="keys", keys={"T017": KEY})["corrected"] == 1 and
           ["T017", "By Hand"] in [row[:2] for row in stand.ask(ask="view")["people"]] and keys_of(stand)["T017"] == KEY)
@@ -210,7 +211,7 @@ def try_unavailable():
     """The disk or the memory fails: whether something may have taken effect all the same depends on whose it was."""
     failed, done = Answer("unavailable\n", 3), Answer("ok\n", 0)
     said = fault_of([failed], False, name="Ann Li")
-    check("of a copy nothing takes effect", said == ("the disk or the memory did not serve (unavailable). Nothing was changed.",
+    check("of a copy nothing takes effect", said == ("the file, the disk or the memory failed (unavailable). Nothing was changed.",
                                                      False), said)
     said = fault_of([failed], True, name="Ann Li")
     check("of the office it may have", "Look whether this took effect." in said[0] and said[1], said)
@@ -223,7 +224,7 @@ def try_unavailable():
 
 def try_correct(stand, between):
     """What the keeper refuses of a name and a key of one person, and what stands if the office is changed between the two."""
-    for values, said in (({"person": "T041 Ann", "name": "Li"}, "nobody has the identifier 'T041 Ann'. Nothing was changed."),
+    for values, said in (({"person": "T041 Ann", "name": "Li"}, "No person has this identifier."),
                          ({"person": "T041", "name": "Ann  Li"}, "does not take this name or key (not understood). A name"),
                          *(({"person": "T041", **{part: value}}, "does not take this name or key") for part, value in WRONG)):
         answer = stand.ask(ask="correct", **values)

@@ -268,7 +268,7 @@ def try_keeper(stand):
     """What the keeper itself refuses."""
     before, key = marks(stand), "0123456789abcdef"
     for keys, said in (({}, "not understood"), ({"T001": 1}, "not understood"), ({"T001": "Short"}, "does not take"),
-                       ({"T001": key, "NOBODY": key + "0"}, "nobody has"), ({"T001": key, "T002": key}, "another person")):
+                       ({"T001": key, "NOBODY": key + "0"}, "No person has"), ({"T001": key, "T002": key}, "Another person")):
         answer = stand.ask(ask="keys", keys=keys)
         check(f"the keeper refuses {keys}: {said}", said in answer.get("fault", "") and marks(stand) == before, answer)
 

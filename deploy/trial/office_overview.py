@@ -122,6 +122,13 @@ def try_stopped(stand, page):
     check("and no number alone", "status 1" not in shown, shown)
     told = stand.command("do", "round")
     check("the command says the same", told[:2] == (1, "refused 21 NotAnOffice\n"), told)
+    page.form("/office/person/P1/name", {"name": "Ann Li"}, page="/office/person/P1")
+    shown = flat(page.get("/office/person/P1")[2])
+    told = stand.command("name", "P1", "Ann Li")
+    for says in shown, told[2].replace("'", "&#039;"):
+        check("so does who corrects a name: it is not said to be wrong", "The file is not an office&#039;s file any more" in says
+              and "Change nothing, and call the administrator" in says and "name or key" not in says, says)
+    check("with the answer of the program", told[:2] == (1, "refused 21 NotAnOffice\n"), told)
     copy = next(name for name, _, why in reversed(stand.ask(ask="backups")["backups"]) if "before run" in why)
     page.form(f"/office/copies/{copy}/back", page=f"/office/copies/{copy}/back")
     until(lambda: stand.ask(ask="view")["server"], 30, "the server")

@@ -160,7 +160,7 @@ def answering():
         ("ok\n", "ok"),
         ("refused 15 BadRecord 2 refusal 4\n", "refused 15 BadRecord 2 refusal 4"),
         ("unavailable\nrooms: the disk of /x is full\n", "unavailable"),
-        ("fault: the disk did not serve\n", "fault: the disk did not serve"),
+        ("fault: the disk failed\n", "fault: the disk failed"),
         ("person home name\nT1     A-1  Ann Li\n", NOT_NOTED),
         ("person T1\nname Ann Li\n", NOT_NOTED),
         ("okay Ann Li\n", NOT_NOTED),

@@ -24,6 +24,7 @@ from bottle import HTTPResponse, request
 
 import times
 from languages import ENGLISH, N_, _, accepted, first_of, languages, speak, spoken
+from meanings import Meaning
 
 import keeper_client
 import plain
@@ -151,7 +152,7 @@ def why_not_read(body: bytes, too_long: str = plain.TOO_LONG) -> str:
         return _("Choose a list first.")
     if len(body) <= LONGEST_FILE:
         return ""
-    return str(plain.Meaning(TOO_BIG.says, TOO_BIG.to_do).translated()) if is_book(body) else _(too_long)
+    return str(Meaning(TOO_BIG.says, TOO_BIG.to_do).translated()) if is_book(body) else _(too_long)
 
 
 def uploads_of(name: str) -> list[tuple[str, bytes]]:

@@ -5,10 +5,10 @@ from typing import NamedTuple
 
 from journal import KEY, masked
 from languages import N_, _
+from meanings import Meaning
 from told import FIELDS
 
 import plain
-from plain import Meaning
 from sheet_text import LOOKED_AT
 
 FIRST, LAST = "first name", "last name"

@@ -9,11 +9,11 @@ from collections.abc import Callable, Iterator
 
 from languages import N_, _
 from lines import CODE, IDENTIFIER, MOST_CHOICES
+from meanings import REFUSALS, Meaning
 
 import plain
 from csv_list import CsvList
 from office_view import Office
-from plain import Meaning
 
 KEY = re.compile(r"[a-z0-9]{16,64}")
 GRADE = re.compile(r"[0-9]")
@@ -60,23 +60,23 @@ def badly_written(kind: str, fields: list[str]) -> Meaning | None:
 def of_record(office: Office, kind: str, fields: list[str]) -> Meaning | None:
     """What is wrong with a record beside the register, if anything."""
     if kind == "rooms":
-        return plain.REFUSALS[4].translated() if fields[0] in office.rooms else None
+        return REFUSALS[4].translated() if fields[0] in office.rooms else None
     if kind == "people":
         return of_home(office, fields)
     if fields[0] not in office.people:
-        return plain.REFUSALS[2].translated()
+        return REFUSALS[2].translated()
     codes = fields[1].split() if kind == "choices" else []
-    return plain.REFUSALS[3].translated() if any(code not in office.rooms for code in codes) else None
+    return REFUSALS[3].translated() if any(code not in office.rooms for code in codes) else None
 
 
 def of_home(office: Office, fields: list[str]) -> Meaning | None:
     """What is wrong with a person who is to come in, or with the room where they live."""
     if fields[0] in office.people:
-        return plain.REFUSALS[5].translated()
+        return REFUSALS[5].translated()
     room = office.rooms.get(fields[3])
     if not fields[3] or (room and not room.shut and not room.tenant):
         return None
-    return plain.REFUSALS[3 if room is None else 7 if room.shut else 8].translated()
+    return REFUSALS[3 if room is None else 7 if room.shut else 8].translated()
 
 
 def overwritten(kind: str, table: CsvList) -> Iterator[tuple[int, Meaning]]:

@@ -7,13 +7,13 @@ from typing import NamedTuple
 
 from journal import KEY, masked
 from languages import _
+from meanings import Meaning
 
 import list_checks
 import plain
 from csv_list import CsvList
 from keeper_client import Answer
 from office_view import Office
-from plain import Meaning
 
 MOST = 50
 SECONDS = 20

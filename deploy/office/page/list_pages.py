@@ -7,6 +7,7 @@ from typing import Any, NamedTuple, NoReturn
 from journal import masked
 from languages import N_, _
 from lines import LONGEST_LIST
+from meanings import REFUSALS
 from seen import Saw
 
 import known_people
@@ -371,7 +372,7 @@ def ask_blank(label: str) -> str:
     """Asks before the bytes of a kept list are deleted."""
     office = office_now()
     if not office.has_label(label):
-        tell("bad", _("Nothing was changed. {why}", why=plain.REFUSALS[25].translated()))
+        tell("bad", _("Nothing was changed. {why}", why=REFUSALS[25].translated()))
         go_to("/office/lists")
     says = [_("The office keeps the list {label} as it was imported, with names, keys, homes or wishes. Blanking "
               "deletes what is in it. The register does not change, and the label stays taken.", label=label),

@@ -8,11 +8,11 @@ from typing import NamedTuple
 from house_places import here
 from languages import N_, _, ngettext
 from lines import UNAVAILABLE
+from meanings import REFUSALS, Meaning, meaning_of
 from seen import STATES
 
 HOUSE = here().house  # or nothing
 MOST_UNFOLDED = 40
-KEEPER = here().keeper_units[1].removesuffix(".service")
 
 
 def title() -> str:
@@ -55,20 +55,6 @@ class Kind(NamedTuple):
     columns: str
     phases: tuple[str, ...]
     since: int  # the version of the office's file that knows it
-
-
-class Meaning(NamedTuple):
-    """What an answer says, and what to do."""
-
-    says: str
-    to_do: str
-
-    def __str__(self) -> str:
-        return f"{self.says} {self.to_do}".strip()
-
-    def translated(self) -> "Meaning":
-        """In the language that is spoken, with the name of the keeper's unit where the text has its place."""
-        return Meaning(_(self.says), _(self.to_do).replace("{keeper}", KEEPER))
 
 
 # The version of the office's file that the program works on.
@@ -172,45 +158,6 @@ DRAWN = ("drawn", *RAN)
 # What the program exports for a spreadsheet. Its list of people is apart: it has each name as it is, also a formula.
 EXPORTS = {"rooms": N_("Rooms"), "grades": N_("Grades, as they can come in again"), "moves": N_("Moves of all settled rounds")}
 PEOPLE = "people"
-
-# By the number of a refusal.
-REFUSALS = {
-    1: Meaning(N_("The round is not where this step belongs."), N_("Open the overview to see what comes next.")),
-    2: Meaning(N_("No person has this identifier."), N_("Look the person up on the page People.")),
-    3: Meaning(N_("No room has this code."), N_("Look at the page Rooms, or add the room first.")),
-    4: Meaning(N_("This room is in the register already."), N_("Take the line out of the list.")),
-    5: Meaning(N_("This person is in the register already."),
-               N_("Take the line out, or give the other person another identifier.")),
-    6: Meaning(N_("Another person has this key."),
-               N_("Give this person a key of their own, or leave the field empty to get a new one.")),
-    7: Meaning(N_("This room is out of use."), N_("Bring it back on the page Rooms, or write another room.")),
-    8: Meaning(N_("Another person lives in this room."), N_("Look up the room on the page Rooms to see who.")),
-    9: Meaning(N_("This person has a room already."), N_("First let the person leave it.")),
-    10: Meaning(N_("This person has no room."), N_("There is nothing to leave.")),
-    11: Meaning(N_("This person has withdrawn from the round."), N_("Take the line out of the list.")),
-    12: Meaning(N_("The number of words is not the number of participants."), N_("Draw again.")),
-    13: Meaning(N_("A limit is reached: 2,000 rooms, 2,000 people, 200 lists, or 262,144 bytes in a list."),
-                N_("Split a long list in two.")),
-    14: Meaning(N_("Another list was imported under this label, or the list was blanked since."), N_("Choose another label.")),
-    16: Meaning(N_("This person takes no part in the round."), N_("Choose a participant.")),
-    17: Meaning(N_("This round is not over, or there was no such round."), N_("Choose a round that is settled.")),
-    18: Meaning(N_("This room is in use."), N_("There is nothing to bring back.")),
-    21: Meaning(N_("The file is not an office's file any more: another program than this one has changed it, or it is damaged. "
-                   "What this page shows may be wrong."),
-                N_("Change nothing, and call the administrator. Going back to a copy from before the damage (page Copies) makes "
-                   "the office good again; lists that came after the copy are lost then.")),
-    22: Meaning(N_("The office's file has another version than the program, as after an upgrade."),
-                N_("Call the administrator, who brings the file to the version of the program.")),
-    24: Meaning(N_("This person leaves the college at the end of the round."), N_("Take the line out of the list.")),
-    25: Meaning(N_("No list has come in under this label."), N_("The page Lists in has the labels.")),
-}
-# What to do if it is refused by itself, and not as a line of a list.
-ALONE = {
-    4: N_("Look at the page Rooms. If it is another room, write another code."),
-    5: N_("Look the person up on the page People. If this is somebody else, write another identifier."),
-    11: N_("If that was a mistake, press Undo on the page of this person."),
-    24: N_("If that is a mistake, press Undo on the page of this person."),
-}
 
 TOO_LONG = N_("This list is longer than 262,144 bytes. Nothing came in. Split it in two, with a label each.")
 # Of lists that have no label: a second one takes the place of the first, or comes in beside it.
@@ -321,21 +268,11 @@ def not_done(made: int, text: str, status: int) -> str:
 
 
 def meaning(text: str) -> Meaning:
-    """What an answer of the program says; the answer itself if it is no refusal."""
+    """What an answer of the program says; of a record of a list, what is wrong with it, and of a step, how far the round is."""
     words = text.split()
-    if not words or words[0] == "unavailable":
-        return Meaning(_("The file, the disk or the memory failed."),
-                       _("Look whether the change was made. If it was not, try again; if it fails again, call the "
-                         "administrator."))
-    if text.startswith(("not understood", "rooms: not")):
-        return Meaning(_("The program does not understand this."), _("Check capital letters, signs and spaces."))
-    if words[0] != "refused":
-        return Meaning(text.strip(), "")
-    number = int(words[1])
-    if number == 15:
+    if words[:2] == ["refused", "15"]:
         return cause(words[4:], "")
-    says, to_do = REFUSALS.get(number, Meaning(text.strip(), N_("Look it up in the guide."))).translated()
-    to_do = _(ALONE[number]) if number in ALONE else to_do
-    if number == 1 and words[3] in PHASES:
-        return Meaning(f"{says} {_(PHASES[words[3]].title)}.", to_do)
-    return Meaning(says + (f" ({' '.join(words[3:])})" if number in (3, 7, 12) else ""), to_do)
+    said = meaning_of(text)
+    if words[:2] == ["refused", "1"] and words[3] in PHASES:
+        return said._replace(says=f"{said.says} {_(PHASES[words[3]].title)}.")
+    return said

@@ -3,6 +3,7 @@
 from languages import N_, _, ngettext
 from lines import NOT_TAKEN
 from mail_words import KINDS
+from meanings import Meaning
 
 import coming_back
 import explaining
@@ -47,7 +48,7 @@ def overview() -> str:
                 without_copy=coming_back.without_copy(office) if office.phase == "idle" else [])
 
 
-def why_stopped(status: int | None) -> plain.Meaning:
+def why_stopped(status: int | None) -> Meaning:
     """Why the residents' server does not run, by the status with which it ended, and what to do. The program says what it has
     against the file."""
     if status is None:

@@ -7,6 +7,7 @@ from typing import Any
 from bottle import HTTPResponse, abort  # type: ignore[import]  # Debian's bottle has no types
 
 from languages import N_, _
+from meanings import Meaning
 
 import columns
 import plain
@@ -57,7 +58,7 @@ def sample_workbook(kind: str) -> HTTPResponse:
     try:
         return download(workbook(rows), f"sample-{kind}.xlsx", WORKBOOK)
     except ImportError:
-        tell("bad", str(plain.Meaning(sheet_books.NOT_INSTALLED.says, sheet_books.NOT_INSTALLED.to_do).translated()))
+        tell("bad", str(Meaning(sheet_books.NOT_INSTALLED.says, sheet_books.NOT_INSTALLED.to_do).translated()))
         return go_to("/office/lists")
 
 

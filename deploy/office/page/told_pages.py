@@ -10,6 +10,7 @@ from typing import Any, NamedTuple
 
 from languages import N_, _, languages, ngettext
 from lines import LONGEST_LIST
+from meanings import Meaning
 from told import FIELDS, LONGEST_CAPTION, LONGEST_CONTACT, LONGEST_NOTICE, MOST_OF_ROOM
 from told_files import PICTURE
 
@@ -120,7 +121,7 @@ def look_at_rooms() -> str:
         go_to(PLACE)
     said = told_rooms.described(read.table)
     if said.faults or not said.rooms:
-        whole = None if said.faults else plain.Meaning(_("This list says nothing of any room."),
+        whole = None if said.faults else Meaning(_("This list says nothing of any room."),
                                                        _("Fill in one of the columns {columns}.", columns=", ".join(FIELDS)))
         return show("told_faults", office=office, whole=whole, faults=said.faults)
     told, marks = told_now()

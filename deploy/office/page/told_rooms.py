@@ -5,6 +5,7 @@ from typing import Any, NamedTuple
 
 from languages import N_, _
 from lines import CODE, name_shows_a_key
+from meanings import Meaning
 from naming import Names
 from told import AMOUNT, FIELDS
 
@@ -13,7 +14,6 @@ from csv_list import CsvList
 from list_checks import ROOM_AGAIN, UNSEEN, in_row
 from list_faults import Fault, shown
 from office_view import Office
-from plain import Meaning
 
 # A number with or without signs between its thousands: 412, 412.50, 412,50, 1.234,50, 1 234.50, 1'234.
 NUMBER = re.compile(r"(?<![\d.,])(?:\d{1,3}(?:[ .,'’]\d{3})+|\d+)(?:[.,]\d{1,2})?(?!\d|[.,]\d)")

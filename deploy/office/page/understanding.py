@@ -10,6 +10,7 @@ from collections.abc import Callable
 from typing import NamedTuple
 
 from languages import N_, _, ngettext
+from meanings import Meaning
 from told import FIELDS
 
 import columns
@@ -18,7 +19,7 @@ import sheet_books
 import sheet_text
 from columns import Columns
 from csv_list import CsvList
-from plain import CAUSES, DESCRIPTIONS, Meaning
+from plain import CAUSES, DESCRIPTIONS
 from sheet_limits import Unreadable
 
 ENDS = " \t\r\n\u00a0\u200b\u200c\u200d\ufeff"
