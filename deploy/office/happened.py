@@ -124,7 +124,7 @@ def steps_of(entries: list[Entry]) -> list[Step]:
 
 # --- what follows from elsewhere
 
-class Happened:
+class Happened:  # pylint: disable=too-many-instance-attributes  # each is something that is known of the steps
     """What came of each step, by the merged journal, the round of now, and the rounds of kept copies. `before` has how far the
     office may have been before each step, and now; `outcomes` what came of each."""
 
@@ -134,6 +134,7 @@ class Happened:
         unknown = any(step.said is UNKNOWN for step in self.steps)  # else nobody has to look into kept copies
         self.round_of: RoundOf = functools.cache(round_of if round_of and unknown else lambda _copy: None)
         self.kept = {copy: place for place, entry in enumerate(entries) if (copy := kept_at(entry))}
+        self.gaps: set[int] = set()  # the steps before which something was done that is not in the journal
         self.turn = -1  # the last step after which there may have been another round than before it
         self.before = [{Round(None, phase, 0, 0) for phase in ("idle", *TO.values())}]
         for index in range(len(self.steps)):
@@ -155,21 +156,30 @@ class Happened:
         step = self.steps[index]
         if (copy := str(self.entries[step.place].get("copy", ""))) and self.index(step.place) == index:
             self.narrow(index, self.round_of(copy))  # of several lines the copy is from before the first
-        after = {then for one in self.before[index] for _, then in self.ways(index, one)}
-        self.before.append(after or self.after_gap(index, (step.number, TO[step.verb])))
+        after = self.all_after(index)
+        if not after:
+            self.before[index] = self.after_gap(index, *((None, phase) for phase in FROM[step.verb]))
+            after = self.all_after(index)
+        self.before.append(after)
+
+    def all_after(self, index: int) -> set[Round]:
+        """How far the office may be after a step; nothing if it fits nothing before."""
+        return {then for one in self.before[index] for _, then in self.ways(index, one)}
 
     def narrow(self, index: int, known: Known | None) -> None:
         """Leaves out what has not a round that is known of the time before a step, or of now."""
         found = narrowed(self.before[index], known)
         self.before[index] = found or self.after_gap(index, known or (None, ""))
 
-    def after_gap(self, index: int, known: tuple[int | None, str]) -> set[Round]:
-        """How far the office is, if a step, or what is known of the time before it, fits nothing before: then something is not in
-        the journal, as a line by hand. The round may be that of before, or have begun since."""
+    def after_gap(self, index: int, *known: tuple[int | None, str]) -> set[Round]:
+        """How far the office may have been before a step, if that step, or what is known of this time, fits nothing before: then
+        something is not in the journal, as a line by hand. `known` are the rounds that it may have had; each may be that of before,
+        or have begun since."""
+        self.gaps.add(index)
         self.turn = index - 1
         before = self.before[index]
         settled = min(one.settled for one in before)
-        return {Round(*known, since, settled) for since in {index, *(one.since for one in before)}}
+        return {Round(*one, since, settled) for one in known for since in {index, *(each.since for each in before)}}
 
     def ways(self, index: int, one: Round) -> list[tuple[Outcome, Round]]:
         """What may have come of a step, and how far the office was then, if it was so far before."""

@@ -12,7 +12,7 @@ from seeds import DRAWN, STRUCK, noted_in
 
 # When a round was given up, by its phase until then.
 AFTER = {"open": " while it was open", "closed": " after it was closed", "drawn": " after the order was drawn",
-         "ran": " after the rooms were given", "published": " after the results were published"}
+         "ran": " after the rooms were given"}
 NOT_SURE = " (nobody knows whether this took effect)"
 
 
@@ -58,18 +58,24 @@ class Years:
         if step.copy:
             return f"the office went back to the copy of {times.shown(times.made_at(step.copy))}"
         if step.verb == "cancel":
-            return f"{name} was given up{AFTER.get(self.happened.phase(index), '')}: {self.drawn(numbers)}"
+            return f"{name} was given up{AFTER.get(self.happened.phase(index), '')}: {self.drawn(index, numbers)}"
         if step.verb == "draw":
             seed = DRAWN.match(step.line)  # words may be those of a seed, too: then the head of the record has it
             return f"the order of {name} was drawn, {f'by the seed {seed[1].lower()}' if seed else 'by words'}"
         return {"open": f"{name} was opened", "close": f"{name} was closed"}.get(step.verb, "")
 
-    def drawn(self, numbers: list[int]) -> str:
-        """Whether an order was drawn by now in the round that has one of these numbers."""
+    def drawn(self, index: int, numbers: list[int]) -> str:
+        """Whether an order was drawn before a step in the round that has one of these numbers."""
         if len(numbers) == 1 and self.draws[numbers[0]]:
             return "its order was drawn"
-        unsure = len(numbers) != 1 or self.more[numbers[0]]
+        unsure = len(numbers) != 1 or self.more[numbers[0]] or self.is_cut(index)
         return "nobody knows whether its order was drawn" if unsure else "no order was drawn"
+
+    def is_cut(self, index: int) -> bool:
+        """Whether something that is not in the journal was done in the round, before a step of it."""
+        happened = self.happened
+        opened = [one for one in range(index) if happened.steps[one].verb == "open" and happened.outcomes[one] is DONE]
+        return any(max(opened, default=0) < gap <= index for gap in happened.gaps)
 
     def sum_of(self, number: int) -> str:
         """How often the order of a round was drawn; nothing if once."""

@@ -166,6 +166,18 @@ def record():
               any(f"given up {phase}: " in one for one in said), said)
 
 
+def gap():
+    """What the record says of a step that cannot follow on those before it: something was done by hand in between."""
+    told = Told().change(0, "open", answer="round 1")
+    for second, step in enumerate(("close", "draw 3a", "run", "publish"), 1):
+        told.change(second, step)
+    told.change(6, "cancel")  # the program refuses this of published results: somebody has settled the round, and opened another
+    for now, which in ((2, "idle"), "round 2"), ((3, "idle"), "round 3"), ((2, "open"), "a round"):
+        said = [one for one in history(told.entries, True, now, [1]) if "given up" in one]
+        check(f"a round that was given up after a gap is none whose results were published: {which}",
+              len(said) == 1 and said[0].endswith(f"{which} was given up: nobody knows whether its order was drawn"), said)
+
+
 class Chance:
     """An office that does this and that by chance, and knows who everybody is: each person who is added is another one."""
 
@@ -239,6 +251,7 @@ def try_branching():
     lines()
     partly()
     record()
+    gap()
     by_chance()
 
 
