@@ -36,7 +36,7 @@ REFUSALS = {
     10: Meaning(N_("This person has no room."), N_("There is nothing to leave.")),
     11: Meaning(N_("This person has withdrawn from the round."), N_("Take the line out of the list.")),
     12: Meaning(N_("The number of words is not the number of participants."), N_("Draw again.")),
-    13: Meaning(N_("A limit is reached: 2,000 rooms, 2,000 people, 200 lists, or 262,144 bytes in a list."),
+    13: Meaning(N_("A limit is reached: 2,000 rooms, 2,000 people, 9,999 rounds, 200 lists, or 262,144 bytes in a list."),
                 N_("Split a long list in two.")),
     14: Meaning(N_("Another list was imported under this label, or the list was blanked since."), N_("Choose another label.")),
     16: Meaning(N_("This person takes no part in the round."), N_("Choose a participant.")),

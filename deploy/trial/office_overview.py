@@ -13,10 +13,14 @@ from pathlib import Path
 # The repository stays as it is.
 sys.dont_write_bytecode = True
 
-# pylint: disable=wrong-import-position  # nothing may be written before
+# pylint: disable=wrong-import-position,wrong-import-order  # nothing may be written before, and one is in the folder of the office
 from office_again import flat, listed
 from office_requests import Page
-from stand import Stand, check, key_of, until
+from stand import OFFICE, Stand, check, key_of, until
+
+sys.path.append(str(OFFICE))
+
+from meanings import meaning_of
 
 MAIN = re.compile(r'class="button main" href="([^"]+)"')
 ALL = re.compile(r'class="button[^"]*" href="([^"]+)"')
@@ -99,6 +103,14 @@ def try_plan(stand, page):
           and "<p class=\"box\">7 people move" in shown, shown)
 
 
+def try_limits():
+    """The text of a limit that is reached has each limit that docs/formats.md has."""
+    rows = (OFFICE.parents[1] / "docs/formats.md").read_text("utf-8").splitlines()
+    limits = re.findall(r"\d[\d,]*\d", next(row for row in rows if "`LimitReached`" in row).split("|")[4])
+    lacks = [limit for limit in limits if limit not in meaning_of("refused 13 LimitReached").says]
+    check("a limit that is reached is named, whichever it is", len(limits) == 5 and not lacks, lacks)
+
+
 def spoil(stand, change):
     """Another program writes into the file while the keeper is away."""
     stand.stop_keeper()
@@ -142,6 +154,7 @@ def try_stopped(stand, page):
 
 def try_office_overview(program):
     """All of it."""
+    try_limits()
     with Stand(program) as stand:
         stand.start()
         stand.start_page()
