@@ -212,7 +212,8 @@ class Audit:  # pylint: disable=too-many-instance-attributes  # others read what
                 f"{self.claim(gone.room)}." if gone.giver == gone.to else
                 f"and came from {gone.giver}, {self.claim(gone.room)}, in exchange for {self.got[gone.giver]}."))
         end = f"got {got}, choice {found.choice}" if found.choice else f"kept {got}" if got else "got no room"
-        said += [self.how(person).replace("in", "In", 1) + ".", f"So {person} {end}."]
+        how = self.how(person)
+        said += [f"{how[:1].upper()}{how[1:]}.", f"So {person} {end}."]
         other = self.result.get(person, got)
         return said + ([f"But the record has {other or 'no room'} for {person}."] if other != got else [])
 
