@@ -136,6 +136,16 @@ class Branches:
         return {number: step.verb for index, step in enumerate(happened.steps) for number in happened.numbers(index)
                 if step.verb in LAST_STEPS and step.place in led and happened.outcomes[index] is not NOT_DONE}
 
+    def ended_after(self, now: Known) -> dict[str, str]:
+        """By which step the round of a kept copy ended, or may have ended: the first such one of the lines before which the copy
+        was kept."""
+        happened = Happened(self.entries, now)
+        found: dict[str, str] = {}
+        for step, outcome in zip(happened.steps, happened.outcomes):
+            if step.verb in LAST_STEPS and outcome is not NOT_DONE:
+                found.setdefault(str(self.entries[step.place].get("copy", "")), step.verb)
+        return found
+
     def removed_since_settled(self, now: Known) -> set[str]:
         """Who was removed since the last round was settled. Who has come in again since then did not leave in that round."""
         happened = Happened(self.entries, now)

@@ -8,13 +8,12 @@ import sqlite3
 from pathlib import Path
 from typing import Any
 
-from backups import Backups
 from branches import Branches, named_in
-from happened import Entry, lines_of
 from copies import kept_copy
+from happened import Entry, lines_of
 from languages import _
+from lines import BUNDLE, IDENTIFIER
 from office import Office
-from lines import IDENTIFIER
 from parting import Parting
 from register import going_in, withdrawn_in
 from rows import View, records_of, rows_of
@@ -41,7 +40,17 @@ def last_ended(now: Rows) -> int:
     return int(now["number"]) if now["phase"] == "idle" else int(now["number"]) - 1
 
 
-def rounds(backups: Backups, now: Rows) -> list[tuple[str, int, str]]:
+def ends(office: Office, now: Rows) -> list[tuple[str, str]]:
+    """The copies that were kept before a round was given up or settled, each with that step, the newest first. Of several lines at
+    once the journal has the steps."""
+    kinds = [(name, office.backups.entry(name)["kind"]) for name in reversed(office.backups.names())]
+    many = (Branches(office.journal.entries(whole=True)).ended_after((now["number"], now["phase"]))
+            if any(kind == BUNDLE for _name, kind in kinds) else {})
+    steps = [(name, many.get(name, "") if kind == BUNDLE else kind) for name, kind in kinds]
+    return [(name, step) for name, step in steps if step in (GIVE_UP, SETTLE)]
+
+
+def rounds(office: Office, now: Rows) -> list[tuple[str, int, str]]:
     """The copy, the number and the phase of each round that was given up since the last one was settled, the newest first.
 
     After a way back to a copy, a round that was given up, or settled, may be under way again: then it is none. The office knows a
@@ -50,11 +59,10 @@ def rounds(backups: Backups, now: Rows) -> list[tuple[str, int, str]]:
     last = last_ended(now)
     found: dict[int, tuple[str, int, str]] = {}
     settled = set(now["settled"])
-    for name in reversed(backups.names()):
-        kind = backups.entry(name)["kind"]
-        had = round_in(backups.file_of(name)) if kind in (GIVE_UP, SETTLE) else None
-        if had and had[0] <= last and had[0] not in found:
-            if kind == SETTLE:
+    for name, step in ends(office, now):
+        had = round_in(office.backups.file_of(name))
+        if had and had[0] <= last and had[0] not in found and had[1] != "idle":  # of several lines one may have opened the round
+            if step == SETTLE:
                 settled.add(had[0])
             else:
                 found[had[0]] = (name, *had)
@@ -102,7 +110,7 @@ def taken_out(entries: list[Entry], number: int) -> list[str]:
 
 def take_out(office: Office, view: View, name: str, people: list[str], who: str) -> None:
     """Notes whom a clerk has taken out of what comes back of the round of a copy, so that no page offers it to another clerk."""
-    numbers = {copy: number for copy, number, _phase in rounds(office.backups, view.rows())}
+    numbers = {copy: number for copy, number, _phase in rounds(office, view.rows())}
     if name in numbers and people:
         with office.journal.change(who, f"not back from round {numbers[name]}: {' '.join(people)}"):
             pass
@@ -112,7 +120,7 @@ def given_up(office: Office, view: View, name: str | None) -> dict[str, Any]:
     """The rounds that were given up, and those of them of which there is no copy; or, with the name of the copy of one, what that
     round had, whose identifiers may be somebody else's by now, whom a clerk has taken out, and which lists were imported since."""
     now = view.rows()
-    found = rounds(office.backups, now)
+    found = rounds(office, now)
     if name is None:
         return {"rounds": found, "gone": without_copy(office, now, [number for _copy, number, _phase in found])}
     if name not in [copy for copy, _, _ in found]:

@@ -57,7 +57,7 @@ from job import Job, again_in, body_of, identifier_in, lines_of, saw_in, seen_in
 from journal import masked, masked_line, masked_note, spoken_of
 from languages import ENGLISH, _, speaking
 from languages_kept import LanguageRequests
-from lines import BY_SEED, erases, gone_by, named, only_reads, verb_of
+from lines import BUNDLE, BY_SEED, erases, gone_by, named, only_reads, verb_of
 from mail import Post
 from office import Office
 from program import NOT_UNDERSTOOD, Answer, is_refused
@@ -199,7 +199,7 @@ class Requests:
         if only_reads(lines):
             answers = self.try_out(job)["answers"]
             return {"answers": answers, "done": not is_refused(answers)}
-        kind = "lines" if len(lines) > 1 else verb_of(lines[0])
+        kind = BUNDLE if len(lines) > 1 else verb_of(lines[0])
         before, removed = Before(self.copies.file), named(lines, "remove")
 
         def look(line: str, file: Path) -> None:

@@ -44,6 +44,7 @@ STEPS = frozenset({"open", "close", "cancel", "draw", "run", "publish", "settle"
 NAME_BEGINS = {"person": 3, "name": 2}  # with which word, counted from 0, the name of a person begins in a line
 REPLACED = "the list that it replaces is nowhere else"
 MANY = "a list or a bundle of lines is not taken back as a whole"
+BUNDLE = "lines"  # the kind of the copies that are made before several lines at once
 
 
 def on_one_line(text: str) -> str:

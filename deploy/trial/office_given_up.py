@@ -13,7 +13,7 @@ from pathlib import Path
 sys.dont_write_bytecode = True
 
 # pylint: disable=wrong-import-position  # nothing may be written before
-from office_forms import boxes, seen_at, send_as_it_is
+from office_forms import boxes, flat, seen_at, send_as_it_is
 from office_requests import Page, hand_in
 from office_second import away, fill, finish_round
 from stand import Stand, check, key_of
@@ -124,6 +124,25 @@ def try_undone(stand, page):
           (shown, seen_at(page, "/office/")))
 
 
+def try_several_lines(stand, page):
+    """A round is given up, and the next one opened, by several lines at once. It comes back as any other."""
+    stand.office("withdraw P12")
+    told = stand.command("lines", given="cancel\nopen\n")
+    copy = max(name for name, _, why in stand.ask(ask="backups")["backups"] if "before cancel (1), open (1)" in why)
+    check("a round is given up by one of several lines", told[0] == 0, told)
+    for path in ("/office/", "/office/step/close"):
+        shown = page.get(path)[2]
+        check(f"{path} has what of it is not back", "ad withdrawn, and take part now (P12)" in flat(shown), shown)
+    check("the overview leads to it", f"/office/given-up/{copy}" in page.get("/office/")[2], copy)
+    number, gone = stand.ask(ask="view")["number"] - 1, stand.ask(ask="given-up")["gone"]
+    check("its copy is here", number not in gone, gone)
+    send_as_it_is(page, f"/office/given-up/{copy}")
+    check("and it comes back", "P12" in away(stand)[1], away(stand))
+    told = stand.command("lines", given="cancel\nopen\ncancel\n")
+    check("of two rounds that were given up at once one has a copy", stand.ask(ask="given-up")["gone"] == [number + 2], told)
+    stand.office("open")
+
+
 def try_gone(stand, page):
     """The copy of a round that was given up is not here, as on a new machine. The journal knows the round, and the page says so
     until a round is settled."""
@@ -165,6 +184,7 @@ def try_office_given_up(program):
         try_given_up_twice(stand, page)
         try_own_list(stand, page)
         try_undone(stand, page)
+        try_several_lines(stand, page)
         try_gone(stand, page)
         check("the page has noted no fault of its own", "rooms-page:" not in stand.log("page"), stand.log("page"))
 
