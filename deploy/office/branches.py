@@ -4,15 +4,14 @@ The journal says in which order changes were made, and which copy was kept just 
 its place: how many changes came before it in the journal, those of other branches included.
 """
 
-import datetime
 from collections.abc import Iterable, Iterator
 from typing import NamedTuple
 
 import times
-from happened import DONE, LAST_STEPS, NOT_DONE, WENT_BACK, Entry, Happened, Known, kept_at, lines_of, merged, said_of
+from entries import DONE, NOT_DONE, Entry, kept_at, lines_of, merged, said_of, went_back_to
+from happened import LAST_STEPS, Happened, Known
+from moments import Moment, Moments
 
-SECOND = datetime.timedelta(seconds=1)
-LATEST = datetime.datetime.max.replace(tzinfo=datetime.timezone.utc) - SECOND
 REMOVED = ("remove", "forget")  # the lines after which an identifier can be another person's
 
 
@@ -33,14 +32,6 @@ class Fork(NamedTuple):
         return gone | named_in(self.unsure, "person")
 
 
-class Moment(NamedTuple):
-    """Between which places a copy was made. Of one that was asked for the second alone is known: what was done in it, between
-    both, may have come before the copy or after it."""
-
-    first: int
-    last: int
-
-
 class WayBack(NamedTuple):
     """A way back that was carried out, or may have been: the copy before it, that of the state from which the office goes on,
     the place of this state, and of what nobody knows whether it was carried out since then."""
@@ -57,9 +48,7 @@ class Branches:
     def __init__(self, journal: Iterable[Entry]) -> None:
         self.entries = merged([entry for entry in journal if "at" in entry])
         self.now = Moment(len(self.entries), len(self.entries))
-        self.times = [datetime.datetime.fromisoformat(entry["at"]) for entry in self.entries]
-        self.kept = [kept_at(entry) for entry in self.entries]
-        self.kept_before = {str(entry["copy"]): place for place, entry in enumerate(self.entries) if entry.get("copy")}
+        self.moments = Moments(self.entries)
         self.ways: dict[int, WayBack] = {}
         for place, entry in enumerate(self.entries):
             if copy := went_back_to(entry):
@@ -67,27 +56,17 @@ class Branches:
 
     def way_back(self, place: int, copy: str) -> WayBack:
         """A way back to a copy. If nobody knows whether it was made, the office goes on from what both states share."""
-        first, last = (min(one, place) for one in self.moment_of(copy))
+        first, last = (min(one, place) for one in self.moments.of(copy))
         unsure = self.entries[first:last]
         if is_done(self.entries[place]):
-            return WayBack(self.kept[place], copy, first, unsure)
+            return WayBack(kept_at(self.entries[place]), copy, first, unsure)
         fork = self.part((copy, first), ("", place))
         unsure += [*fork.before_one, *fork.before_other, *fork.unsure]
-        return WayBack(self.kept[place], fork.base, fork.place, unsure)
-
-    def moment_of(self, copy: str) -> Moment:
-        """When a copy was made: just before a change, or at the time of its name. The names of copies are in order."""
-        if copy in self.kept_before:
-            return Moment(self.kept_before[copy], self.kept_before[copy])
-        made = times.moment_of(copy) or LATEST
-        first, last = (next((place for place, (at, kept) in enumerate(zip(self.times, self.kept)) if kept >= copy or at >= end),
-                            self.now.last) for end in (made, made + SECOND))
-        first = max([first, *(place + 1 for place, way in self.ways.items() if "" < way.before < copy)])
-        return Moment(first, max(first, last))
+        return WayBack(kept_at(self.entries[place]), fork.base, fork.place, unsure)
 
     def fork(self, copy: str, other: str = "") -> Fork:
         """Where the state of a copy, and that of another one or of now, part."""
-        made, other_made = self.moment_of(copy), self.moment_of(other) if other else self.now
+        made, other_made = self.moments.of(copy), self.moments.of(other) if other else self.now
         fork = self.part((copy, made.last), (other, other_made.last))
         fork.unsure.extend(self.entries[made.first:made.last] + self.entries[other_made.first:other_made.last])
         return fork
@@ -108,7 +87,7 @@ class Branches:
 
     def behind(self, copy: str) -> Iterator[int]:
         """The places of the entries that led to the state of a copy, the last one first."""
-        return self.led_to(self.moment_of(copy).last)
+        return self.led_to(self.moments.of(copy).last)
 
     def led_to(self, place: int) -> Iterator[int]:
         """The places of the entries that led to a state, the last one first."""
@@ -127,7 +106,7 @@ class Branches:
         """Who was forgotten after a copy was made, or may have been, on whatever branch: who has the identifier in the copy, or
         somebody after them. That somebody has come under the identifier since changes nothing of that. Of a copy without a time
         nobody knows what came before it."""
-        first = self.moment_of(copy).first if times.moment_of(copy) else 0
+        first = self.moments.of(copy).first if times.moment_of(copy) else 0
         return named_in(self.entries[first:], "forget")
 
     def ended(self, now: Known) -> dict[int, str]:
@@ -164,9 +143,3 @@ def named_in(entries: Iterable[Entry], *verbs: str) -> set[str]:
 def is_done(entry: Entry) -> bool:
     """Whether the journal says that a change was carried out."""
     return said_of(entry) is DONE
-
-
-def went_back_to(entry: Entry) -> str:
-    """To which copy the office went back by a change, or may have done so when the keeper was ended; nothing if it did not."""
-    found = WENT_BACK.match(str(entry.get("line", ""))) if "answer" in entry and said_of(entry) is not NOT_DONE else None
-    return found[1] if found and times.moment_of(found[1]) else ""

@@ -15,7 +15,8 @@ from backups import Backups
 from branches import Branches
 from figures_kept import Round, round_of
 from given_up import round_in
-from happened import DONE, NOT_DONE, Happened
+from entries import DONE, NOT_DONE
+from happened import Happened
 from journal import Journal
 from rows import rows_of
 from seen import Rows

@@ -14,7 +14,7 @@ from pathlib import Path
 
 from branches import REMOVED, is_done, named_in
 from copies import kept_copy
-from happened import Entry
+from entries import Entry
 from languages import _
 from lines import IDENTIFIER
 from office import Office

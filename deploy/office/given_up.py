@@ -10,7 +10,7 @@ from typing import Any
 
 from branches import Branches, named_in
 from copies import kept_copy
-from happened import Entry, lines_of
+from entries import Entry, lines_of
 from languages import _
 from lines import BUNDLE, IDENTIFIER
 from office import Office

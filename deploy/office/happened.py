@@ -6,40 +6,24 @@ Whatever asks whether something happened asks here, and guesses nothing itself.
 """
 
 import bisect
-import datetime
-import enum
 import functools
 import re
 from collections.abc import Callable, Iterable
-from typing import Any, NamedTuple
+from typing import NamedTuple
 
-import times
-from journal import EARLIER, NOT_KNOWN
-from lines import NOT_TAKEN, STEPS, verb_of
+from entries import DONE, NOT_DONE, UNKNOWN, Entry, Outcome, copy_in, lines_of, said_of
+from lines import STEPS, verb_of
+from moments import Moments
 
 # In which phases a step is accepted, and which one comes of it.
 FROM = {"open": {"idle"}, "close": {"open"}, "draw": {"closed"}, "run": {"drawn"}, "publish": {"ran"}, "settle": {"published"},
         "cancel": {"open", "closed", "drawn", "ran"}}
 TO = {"open": "open", "close": "closed", "draw": "drawn", "run": "ran", "publish": "published", "settle": "idle", "cancel": "idle"}
 LAST_STEPS = ("settle", "cancel")  # after which the round is over
-WENT_BACK = re.compile(r"back (\S+?)(?:,|$)")
 OPENED = re.compile(r"round (\d+)\b")
-SECOND = datetime.timedelta(seconds=1)
 
-Entry = dict[str, Any]
 Known = tuple[int, str]  # the number and the phase of a round
 RoundOf = Callable[[str], Known | None]
-
-
-class Outcome(enum.Enum):
-    """What came of a change."""
-
-    DONE = "done"
-    NOT_DONE = "not done"
-    UNKNOWN = "nobody knows"
-
-
-DONE, NOT_DONE, UNKNOWN = Outcome.DONE, Outcome.NOT_DONE, Outcome.UNKNOWN
 
 
 class Round(NamedTuple):
@@ -69,44 +53,7 @@ class Step(NamedTuple):
     @property
     def copy(self) -> str:
         """To which copy the office goes back by it; nothing if it is no way back."""
-        found = WENT_BACK.match(self.line)
-        return found[1] if found and times.moment_of(found[1]) else ""
-
-
-# --- what the journal says itself
-
-def merged(journal: list[Entry]) -> list[Entry]:
-    """The journal with one entry for each change. The keeper writes two, before the change and after it. What is left of an entry
-    that was cut off has no time: it has that of the entry before."""
-    rows: dict[str, Entry] = {}
-    at = ""
-    for number, entry in enumerate(journal):
-        at = entry.get("at", at)
-        if at:
-            row = rows.setdefault(str(entry.get("n", f"entry {number}")), {"at": at})
-            row.update({name: value for name, value in entry.items() if name != "at"})
-    return list(rows.values())
-
-
-def lines_of(entry: Entry) -> list[str]:
-    """The lines that the keeper carried out, or may have carried out; none of what somebody has noted."""
-    return [] if said_of(entry) is NOT_DONE else str(entry.get("line", "")).split("; ")
-
-
-def said_of(entry: Entry) -> Outcome:
-    """What an entry says of its change. A way back that ended by a fault was not made: the copy was not yet in its place."""
-    status = entry.get("status")
-    if "n" not in entry or status in NOT_TAKEN or entry.get("taken") is False:
-        return NOT_DONE
-    if status == 0:
-        return DONE
-    failed = "answer" in entry and entry["answer"] not in (NOT_KNOWN, EARLIER)
-    return NOT_DONE if failed and WENT_BACK.match(str(entry.get("line", ""))) else UNKNOWN
-
-
-def kept_at(entry: Entry) -> str:
-    """The copy that was kept just before a change, or that somebody asked for; nothing if there is none."""
-    return str(entry.get("copy") or (entry.get("answer", "") if entry.get("line") == "backup" else ""))
+        return copy_in(self.line)
 
 
 def steps_of(entries: list[Entry]) -> list[Step]:
@@ -133,7 +80,7 @@ class Happened:  # pylint: disable=too-many-instance-attributes  # each is somet
         self.places = [step.place for step in self.steps]
         unknown = any(step.said is UNKNOWN for step in self.steps)  # else nobody has to look into kept copies
         self.round_of: RoundOf = functools.cache(round_of if round_of and unknown else lambda _copy: None)
-        self.kept = {copy: place for place, entry in enumerate(entries) if (copy := kept_at(entry))}
+        self.moments = Moments(entries)
         self.gaps: set[int] = set()  # the steps before which something was done that is not in the journal
         self.turn = -1  # the last step after which there may have been another round than before it
         self.before = [{Round(None, phase, 0, 0) for phase in ("idle", *TO.values())}]
@@ -198,13 +145,8 @@ class Happened:  # pylint: disable=too-many-instance-attributes  # each is somet
                              settled=index + 1 if step.verb == "settle" else one.settled)]
 
     def at_copy(self, copy: str, index: int) -> set[Round]:
-        """How far the office may have been when a copy was made: just before a change, or at the time of its name."""
-        if copy in self.kept:
-            first = last = self.index(self.kept[copy])
-        else:
-            made = times.made_at(copy)
-            at = [datetime.datetime.fromisoformat(self.entries[place]["at"]) for place in self.places]
-            first, last = (sum(moment < end for moment in at) for end in (made, made + SECOND))
+        """How far the office may have been when a copy was made."""
+        first, last = map(self.index, self.moments.of(copy))
         found = set[Round]().union(*self.before[min(first, index):min(last, index) + 1])
         if (known := self.round_of(copy)) and not narrowed(found, known):
             return {one._replace(number=known[0], phase=known[1]) for one in found}

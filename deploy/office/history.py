@@ -6,7 +6,8 @@ until the order pleases, and say nothing of it. If nobody knows whether somethin
 import collections
 
 import times
-from happened import DONE, LAST_STEPS, NOT_DONE, Entry, Happened, Known, RoundOf, merged
+from entries import DONE, NOT_DONE, Entry, merged
+from happened import LAST_STEPS, Happened, Known, RoundOf
 from lines import on_one_line
 from seeds import DRAWN, STRUCK, noted_in
 

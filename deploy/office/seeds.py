@@ -9,7 +9,8 @@ import shlex
 from typing import NamedTuple
 
 import times
-from happened import DONE, UNKNOWN, Entry, Happened, Known, RoundOf, merged
+from entries import DONE, UNKNOWN, Entry, merged
+from happened import Happened, Known, RoundOf
 from lines import BY_SEED, SEED
 
 NOTED = re.compile(rf"seed ({SEED.pattern})\b ?(.*)", re.DOTALL)

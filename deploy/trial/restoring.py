@@ -21,7 +21,7 @@ from stand import DEPLOY, OFFICE, PYTHON, Stand, check, key_of
 sys.path.append(str(OFFICE))
 
 # pylint: disable=wrong-import-position,wrong-import-order  # they are in the folder of the line above
-from happened import merged
+from entries import merged
 from seeds import noted_seeds
 
 SEED = "5eed" * 16

@@ -23,7 +23,8 @@ from stand import OFFICE, Stand, check
 sys.path.append(str(OFFICE))
 
 from branches import Branches
-from happened import DONE, FROM, LAST_STEPS, NOT_DONE, TO, UNKNOWN, Happened, merged
+from entries import DONE, NOT_DONE, UNKNOWN, merged
+from happened import FROM, LAST_STEPS, TO, Happened
 from history import history
 from journal import EARLIER, NOT_KNOWN
 from lines import BY_SEED
@@ -206,6 +207,16 @@ def around():
               seen == [early, unsure, [SEEDS[3]]], seen)
 
 
+def asked_for():
+    """A round is closed between a copy that was asked for and its entry. The office that goes back to the copy is open again."""
+    told = Told().change(0, "open", name(0), answer="round 2").change(2, "close", name(2, "-02")).asked(2, name(2))
+    told.change(3, f"back {name(2)}", name(3)).change(4, "close", name(4)).entries.append(noted(5, SEEDS[1]))
+    happened = Happened(merged(told.entries), (2, "closed"))
+    check("nothing is missing between a copy that was asked for and the way back to it", not happened.gaps, happened.gaps)
+    found = noted_seeds(told.entries, True, (2, "closed")).found
+    check("and the seed of the round can be drawn with", [one.counts for one in found] == [True], found)
+
+
 def removed():
     """Who was removed since a round was settled of which the keeper noted no answer."""
     told = Told().change(0, "remove W", name(0)).change(1, "publish", name(1)).change(2, "settle", name(2), **KILLED)
@@ -295,6 +306,7 @@ def try_unanswered(program):
     """All of it."""
     sums()
     around()
+    asked_for()
     removed()
     by_hand()
     by_chance()

@@ -16,7 +16,7 @@ from stand import Stand, check, key_of, until
 
 # pylint: disable=wrong-import-order  # they are in the folder that the import of `parts` has added
 from change import Change
-from happened import lines_of, merged
+from entries import lines_of, merged
 from office import Office
 from program import Answer
 from worker import Worker

@@ -10,7 +10,7 @@ from typing import Any, NamedTuple
 import bottle  # type: ignore[import]  # Debian's bottle has no types
 
 import times
-from happened import merged
+from entries import merged
 from journal import OWN_TEXTS
 from languages import N_, _, ngettext
 
