@@ -12,6 +12,7 @@ from typing import Any
 
 import times
 from copies import kept_copy
+from entries import Entry, merged
 from languages import _
 from machine_backup import KEPT
 from mail_book import Book
@@ -74,10 +75,10 @@ def may_name(entry: dict[str, Any]) -> str:
                       "" if THROWN.fullmatch(note) else note])
 
 
-def entries_of(journal: Path, person: str, names: Names) -> list[dict[str, Any]]:
+def entries_of(journal: Path, person: str, names: Names) -> list[Entry]:
     """The entries of the whole journal that name a person, each change as one; and notes of clerks that have one of these names."""
-    named, found = re.compile(rf"(?<![A-Za-z0-9]){re.escape(person)}(?![A-Za-z0-9])"), []
-    changes: dict[str, dict[str, Any]] = {}
+    named, found = re.compile(rf"(?<![A-Za-z0-9]){re.escape(person)}(?![A-Za-z0-9])"), list[Entry]()
+    numbers: set[str] = set()
     with contextlib.suppress(FileNotFoundError), open(journal, "rb") as lines:
         for line in lines:
             with contextlib.suppress(ValueError):
@@ -85,13 +86,10 @@ def entries_of(journal: Path, person: str, names: Names) -> list[dict[str, Any]]
                 if not isinstance(entry, dict):
                     continue
                 number = str(entry.get("n", ""))
-                if number in changes:
-                    changes[number].update({name: entry[name] for name in ("line", "answer", "status") if name in entry})
-                elif named.search(may_name(entry)) or names.are_in(str(entry.get("note", ""))):
+                if number in numbers or named.search(may_name(entry)) or names.are_in(str(entry.get("note", ""))):
                     found.append(entry)
-                    if number:
-                        changes[number] = entry
-    return found
+                    numbers.update([number] if number else [])
+    return merged(found)
 
 
 def texts_with(office: Office, book: Book, names: Names) -> dict[str, Any]:

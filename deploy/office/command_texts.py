@@ -6,6 +6,7 @@ import io
 from collections.abc import Callable
 from typing import Any
 
+from entries import merged
 from lines import on_one_line
 from register import going_in, takes_part, withdrawn_in
 
@@ -84,18 +85,14 @@ def about_text(kept: dict[str, Any]) -> str:
     lines += [f"mail {at} {kind} of round {number}, {state}" for kind, number, state, at in mail["sent"]]
     lines += [f"language {language}"] if language else []
     lines += [f"account {account}"] if account else []
-    lines += [f"journal {entry.get('at')} {entry.get('who', '')}: {entry.get('note', entry.get('line', ''))}"
+    lines += [f"journal {entry['at']} {entry.get('who', '')}: {entry.get('note', entry.get('line', ''))}"
               for entry in kept["journal"]]
     return "".join(f"{on_one_line(line)}\n" for line in lines)
 
 
 def journal_text(noted: list[dict[str, Any]], count: int) -> str:
     """The last changes, each with its answer, on one line each, whatever somebody noted."""
-    entries: dict[Any, dict[str, Any]] = {}
-    for place, entry in enumerate(noted):
-        known = entries.setdefault(entry.get("n", place), {})
-        known.update({**entry, **({"at": known["at"]} if "at" in known else {})})
-    return "".join(f"{on_one_line(change_text(entry))}\n" for entry in list(entries.values())[-count:])
+    return "".join(f"{on_one_line(change_text(entry))}\n" for entry in merged(noted)[-count:])
 
 
 def keys_again_text(people: list[str], command: str) -> str:
@@ -136,4 +133,4 @@ def change_text(entry: dict[str, Any]) -> str:
     more = f"  (before: {entry['copy']})" if entry.get("copy") else ""
     answer = entry.get("answer", "").replace("\n", "; ")
     said = f"noted: {entry['note']}" if "note" in entry else f"{entry.get('line', '')}  ->  {answer}{more}"
-    return f"{entry.get('at')}  {entry.get('who', '')}: {said}"
+    return f"{entry['at']}  {entry.get('who', '')}: {said}"

@@ -9,12 +9,12 @@ import contextlib
 import json
 import re
 import sqlite3
-from collections.abc import Callable, Collection, Iterator
+from collections.abc import Callable, Collection
 from pathlib import Path
 
 from branches import REMOVED, is_done, named_in
 from copies import kept_copy
-from entries import Entry
+from entries import Entry, merged
 from languages import _
 from lines import IDENTIFIER
 from office import Office
@@ -142,17 +142,18 @@ def in_office(file: Path) -> Names:
 
 def in_journal(journal: Path) -> tuple[set[str], set[str], set[str]]:
     """Who came into the register one by one, who was removed, or may have been, and who was forgotten, by the whole journal."""
-    entries = list(changes_in(journal))
+    entries = changes_in(journal)
     return named_in(filter(is_done, entries), COME), named_in(entries, *REMOVED), named_in(entries, FORGET)
 
 
-def changes_in(journal: Path) -> Iterator[Entry]:
+def changes_in(journal: Path) -> list[Entry]:
     """The changes of the whole journal that have such lines, each as one entry."""
-    changes: dict[bytes, Entry] = {}
+    found, numbers = list[Entry](), set[bytes]()
     with contextlib.suppress(FileNotFoundError), open(journal, "rb") as lines:
         for line in lines:
             number = NUMBER.search(line)
-            if number and (number[1] in changes or SPEAKS.search(line)):
+            if number and (number[1] in numbers or SPEAKS.search(line)):
                 with contextlib.suppress(ValueError, TypeError):
-                    changes.setdefault(number[1], {}).update(json.loads(line))
-    yield from changes.values()
+                    found.append(dict(json.loads(line)))
+                    numbers.add(number[1])
+    return merged(found)

@@ -5,8 +5,11 @@ No program is needed. This run alone: /usr/bin/python3 deploy/trial/branching.py
 """
 
 import itertools
+import json
 import random
 import sys
+import tempfile
+from pathlib import Path
 
 from stand import OFFICE, check
 
@@ -15,9 +18,14 @@ sys.dont_write_bytecode = True
 sys.path.append(str(OFFICE))
 
 # pylint: disable=wrong-import-position,wrong-import-order  # they are in the folder of the line above
+from about import entries_of
 from branches import Branches, named_in
+from command_texts import journal_text
+from entries import merged
+from former import changes_in
 from history import history
-from journal import EARLIER, NOT_KNOWN
+from journal import CUT_OFF, EARLIER, NOT_KNOWN
+from naming import Names
 
 
 def name(second, end=""):
@@ -178,6 +186,24 @@ def gap():
               len(said) == 1 and said[0].endswith(f"{which} was given up: nobody knows whether its order was drawn"), said)
 
 
+def one_entry():
+    """Each reader of the journal makes one entry of a change: with the time at which it began, and the copy if that stayed."""
+    told = Told().change(1, "person X (key) (name)", name(1))
+    told.entries[-1].update(at="2026-11-30T13:00:59+01:00", copy="")  # the office took nothing of it
+    told.entries.append({"line": CUT_OFF})
+    shown = journal_text(told.entries, 2).splitlines()
+    check("the command shows when a change began, and no copy that is gone",
+          shown[0].startswith("2026-11-30T13:00:01+01:00  anna: ") and "before:" not in shown[0], shown)
+    check("of an entry that was cut off it has the time of the one before",
+          shown[1].startswith("2026-11-30T13:00:59+01:00  "), shown)
+    with tempfile.TemporaryDirectory() as folder:
+        journal = Path(folder) / "journal"
+        journal.write_text("".join(json.dumps(one) + "\n" for one in told.entries), encoding="utf-8")
+        of_person, came = entries_of(journal, "X", Names(set())), changes_in(journal)
+    check("so has what is kept of a person", of_person == merged(told.entries)[:1] and of_person[0]["copy"] == "", of_person)
+    check("and so has who came, and when", came == of_person, came)
+
+
 class Chance:
     """An office that does this and that by chance, and knows who everybody is: each person who is added is another one."""
 
@@ -252,6 +278,7 @@ def try_branching():
     partly()
     record()
     gap()
+    one_entry()
     by_chance()
 
 
