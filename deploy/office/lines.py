@@ -22,28 +22,13 @@ NOT_TAKEN = (REFUSED, NOT_UNDERSTOOD)
 # What only reads is asked of a copy. Every other line may change the office.
 READS = frozenset({"rooms", "people", "round", "order", "results", "moves", "whatif", "me"})
 
-# Lines that no other line takes back, with the reason. `choose` is one if it replaces a list (`reason_to_copy`). Before `blank`
-# nothing is copied, unless it comes with other lines: a copy would keep what it erases.
-LASTING = {
-    "close": "the round does not become open again",
-    "cancel": "all lists and withdrawals are forgotten",
-    "draw": "the words stay until the round is over",
-    "run": "the rooms are given; only `cancel` leads on from a mistake, and forgets all lists",
-    "publish": "the residents see their results, and `cancel` is refused from then on",
-    "settle": "homes change, and words, order, lists and results are deleted",
-    "shut": "the person who lives in the room loses it, and `reopen` does not give it back",
-    "withdraw": "a withdrawal cannot be undone within the round",
-    "going": "that somebody leaves the college cannot be undone within the round",
-    "leave": "the office forgets where the person lived",
-    "remove": "the person's key is nowhere else",
-    "name": "the name that it replaces is nowhere else",
-    "key": "the key that it replaces is nowhere else",
-}
+# The office is copied before these lines, which no other line takes back. Before `choose` it is if that replaces a list. Before
+# `blank` nothing is copied, unless it comes with other lines: a copy would keep what it erases.
+COPIED = frozenset({"close", "cancel", "draw", "run", "publish", "settle", "shut", "withdraw", "going", "leave", "remove", "name",
+                    "key"})
 # The steps of a round.
 STEPS = frozenset({"open", "close", "cancel", "draw", "run", "publish", "settle"})
 NAME_BEGINS = {"person": 3, "name": 2}  # with which word, counted from 0, the name of a person begins in a line
-REPLACED = "the list that it replaces is nowhere else"
-MANY = "a list or a bundle of lines is not taken back as a whole"
 BUNDLE = "lines"  # the kind of the copies that are made before several lines at once
 
 
@@ -102,11 +87,9 @@ def has_name_like_a_key(line: str) -> bool:
     return begins is not None and name_shows_a_key(" ".join(line.split()[begins:]))
 
 
-def reason_to_copy(lines: list[str], choices: dict[str, Any]) -> str:
-    """Why the office is copied before these lines, or nothing. `choices` has the lists that people have handed in."""
+def is_copied_before(lines: list[str], choices: dict[str, Any]) -> bool:
+    """Whether the office is copied before these lines. `choices` has the lists that people have handed in."""
     if len(lines) > 1 and any(verb_of(line) != "blank" for line in lines):
-        return MANY
+        return True
     words = lines[0].split() if lines else []
-    if words[:1] == ["choose"] and len(words) > 1 and words[1] in choices:
-        return REPLACED
-    return LASTING.get(verb_of(lines[0]), "") if lines else ""
+    return words[:1] == ["choose"] and len(words) > 1 and words[1] in choices or bool(lines) and verb_of(lines[0]) in COPIED

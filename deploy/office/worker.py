@@ -21,7 +21,7 @@ from backups import BACK, Backups
 from change import Change, besides
 from copies import make_whole
 from languages import _, in_english, speaking, what_says
-from lines import NOT_TAKEN, reason_to_copy
+from lines import NOT_TAKEN, is_copied_before
 from meanings import failed
 from office import Office
 from program import Answer, NotOpened, Unanswered, is_refused
@@ -264,7 +264,7 @@ class Worker:  # pylint: disable=too-many-instance-attributes  # the parts of th
         if change.plan:
             return bool(change.lines)
         lists = self.view.rows(still=True)["choices"] if change.kind == "choose" else {}
-        return bool(change.kind) and (not change.lines or bool(reason_to_copy(change.lines, lists)))
+        return bool(change.kind) and (not change.lines or is_copied_before(change.lines, lists))
 
     def prepare(self, change: Change) -> None:
         """Notes who comes and who goes by a change, for what is beside the register, and that the file is to be written anew."""

@@ -81,6 +81,10 @@ def try_plan(stand, page):
     lines += [f"home {person} {room}" for person, room in HOMES.items()]
     stand.script("rooms-office", "lines", given="\n".join(lines) + "\n")
     check("an office with rooms and people leads to the round", MAIN.findall(page.get("/office/")[2]) == ["/office/step/open"])
+    copied = "The keeper makes a copy of the office first."
+    said = [act for act in ("leave", "remove") if copied in flat(page.get(f"/office/person/P1/{act}")[2])]
+    check("the question before somebody leaves a room says that a copy is made, as that before they are removed does",
+          said == ["leave", "remove"], said)
     check("whose question says nothing of nobody", "Nobody" not in page.get("/office/step/open")[2])
     stand.office("open")
     stand.office("going P7")

@@ -28,7 +28,7 @@ from backups import ASKED_FOR, Backups
 from change import Change
 from copies import Copies, make_whole
 from journal import NOT_NOTED, Journal, masked_line, masked_note, spoken_of, without_names
-from lines import gone_by, only_reads, reason_to_copy, shows_a_key
+from lines import gone_by, is_copied_before, only_reads, shows_a_key
 from office import Office
 from program import Answer
 from settings import Fault, Settings, unwritten
@@ -140,13 +140,13 @@ def copied_before():
     ]
     check(
         "the office is copied before each line that cannot be taken back",
-        all(reason_to_copy([one], {}) for one in lasting),
+        all(is_copied_before([one], {}) for one in lasting),
     )
     others = ["room A-1", "person R1 k Ann", "home R1 A-1", "grade R1 2", "reopen A-1", "open", "choose R1 A-1", "blank l-1"]
-    check("and before no other", not any(reason_to_copy([one], {}) for one in others))
+    check("and before no other", not any(is_copied_before([one], {}) for one in others))
     check(
         "but before a list that replaces another one, and before several lines",
-        reason_to_copy(["choose R1 A-1"], {"R1": ["A-2"]}) and reason_to_copy(["room A", "room B"], {}),
+        is_copied_before(["choose R1 A-1"], {"R1": ["A-2"]}) and is_copied_before(["room A", "room B"], {}),
     )
     check(
         "what only reads is known",

@@ -145,26 +145,27 @@ def question_of(office: Office, ident: str, act: str) -> Question | None:
     """The question before something is done to a person."""
     person = office.people[ident]
     who, place = f"{person.name} ({ident})", f"/office/person/{ident}"
+    copied = plain.copy_first(f"{act} {ident}")
     if act == "leave" and person.home:
         says = [_("{room} becomes free. The person stays in the register.", room=person.home),
-                _("To take it back, let the person move in again, as long as nobody else lives there.")]
+                _("To take it back, let the person move in again, as long as nobody else lives there."), *copied]
         title = _("Does {who} leave {room}?", who=who, room=person.home)
         return Question(title, says, _("Yes: leave the room"), place)
     if act == "remove":
         says = [_("The room becomes free, and the program forgets name and key. Recorded moves stay.") if person.home else
                 _("The program forgets name and key. Recorded moves stay."),
-                _(plain.COPY_FIRST), *erased_with(ident), _(plain.STILL_KEPT)]
+                *copied, *erased_with(ident), _(plain.STILL_KEPT)]
         return Question(_("Remove {who} from the register?", who=who), says, _("Yes: remove this person"), place)
     if act == "withdraw":
         says = [_("The person takes no part in this round and keeps {room}, and nobody else can get it.", room=person.home)
                 if person.home else _("The person takes no part in this round and gets no room in it."),
-                _(plain.NOT_WITHIN), _(plain.COPY_FIRST)]
+                _(plain.NOT_WITHIN), *copied]
         return Question(_("Does {who} withdraw from the round?", who=who), says, _("Yes: withdraw from the round"), place,
                         tick=right_person(person))
     if act == "going" and person.home:
         says = [_("The person takes no part in this round. {room} is given out in it, and the person moves out when the round is "
                   "settled.", room=person.home), _("A list that is on record of this person counts no more."),
-                _(plain.NOT_WITHIN), _(plain.COPY_FIRST)]
+                _(plain.NOT_WITHIN), *copied]
         return Question(_("Does {who} leave the college?", who=who), says, _("Yes: leaves the college"), place,
                         tick=right_person(person))
     if act == "key":

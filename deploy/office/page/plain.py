@@ -7,7 +7,7 @@ from typing import NamedTuple
 
 from house_places import here
 from languages import N_, _, ngettext
-from lines import UNAVAILABLE
+from lines import UNAVAILABLE, is_copied_before
 from meanings import REFUSALS, Meaning, meaning_of
 from seen import STATES
 
@@ -39,13 +39,12 @@ class Phase(NamedTuple):
 
 
 class Step(NamedTuple):
-    """A step of the round: when it can be taken, what it does, and whether it can be taken back."""
+    """A step of the round: when it can be taken, what it does, and how it can be taken back."""
 
     phases: tuple[str, ...]
     name: str
     does: str
     undo: str
-    final: bool
 
 
 class Kind(NamedTuple):
@@ -87,28 +86,28 @@ STEPS = {
     "open": Step(("idle",), N_("Open the next round"),
                  N_("Residents can hand in lists from then on. Homes cannot change until the round is over."),
                  N_("To take it back, give the round up. Lists that are on record by then can come back into the next "
-                    "round."), False),
+                    "round.")),
     "close": Step(("open",), N_("Close the round"),
                   N_("Nobody can hand in or change a list any more. No person and no room can be added."),
-                  N_("You cannot open the round again. If you give it up, its lists can come back into the next round."), True),
+                  N_("You cannot open the round again. If you give it up, its lists can come back into the next round.")),
     "draw": Step(("closed",), N_("Draw the order"), N_("Each participant gets a place in the order."),
-                 N_("You cannot draw again in this round."), True),
+                 N_("You cannot draw again in this round.")),
     "run": Step(("drawn",), N_("Give the rooms"),
                 N_("The program works out who gets which room. Only the office sees the results."),
-                N_("The program always gives the same rooms. You can still give the round up."), True),
+                N_("The program always gives the same rooms. You can still give the round up.")),
     "publish": Step(("ran",), N_("Publish the results"), N_("Each resident sees their own result from then on."),
-                    N_("You cannot take it back, and you cannot give the round up any more."), True),
+                    N_("You cannot take it back, and you cannot give the round up any more.")),
     "settle": Step(("published",), N_("Settle the round"),
                    N_("The new rooms become the homes, who leaves the college has no room any more, the moves are "
                       "recorded, and the round is over."),
                    N_("You cannot take it back. The lists, the order and the results of this round are deleted; the moves "
-                      "stay. First download the public record, and print the letters."), True),
+                      "stay. First download the public record, and print the letters.")),
     "cancel": Step((), N_("Give the round up"),
                    N_("All lists, withdrawals, the order and the results of this round are deleted, and so is who leaves "
                       "the college. The number of the round stays used."),
                    N_("You cannot take it back. But once you have opened the next round, the page can bring lists, withdrawals "
                       "and notes of who leaves into it (Overview). To send a list of choices yourself, take a new label: under "
-                      "the old label nothing is imported."), True),
+                      "the old label nothing is imported.")),
 }
 CANCELLABLE = ("open", "closed", "drawn", "ran")
 # Before a withdrawal, and before a note that somebody leaves.
@@ -194,6 +193,11 @@ CAUSES = {
                       N_("Put a name with a comma in double quotes. Keep the comma of an empty field.")),
     "text": Meaning(N_("This line has signs that are not UTF-8."), N_("Save the list again with the character set UTF-8.")),
 }
+
+
+def copy_first(*lines: str) -> list[str]:
+    """What a question says of the copy that the keeper makes before these lines, if it makes one."""
+    return [_(COPY_FIRST)] if is_copied_before(list(lines), {}) else []
 
 
 def people(count: int) -> str:

@@ -54,7 +54,7 @@ def ask_shut(code: str) -> str:
         go_to("/office/rooms")
     says = [told_of(office, tenant),
             _("While a round is open nobody can be given the room back, not even by bringing it back into use."),
-            _(plain.COPY_FIRST)]
+            *plain.copy_first(f"shut {code}")]
     title = _("Take {room} out of use?", room=code)
     yes, mark = _("Yes: take {room} out of use", room=code), office.saw("home", tenant).mark
     return put_question(office, Question(title, says, yes, "/office/rooms", saw=mark))

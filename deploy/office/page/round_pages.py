@@ -73,7 +73,7 @@ def ask_step(name: str) -> str:
         go_to("/office/")
     if name == "draw":
         go_to("/office/draw")
-    says = [*warnings(office, name), _(step.does), _(step.undo), *([_(plain.COPY_FIRST)] if step.final else [])]
+    says = [*warnings(office, name), _(step.does), _(step.undo), *plain.copy_first(name)]
     title, yes = map(_, ASKED[name])
     links = tuple((place, _(text)) for place, text in BEFORE.get(name, ()))
     facts = away_facts(office) if name == "cancel" else ()
