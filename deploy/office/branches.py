@@ -9,8 +9,9 @@ from typing import NamedTuple
 
 import times
 from entries import DONE, NOT_DONE, Entry, kept_at, lines_of, merged, said_of, went_back_to
-from happened import LAST_STEPS, Happened, Known
+from happened import Happened, Known
 from moments import Moment, Moments
+from phases import LAST_STEPS
 
 REMOVED = ("remove", "forget")  # the lines after which an identifier can be another person's
 

@@ -18,6 +18,7 @@ from copies import copied_beside
 from figures_counted import ALL, TABLES, Counts, Tables, coarse
 from languages import _
 from lines import verb_of
+from phases import LAST_STEPS
 from placing import beside, replace_file
 from register import going_in, homes_in
 from rows import rows_of
@@ -25,7 +26,7 @@ from seen import Rows
 from settings import Fault
 
 # The lines after which there are other figures, or none.
-STEPS = frozenset({"publish", "settle", "cancel"})
+STEPS = frozenset({"publish", *LAST_STEPS})
 
 
 class Damaged(Exception):
@@ -179,7 +180,7 @@ class Before:  # pylint: disable=too-few-public-methods  # it notes, and nothing
 
     def look(self, line: str, file: Path) -> None:
         """Looks at the office, or a copy of it, while the program has the file and is about to carry out a line."""
-        if verb_of(line) in ("settle", "cancel") and file != self.file:
+        if verb_of(line) in LAST_STEPS and file != self.file:
             with contextlib.suppress(sqlite3.Error), copied_beside(file) as copy:  # the program says what is wrong with it
                 rows = rows_of(copy)
                 if verb_of(line) == "settle":

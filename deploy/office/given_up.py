@@ -15,6 +15,7 @@ from languages import _
 from lines import BUNDLE, IDENTIFIER
 from office import Office
 from parting import Parting
+from phases import LAST_STEPS
 from register import going_in, withdrawn_in
 from rows import View, records_of, rows_of
 from seen import Rows
@@ -47,7 +48,7 @@ def ends(office: Office, now: Rows) -> list[tuple[str, str]]:
     many = (Branches(office.journal.entries(whole=True)).ended_after((now["number"], now["phase"]))
             if any(kind == BUNDLE for _name, kind in kinds) else {})
     steps = [(name, many.get(name, "") if kind == BUNDLE else kind) for name, kind in kinds]
-    return [(name, step) for name, step in steps if step in (GIVE_UP, SETTLE)]
+    return [(name, step) for name, step in steps if step in LAST_STEPS]
 
 
 def rounds(office: Office, now: Rows) -> list[tuple[str, int, str]]:

@@ -12,14 +12,10 @@ from collections.abc import Callable, Iterable
 from typing import NamedTuple
 
 from entries import DONE, NOT_DONE, UNKNOWN, Entry, Outcome, copy_in, lines_of, said_of
-from lines import STEPS, verb_of
+from lines import verb_of
 from moments import Moments
+from phases import FROM, LAST_STEPS, STEPS, TO
 
-# In which phases a step is accepted, and which one comes of it.
-FROM = {"open": {"idle"}, "close": {"open"}, "draw": {"closed"}, "run": {"drawn"}, "publish": {"ran"}, "settle": {"published"},
-        "cancel": {"open", "closed", "drawn", "ran"}}
-TO = {"open": "open", "close": "closed", "draw": "drawn", "run": "ran", "publish": "published", "settle": "idle", "cancel": "idle"}
-LAST_STEPS = ("settle", "cancel")  # after which the round is over
 OPENED = re.compile(r"round (\d+)\b")
 
 Known = tuple[int, str]  # the number and the phase of a round

@@ -7,8 +7,9 @@ import collections
 
 import times
 from entries import DONE, NOT_DONE, Entry, merged
-from happened import LAST_STEPS, Happened, Known, RoundOf
+from happened import Happened, Known, RoundOf
 from lines import on_one_line
+from phases import LAST_STEPS
 from seeds import DRAWN, STRUCK, noted_in
 
 # When a round was given up, by its phase until then.

@@ -21,7 +21,8 @@ from pathlib import Path
 from typing import Any
 
 from languages import N_, in_english
-from lines import BY_SEED, LIKE_A_KEY, SEED, STEPS, on_one_line, verb_of
+from lines import BY_SEED, LIKE_A_KEY, SEED, on_one_line, verb_of
+from phases import STEPS
 from placing import part_of, replace_file
 from settings import Fault, unwritten
 from times import now

@@ -26,8 +26,6 @@ READS = frozenset({"rooms", "people", "round", "order", "results", "moves", "wha
 # `blank` nothing is copied, unless it comes with other lines: a copy would keep what it erases.
 COPIED = frozenset({"close", "cancel", "draw", "run", "publish", "settle", "shut", "withdraw", "going", "leave", "remove", "name",
                     "key"})
-# The steps of a round.
-STEPS = frozenset({"open", "close", "cancel", "draw", "run", "publish", "settle"})
 NAME_BEGINS = {"person": 3, "name": 2}  # with which word, counted from 0, the name of a person begins in a line
 BUNDLE = "lines"  # the kind of the copies that are made before several lines at once
 

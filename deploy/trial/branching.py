@@ -7,6 +7,7 @@ No program is needed. This run alone: /usr/bin/python3 deploy/trial/branching.py
 import itertools
 import json
 import random
+import re
 import sys
 import tempfile
 from pathlib import Path
@@ -26,6 +27,7 @@ from former import changes_in
 from history import history
 from journal import CUT_OFF, EARLIER, NOT_KNOWN
 from naming import Names
+from phases import ALL, FROM
 
 
 def name(second, end=""):
@@ -204,6 +206,17 @@ def one_entry():
     check("and so has who came, and when", came == of_person, came)
 
 
+def phases():
+    """The page takes the phases in which a line is carried out from a table, which is that of docs/definitions.md."""
+    names = {"AddRoom": "room", "AddPerson": "person", "SetHome": "home", "OpenRound": "open", "SetChoices": "choose",
+             "CloseRound": "close", "SetGrade": "grade", "SetName": "name", "SetKey": "key"}
+    text = (OFFICE.parents[1] / "docs/definitions.md").read_text("utf-8").partition("\n| Command | Phases |")[2]
+    rows = re.findall(r"^\| `(\w+)` \| ([a-z, ]+) \|", text.partition("\n\n")[0], re.M)
+    found = {names.get(name, name.lower()): ALL if said == "all" else tuple(said.split(", ")) for name, said in rows}
+    differs = {line for line in {*FROM, *found} - {"order", "results"} if FROM.get(line) != found.get(line)}
+    check(f"the phases of {len(found)} lines are those of the definitions", not differs, differs)
+
+
 class Chance:
     """An office that does this and that by chance, and knows who everybody is: each person who is added is another one."""
 
@@ -279,6 +292,7 @@ def try_branching():
     record()
     gap()
     one_entry()
+    phases()
     by_chance()
 
 

@@ -24,7 +24,8 @@ sys.path.append(str(OFFICE))
 
 from branches import Branches
 from entries import DONE, NOT_DONE, UNKNOWN, merged
-from happened import FROM, LAST_STEPS, TO, Happened
+from happened import Happened
+from phases import FROM, LAST_STEPS, TO
 from history import history
 from journal import EARLIER, NOT_KNOWN
 from lines import BY_SEED
@@ -265,7 +266,7 @@ class Chance:  # pylint: disable=too-many-instance-attributes  # an office, and 
             copy = self.chance.choice(sorted(self.copies))
             line, after = f"back {copy}", self.copies[copy]
         else:
-            line = self.chance.choice([step for step, phases in FROM.items() if phase in phases])
+            line = self.chance.choice([step for step in TO if phase in FROM[step]])
             self.rounds += line in LAST_STEPS
             after = (number + (line == "open"), TO[line], self.rounds if line in LAST_STEPS else own)
         killed = self.chance.random() < 0.2

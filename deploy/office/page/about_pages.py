@@ -103,7 +103,7 @@ def kept_of(ident: str) -> Kept:
 
 def place_of(office: Office, ident: str) -> str:
     """A person's place in the drawn order, and their word; or nothing."""
-    if office.phase not in plain.DRAWN:
+    if not office.may("order"):
         return ""
     order = drawn_order()
     return next((_("{place} of {count}, by the word {word}", place=place, count=len(order), word=word)
@@ -187,7 +187,7 @@ def said_of_this_copy(older: int) -> str:
 def ask_forget(ident: str) -> str:
     """Asks before a person is forgotten."""
     kept, office = kept_of(ident), office_now()
-    if ident in office.people and office.phase != "idle":
+    if ident in office.people and not office.may("remove"):
         tell("bad", f"{_(plain.PHASES[office.phase].title)}. {_('A person can be forgotten only between two rounds.')}")
         go_to(f"/office/about/{ident}")
     return put_question(office, question_of(office, ident, kept))

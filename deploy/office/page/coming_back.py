@@ -102,7 +102,7 @@ class Back(NamedTuple):
 
 def rounds(office: Office) -> list[GivenUp]:
     """The rounds that were given up since the last one was settled, the newest first, as long as something can come back."""
-    if office.phase not in ("idle", "open"):
+    if not (office.may("open") or office.may("choose")):
         return []
     try:
         return [GivenUp(*found) for found in ask("given-up")["rounds"]]
@@ -112,7 +112,7 @@ def rounds(office: Office) -> list[GivenUp]:
 
 def without_copy(office: Office) -> list[int]:
     """The numbers of the rounds that were given up, and whose copies are not here, the newest first."""
-    if office.phase not in ("idle", "open"):
+    if not (office.may("open") or office.may("choose")):
         return []
     try:
         return [int(number) for number in ask("given-up")["gone"]]
@@ -251,7 +251,7 @@ def all_missing(office: Office) -> list[tuple[GivenUp, str]]:
     has to know it before the round is closed. Somebody who said something in a newer round is named with that one alone."""
     found: list[tuple[GivenUp, str]] = []
     newer: list[Had] = []
-    for given_up in rounds(office) if office.phase == "open" else []:
+    for given_up in rounds(office) if office.may("choose") else []:
         try:
             had = had_in(given_up.copy)
         except KeeperFault as fault:
@@ -260,7 +260,7 @@ def all_missing(office: Office) -> list[tuple[GivenUp, str]]:
         if missing := missing_of(office, had, newer):
             found.append((given_up, missing))
         newer.append(had)
-    if office.phase == "open":
+    if office.may("choose"):
         found += [(GivenUp("", number, ""), _(GONE)) for number in without_copy(office)]
     return sorted(found, key=lambda one: one[0].number, reverse=True)
 

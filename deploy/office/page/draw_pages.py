@@ -72,7 +72,7 @@ def draw_page(name: str = "") -> str:
     """The forms for a seed, or the drawn order. After a no, or a text that gives no seed, the form has what the clerk entered."""
     held = memory.held(clerk(), name) if name else None
     office, entered = office_now(), held if isinstance(held, Entered) else Entered(pending(name).text if name else "")
-    order = drawn_order() if office.phase in plain.DRAWN else []
+    order = drawn_order() if office.may("order") else []
     seeds = seeds_of(office)
     return show("draw", office=office, order=order, seeds=seeds.found, drawn=seeds.drawn, since=seeds.since,
                 source_of=source_of, entered=entered, shortest=SHORTEST_TEXT, longest=LONGEST_TEXT)
@@ -126,7 +126,7 @@ def go_back_if_stale(office: Office, place: str = BACK) -> None:
 def note_seed() -> None:
     """Writes a seed into the journal before anything is drawn with it, so that nobody can try seeds in secret."""
     office = office_now()
-    if office.phase != "closed":
+    if not office.may("draw"):
         tell("bad", _("There is nothing to draw now. {phase}.", phase=_(plain.PHASES[office.phase].title)))
         go_to(BACK)
     go_back_if_stale(office)
@@ -171,7 +171,7 @@ def ask_note(name: str) -> str:
 def note(name: str) -> None:
     """Notes it."""
     waits, office = pending(name), office_now()
-    if office.phase != "closed":
+    if not office.may("draw"):
         memory.let_go(clerk(), name)
         tell("bad", _("Nothing was noted. {phase}.", phase=_(plain.PHASES[office.phase].title)))
         go_to(BACK)
@@ -187,7 +187,7 @@ def strike() -> None:
     """Asks before a seed that was noted by mistake is struck out."""
     office, seed = office_now(), text_of("seed")
     found = [noted for noted in seeds_of(office).found if noted.seed == seed and not noted.struck]
-    if office.phase != "closed" or not found:
+    if not office.may("draw") or not found:
         tell("bad", _("There is no such seed to strike out."))
         go_to(BACK)
     says = [_("The seed {seed} stays in the journal and in the public record, marked as struck out. Nothing is drawn with it.",

@@ -68,7 +68,7 @@ def own_export(office: Office, name: str) -> str | None:
         # With the list of somebody who takes no part the whole list could not be imported again.
         lists = [(ident, office.choices[ident]) for ident in sorted(office.choices) if office.people[ident].takes_part]
         return csv_of(["person", "choices"], ([ident, " ".join(rooms)] for ident, rooms in lists))
-    if name == "order" and office.phase in plain.DRAWN:
+    if name == "order" and office.may("order"):
         return csv_of(["place", "person", "name", "grade", "word"], (
             [place, ident, office.people[ident].name if ident in office.people else "", grade, word]
             for place, word, ident, grade in drawn_order()))

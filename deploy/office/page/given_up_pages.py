@@ -99,7 +99,7 @@ def bring_back(copy: str) -> None:
                    [ident for ident in back.lists if field("lists") == "yes" and ident not in lists])
     place = f"/office/given-up/{copy}?out={memory.hold(clerk(), out)}"
     must_be_sure(place)
-    if office.phase != "open" or field("seen") != office.state:
+    if not office.may("choose") or field("seen") != office.state:
         tell("bad", _("Nothing was changed. {phase}. Look again.", phase=_(plain.PHASES[office.phase].title)))
         go_to(place)
     if why := why_other(office.view, Saw("all", [*back.away, *back.longer], field("saw"))):

@@ -11,7 +11,7 @@ from many_pages import MOST_AT_ONCE
 def left() -> str:
     """Who left, each with a tick. The form leads to the question of the page about many people."""
     office = office_now()
-    if office.phase != "idle":
+    if not office.may("remove"):
         tell("bad", _("{phase}. People can be removed only between two rounds.", phase=_(plain.PHASES[office.phase].title)))
         go_to("/office/")
     if not office.left:

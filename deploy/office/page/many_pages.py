@@ -48,14 +48,14 @@ class Proposed(NamedTuple):
 KEYS = "keys"
 # What cannot be taken back within the round.
 AWAY = ("withdraw", "going")
-# When it can be done, what it is called, and the clerk's yes to it.
+# What it is called, and the clerk's yes to it.
 ACTS = {
-    "withdraw": (("open",), N_("Withdraw them from the round"), N_("Yes: withdraw them from the round")),
-    "going": (("open",), N_("Note that they leave the college at the end of the round"),
+    "withdraw": (N_("Withdraw them from the round"), N_("Yes: withdraw them from the round")),
+    "going": (N_("Note that they leave the college at the end of the round"),
               N_("Yes: note that they leave the college at the end of the round")),
-    "leave": (("idle",), N_("Let them leave their rooms"), N_("Yes: let them leave their rooms")),
-    "remove": (("idle",), N_("Remove them from the register"), N_("Yes: remove them from the register")),
-    KEYS: (tuple(plain.PHASES), N_("Make new keys for them"), N_("Yes: make new keys for them")),
+    "leave": (N_("Let them leave their rooms"), N_("Yes: let them leave their rooms")),
+    "remove": (N_("Remove them from the register"), N_("Yes: remove them from the register")),
+    KEYS: (N_("Make new keys for them"), N_("Yes: make new keys for them")),
 }
 
 
@@ -76,14 +76,14 @@ def bundle_of(office: Office, act: str, idents: list[str]) -> Bundle:
 
 def acts_for(office: Office) -> dict[str, str]:
     """What can be done to many people now."""
-    return {act: _(text) for act, (phases, text, __) in ACTS.items() if office.phase in phases}
+    return {act: _(text) for act, (text, __) in ACTS.items() if act == KEYS or office.may(act)}
 
 
 def show_many(office: Office, acts: dict[str, str], text: str, faults: list[str], job: Many | None = None, act: str = "",
               unlisted: bool = False) -> str:
     """The form; or, if the identifiers were tried, whom they name, and the question. `unlisted` if those alone are meant who have
     no list on record."""
-    held, yes = (memory.hold(clerk(), job), _(ACTS[job.act][2])) if job else ("", "")
+    held, yes = (memory.hold(clerk(), job), _(ACTS[job.act][1])) if job else ("", "")
     return show("many", office=office, acts=acts, text=text, faults=faults, job=job, held=held, yes=yes, chosen=act,
                 unlisted=unlisted)
 
@@ -119,7 +119,7 @@ def many_held(name: str) -> str:
         return show_many(office, acts_for(office), "\n".join(found.idents), [], act=found.act, unlisted=found.unlisted)
     if not isinstance(found, Proposed):
         go_to("/office/many")
-    return show_many(office, {KEYS: _(ACTS[KEYS][1])}, "\n".join(found.idents), [])
+    return show_many(office, {KEYS: _(ACTS[KEYS][0])}, "\n".join(found.idents), [])
 
 
 @app.post("/office/many")

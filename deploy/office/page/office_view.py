@@ -4,6 +4,7 @@ from typing import Any, NamedTuple
 
 from languages import _
 from lines import LABEL
+from phases import FROM
 from register import going_in
 from seen import Saw, saw, stamp, state_of
 
@@ -92,7 +93,11 @@ class Office:  # pylint: disable=too-many-instance-attributes  # each is a part 
     @property
     def next_step(self) -> str | None:
         """The step that comes next."""
-        return next((name for name, step in plain.STEPS.items() if self.phase in step.phases), None)
+        return next((name for name in plain.STEPS if name != "cancel" and self.may(name)), None)
+
+    def may(self, line: str) -> bool:
+        """Whether the program carries out such a line in this phase, or has an answer to such a question."""
+        return self.phase in FROM[line]
 
     @property
     def withdrawn(self) -> list[Person]:

@@ -9,6 +9,7 @@ from house_places import here
 from languages import N_, _, ngettext
 from lines import UNAVAILABLE, is_copied_before
 from meanings import REFUSALS, Meaning, meaning_of
+from phases import OPEN, REGISTER
 from seen import STATES
 
 HOUSE = here().house  # or nothing
@@ -39,9 +40,8 @@ class Phase(NamedTuple):
 
 
 class Step(NamedTuple):
-    """A step of the round: when it can be taken, what it does, and how it can be taken back."""
+    """A step of the round: what it does, and how it can be taken back."""
 
-    phases: tuple[str, ...]
     name: str
     does: str
     undo: str
@@ -83,33 +83,32 @@ PHASES = {
 
 # `cancel` is the last one: it is never the step that comes next.
 STEPS = {
-    "open": Step(("idle",), N_("Open the next round"),
+    "open": Step(N_("Open the next round"),
                  N_("Residents can hand in lists from then on. Homes cannot change until the round is over."),
                  N_("To take it back, give the round up. Lists that are on record by then can come back into the next "
                     "round.")),
-    "close": Step(("open",), N_("Close the round"),
+    "close": Step(N_("Close the round"),
                   N_("Nobody can hand in or change a list any more. No person and no room can be added."),
                   N_("You cannot open the round again. If you give it up, its lists can come back into the next round.")),
-    "draw": Step(("closed",), N_("Draw the order"), N_("Each participant gets a place in the order."),
+    "draw": Step(N_("Draw the order"), N_("Each participant gets a place in the order."),
                  N_("You cannot draw again in this round.")),
-    "run": Step(("drawn",), N_("Give the rooms"),
+    "run": Step(N_("Give the rooms"),
                 N_("The program works out who gets which room. Only the office sees the results."),
                 N_("The program always gives the same rooms. You can still give the round up.")),
-    "publish": Step(("ran",), N_("Publish the results"), N_("Each resident sees their own result from then on."),
+    "publish": Step(N_("Publish the results"), N_("Each resident sees their own result from then on."),
                     N_("You cannot take it back, and you cannot give the round up any more.")),
-    "settle": Step(("published",), N_("Settle the round"),
+    "settle": Step(N_("Settle the round"),
                    N_("The new rooms become the homes, who leaves the college has no room any more, the moves are "
                       "recorded, and the round is over."),
                    N_("You cannot take it back. The lists, the order and the results of this round are deleted; the moves "
                       "stay. First download the public record, and print the letters.")),
-    "cancel": Step((), N_("Give the round up"),
+    "cancel": Step(N_("Give the round up"),
                    N_("All lists, withdrawals, the order and the results of this round are deleted, and so is who leaves "
                       "the college. The number of the round stays used."),
                    N_("You cannot take it back. But once you have opened the next round, the page can bring lists, withdrawals "
                       "and notes of who leaves into it (Overview). To send a list of choices yourself, take a new label: under "
                       "the old label nothing is imported.")),
 }
-CANCELLABLE = ("open", "closed", "drawn", "ran")
 # Before a withdrawal, and before a note that somebody leaves.
 NOT_WITHIN = N_("You cannot take it back within this round. The only ways are to go back to the copy from before, or to give the "
                 "whole round up.")
@@ -132,7 +131,6 @@ NOBODY = {
 
 OTHER_RESULTS = N_("The independent audit finds other results. Do not go on, and call the administrator.")
 
-REGISTER = ("idle", "open")
 KINDS = {
     "rooms": Kind("room", N_("One room code a line."), REGISTER, 1),
     "people": Kind("person,name,key,home",
@@ -141,7 +139,7 @@ KINDS = {
     "grades": Kind("person,grade", N_("Identifier, and a grade from 0 to 9. A smaller grade is earlier in the order."),
                    REGISTER, 2),
     "choices": Kind("person,choices", N_("Identifier, and the room codes, the best first, with one space between two."),
-                    ("open",), 1),
+                    OPEN, 1),
 }
 # What residents read of rooms comes as a list too, which the program knows nothing of.
 DESCRIPTIONS = "descriptions"
@@ -150,10 +148,6 @@ OWN_KINDS = {
                        N_("Room code, and what residents read of the room. All columns but the first may be absent or empty."),
                        tuple(PHASES), 1),
 }
-# The phases in which there are results, and those in which there is a drawn order.
-RAN = ("ran", "published")
-DRAWN = ("drawn", *RAN)
-
 # What the program exports for a spreadsheet. Its list of people is apart: it has each name as it is, also a formula.
 EXPORTS = {"rooms": N_("Rooms"), "grades": N_("Grades, as they can come in again"), "moves": N_("Moves of all settled rounds")}
 PEOPLE = "people"

@@ -41,11 +41,11 @@ def without_slash() -> None:
 def overview() -> str:
     """How far the round is, what comes next, and who has no list."""
     office = office_now()
-    given_up = coming_back.rounds(office) if office.phase == "idle" else []
+    given_up = coming_back.rounds(office) if office.may("open") else []
     stopped = None if office.serves else why_stopped(office.ended)
     return show("overview", office=office, faults=explaining.faults_of(office), stopped=stopped, given_up=given_up,
                 missing=coming_back.all_missing(office),
-                without_copy=coming_back.without_copy(office) if office.phase == "idle" else [])
+                without_copy=coming_back.without_copy(office) if office.may("open") else [])
 
 
 def why_stopped(status: int | None) -> Meaning:
@@ -68,7 +68,7 @@ def ask_step(name: str) -> str:
     """Asks before a step."""
     office = office_now()
     step = plain.STEPS.get(name)
-    if step is None or office.phase not in (plain.CANCELLABLE if name == "cancel" else step.phases):
+    if step is None or not office.may(name):
         tell("bad", _("This step does not come now. {phase}.", phase=_(plain.PHASES[office.phase].title)))
         go_to("/office/")
     if name == "draw":

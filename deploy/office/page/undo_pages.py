@@ -30,7 +30,7 @@ LATER = {
 # What a way back to the open round undoes, by the phase of now.
 UNDONE = {"open": (), "closed": (CLOSED,), "drawn": (CLOSED, DRAWN), "ran": (CLOSED, DRAWN, RESULTS)}
 # The steps of the long way, which the page takes itself.
-STEPS = {"cancel": plain.CANCELLABLE, "open": ("idle",)}
+STEPS = ("cancel", "open")
 
 
 class Before(NamedTuple):
@@ -99,7 +99,7 @@ def undo(ident: str) -> str:
     """The ways to undo it, with the step that comes next."""
     office = office_now()
     place, part = person_of(office, ident), part_of(office, ident)
-    if part and office.phase in STEPS["cancel"]:
+    if part and office.may("cancel"):
         return show("undo", office=office, person=office.people[ident], left=part == GOING, step="cancel", copy="",
                     before=copy_before(office, ident), facts=away_facts(office), later=_(LATER[part]))
     if not part and (found := given_up_with(office, ident)):
@@ -121,7 +121,7 @@ def next_step(office: Office, ident: str, given_up: GivenUp, part: str) -> str:
     """The page of the step that comes after the round was given up."""
     left = what_is_left(office, had_in(given_up.copy))
     rest = [one for one in left.away if one != ident and not has_come_again(office, one, left)]
-    step = "open" if office.phase == "idle" else "back" if rest or left.lists_but(rest) or left.longer else "done"
+    step = "open" if office.may("open") else "back" if rest or left.lists_but(rest) or left.longer else "done"
     return show("undo", office=office, person=office.people[ident], left=part == GOING, step=step, before=None,
                 copy=given_up.copy, facts=(), later="")
 
@@ -132,7 +132,7 @@ def take_step(ident: str) -> None:
     office, step = office_now(), field("step")
     person_of(office, ident)
     place = f"/office/undo/{ident}"
-    if step not in STEPS or office.phase not in STEPS[step]:
+    if step not in STEPS or not office.may(step):
         tell("bad", _("This step does not come now. {phase}.", phase=_(plain.PHASES[office.phase].title)))
         go_to(place)
     if step == "cancel":
