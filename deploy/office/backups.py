@@ -41,6 +41,14 @@ class Stay(NamedTuple):
     more: int
 
 
+def why_in(folder: Path) -> dict[str, Any]:
+    """What the file `why` of a kept copy has; nothing if it cannot be read."""
+    with contextlib.suppress(OSError, ValueError):
+        entry = json.loads((folder / WHY).read_text(encoding="utf-8"))
+        return entry if isinstance(entry, dict) else {}
+    return {}
+
+
 class Backups:
     """The folder of the kept copies."""
 
@@ -109,17 +117,15 @@ class Backups:
 
     def entry(self, name: str) -> dict[str, str]:
         """Why a copy was taken. One that was put there by hand counts as asked for."""
-        with contextlib.suppress(OSError, ValueError, KeyError, TypeError):
-            entry = json.loads((self.folder / name / WHY).read_text(encoding="utf-8"))
+        entry = why_in(self.folder / name)
+        if "kind" in entry and "why" in entry:
             return {"kind": str(entry["kind"]), "why": WISHES.sub(r"\1", str(entry["why"]))}
         return {"kind": ASKED_FOR, "why": ""}
 
     def has_rows_alone(self, name: str) -> bool:
         """Whether the keeper says of a copy that it has rows alone. One that a version up to 3.1.0 made, though it is whole, that
         `rooms-restore` has kept, or that was put there by hand, may have free pages with what its rows were before."""
-        with contextlib.suppress(OSError, ValueError, KeyError, TypeError):
-            return json.loads((self.folder / name / WHY).read_text(encoding="utf-8"))["rows"] is True
-        return False
+        return why_in(self.folder / name).get("rows") is True
 
     def listed(self) -> list[tuple[str, int, str]]:
         """The kept copies: name, bytes, and why each was taken."""
