@@ -27,7 +27,8 @@ from placing import part_of, replace_file
 from settings import Fault, unwritten
 from times import now
 
-# What the program answers to a line that changes the office. Other answers, as to `people` or `me`, may have names.
+# What the program answers to a line that changes the office, and to `whatif`. Other answers, as to `people` or `me`, may have
+# names.
 WITHOUT_NAMES = re.compile(
     r"ok|not understood|unavailable|withdrawn|going|cancelled|(?:refused|round|chosen|shut|added|closed|drawn|ran|published"
     r"|settled|would get)\b.*")

@@ -2,11 +2,12 @@
 
 | ask | fields | answer |
 |---|---|---|
-| view | | the rows (rows.py); server: whether it runs; status, ended: of those that ended by themselves; until; disk (disk.py) |
+| view | | the rows (rows.py); server: whether it runs; status, ended: of those that ended by themselves; until; disk (disk.py); |
+| | | mail: whether there is mail; back: the copy before the last way back |
 | watch | | faults: what is wrong with the server, the disk, the copies and erasures; age: of the newest copy, in seconds |
 | try | lines, again | answers: of a copy, which is thrown away |
-| do | lines, again, seen, saw | answers, done, took, copy; made: how many of the lines are in effect; unkept: faults of figures, |
-| | | or why something that is to be erased may still be in the file |
+| do | lines, again, seen, saw | answers, done, took, copy; made: how many of the lines are in effect; unkept: faults of figures |
+| | | and of what is beside the register, or why something that is to be erased may still be in the file |
 | draw | seed, seen | as `do` |
 | import | kind, label, body, only_try, again, seen, saw | as `do`; known: whether its label was taken; `body` in base 64 |
 | export | kind | answers |
