@@ -13,6 +13,7 @@ from pathlib import Path
 
 from copies import make_whole, rewrite
 from languages import N_, _
+from lines import ACCEPTED
 from office import Office
 from placing import InUse, beside, part_of, replace_file
 from settings import Fault, cause_of, unwritten
@@ -59,7 +60,7 @@ class Anew:
             new = beside(copy, ".new")
             rewrite(copy, new)
             looked = self.program.look(new)
-            if looked.status != 0 or not make_whole(new) or not are_same(copy, new):
+            if looked.status != ACCEPTED or not make_whole(new) or not are_same(copy, new):
                 raise Fault(_("the new file is not the same office: {said}", said=looked.text.strip()))
             self.place.put(new, held)
 

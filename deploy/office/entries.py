@@ -7,7 +7,7 @@ from typing import Any
 
 import times
 from journal import EARLIER, NOT_KNOWN
-from lines import NOT_TAKEN
+from lines import ACCEPTED, NOT_TAKEN
 
 WENT_BACK = re.compile(r"back (\S+?)(?:,|$)")
 
@@ -48,7 +48,7 @@ def said_of(entry: Entry) -> Outcome:
     status = entry.get("status")
     if "n" not in entry or status in NOT_TAKEN or entry.get("taken") is False:
         return NOT_DONE
-    if status == 0:
+    if status == ACCEPTED:
         return DONE
     failed = "answer" in entry and entry["answer"] not in (NOT_KNOWN, EARLIER)
     return NOT_DONE if failed and WENT_BACK.match(str(entry.get("line", ""))) else UNKNOWN

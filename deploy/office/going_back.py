@@ -9,6 +9,7 @@ from beside_register import BesideRegister
 from branches import Branches
 from correcting import refusal
 from languages import _
+from lines import ACCEPTED
 from office import Office
 from parting import Parting
 from program import Answer, is_of_earlier_version, is_refused
@@ -42,7 +43,7 @@ class GoingBack:
         answer = program.look(copy)
         if is_of_earlier_version(answer):
             answer = program.migrate(copy)
-        if answer.status == 0:
+        if answer.status == ACCEPTED:
             self.then = rows_of(copy)
             self.found = self.compared()
             if stay := self.stay():

@@ -6,6 +6,7 @@ import datetime
 
 import times
 from languages import ENGLISH, _, ngettext, spoken
+from lines import ACCEPTED
 from mail_words import RECEIPT
 from plan_of_moves import LEAVES, NONE, SWAP, moves_in
 from program import Program
@@ -42,7 +43,7 @@ def planned_moves(rows: Rows, program: Program, copies: Copies) -> dict[str, lis
         return {}
     with copies.copied() as copy:
         answer = program.tell_all(["settle", f"moves {rows['number']}"], copy)[-1]
-    moves = moves_in(answer.text) if answer.status == 0 else []
+    moves = moves_in(answer.text) if answer.status == ACCEPTED else []
     return {move.person: [move.wave, move.old, move.new] for move in moves}
 
 

@@ -15,7 +15,7 @@ from typing import NamedTuple
 
 from languages import _
 from line_run import Ended, LineRun, is_skipped, status_of
-from lines import SEED, UNAVAILABLE, has_name_like_a_key, shows_a_key
+from lines import ACCEPTED, SEED, UNAVAILABLE, has_name_like_a_key, shows_a_key
 from settings import Fault, NotKnown, Settings
 
 FURTHER, MOST = 0.02, 2_000  # seconds for each further line of a bundle, and for how many of them at most
@@ -48,7 +48,7 @@ class Unanswered(Fault):
 
 def is_refused(answers: list[Answer]) -> bool:
     """Whether the last of these answers is not that of an accepted line."""
-    return not answers or answers[-1].status != 0
+    return not answers or answers[-1].status != ACCEPTED
 
 
 def is_of_earlier_version(answer: Answer) -> bool:
@@ -105,7 +105,7 @@ class Program:
         """Has a file answer lines, up to the first that is not accepted. The program opens the file once, and each line that it
         has answered stands. Before each line `look` is called, while the program has the file."""
         run, opened = self.opened(file, len(lines))
-        answers: list[Answer] = [] if opened.status == 0 else [NotOpened(*opened)]
+        answers: list[Answer] = [] if opened.status == ACCEPTED else [NotOpened(*opened)]
         try:
             for line in [] if answers else lines:
                 if look:
@@ -186,7 +186,7 @@ class Program:
         if not SEED.fullmatch(seed):
             raise Fault(_("a seed has 64 signs out of 0 to 9 and a to f"))
         text, status = self.run("words", f"--seed={seed}", f"--count={count}")
-        if status != 0:
+        if status != ACCEPTED:
             raise Fault(_("the program gave no words: {said}", said=text.strip()))
         return text.split()
 

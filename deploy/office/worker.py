@@ -21,7 +21,7 @@ from backups import BACK, Backups
 from change import Change, besides
 from copies import make_whole
 from languages import _, in_english, speaking, what_says
-from lines import NOT_TAKEN, is_copied_before
+from lines import ACCEPTED, NOT_TAKEN, is_copied_before
 from meanings import failed
 from office import Office
 from program import Answer, NotOpened, Unanswered, is_refused
@@ -287,10 +287,10 @@ class Worker:  # pylint: disable=too-many-instance-attributes  # the parts of th
         """Notes in the journal how a change ended. Of several lines that were not all carried out it has those that were as
         this change, and the one after them as another, if it is `known` how far they came."""
         change.took = since(began)
-        change.made = 0 if change.whole else sum(answer.status == 0 for answer in change.answers)
+        change.made = 0 if change.whole else sum(answer.status == ACCEPTED for answer in change.answers)
         other: dict[str, Any] = {"copy": ""} if change.copy == "" else {}  # that it was kept is noted already
         other |= {"taken": False} if change.untouched and last.status not in NOT_TAKEN else {}
-        if known and len(change.lines) > 1 and last.status != 0:
+        if known and len(change.lines) > 1 and last.status != ACCEPTED:
             other |= {"who": change.who, "line": change.speak(change.lines[change.made:change.made + 1])}
             if change.made:
                 stands = change.speak(change.lines[:change.made])
@@ -305,7 +305,7 @@ class Worker:  # pylint: disable=too-many-instance-attributes  # the parts of th
             if is_refused(answers):
                 return answers
             looked = self.program.look(copy)
-            if looked.status != 0 or not make_whole(copy):
+            if looked.status != ACCEPTED or not make_whole(copy):
                 raise Fault(_("the office that comes of this is none ({said}). Nothing was changed.", said=looked.text.strip()))
             change.reached = True
             self.place.put(copy, held, change.before_put)

@@ -13,6 +13,7 @@ import times
 from entries import merged
 from journal import OWN_TEXTS
 from languages import N_, _, ngettext
+from lines import ACCEPTED
 
 import explaining
 import plain
@@ -84,7 +85,7 @@ def export(name: str) -> bottle.HTTPResponse:
     """One export."""
     if name in (*plain.EXPORTS, plain.PEOPLE):
         text, status = answers_of(ask("export", kind=name))[0]
-        if status == 0:
+        if status == ACCEPTED:
             return download(text, f"{name}.csv")
     own = own_export(office_now(), name)
     return bottle.HTTPError(404) if own is None else download(own, f"{name}.csv")

@@ -3,7 +3,7 @@
 import os
 from typing import Any, NamedTuple
 
-from asking import answer_to
+from asking import Kind, answer_to, kind_of
 from house_places import here
 from languages import _, spoken
 
@@ -48,16 +48,17 @@ def ask(question: str, who: str, patience: float = PATIENCE, **fields: Any) -> d
     except (OSError, ValueError) as fault:
         raise Unsure(_("The keeper of the office's file does not answer. Nobody knows whether the last step was carried out. Wait "
                        "a minute. Then look at the overview and in the journal before you try again."), False) from fault
-    if not isinstance(reply, dict):
+    kind = kind_of(reply)
+    if kind is Kind.ENDED:
         raise Unsure(_("The keeper of the office's file ended during this step. Nobody knows whether it was carried out. Look at "
                        "the overview and in the journal before you try again."), True)
-    if "former" in reply:
+    if kind is Kind.FORMER:
         raise WasAnothers(str(reply["fault"]), reply["former"])
-    if reply.get("unknown"):
+    if kind is Kind.UNSURE:
         raise Unsure(str(reply["fault"]), True)
-    if "fault" in reply:
+    if kind is not Kind.DONE:
         raise KeeperFault(str(reply["fault"]))
-    return reply
+    return dict(reply)
 
 
 def answers_of(reply: dict[str, Any]) -> list[Answer]:

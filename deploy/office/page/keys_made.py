@@ -4,6 +4,7 @@ lost."""
 import time
 
 from languages import _
+from lines import ACCEPTED
 
 from app import ask, tell, tell_fault
 from keeper_client import KeeperFault, Unsure, answers_of
@@ -19,7 +20,7 @@ def working(keys: dict[str, str]) -> list[str] | None:
     while True:
         try:
             answers = answers_of(ask("try", patience=ASKING, lines=[f"me {key}" for key in keys.values()]))
-            return [person for person, answer in zip(keys, answers) if answer.status == 0]
+            return [person for person, answer in zip(keys, answers) if answer.status == ACCEPTED]
         except KeeperFault:
             if time.monotonic() > end:
                 return None

@@ -7,6 +7,7 @@ from typing import NamedTuple
 
 from journal import KEY, masked
 from languages import _
+from lines import ACCEPTED
 from meanings import Meaning
 
 import list_checks
@@ -72,7 +73,7 @@ def find(office: Office, table: CsvList, kind: str, attempt: Callable[[bytes], A
     end = time.monotonic() + SECONDS
     while True:
         answer = attempt(table.body(without=taken))
-        if answer.status == 0:
+        if answer.status == ACCEPTED:
             return Findings(sorted(faults), None, False)
         found = bad_record(answer)
         if found is None:

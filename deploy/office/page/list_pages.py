@@ -6,7 +6,7 @@ from typing import Any, NamedTuple, NoReturn
 
 from journal import masked
 from languages import N_, _
-from lines import LONGEST_LIST
+from lines import ACCEPTED, LONGEST_LIST
 from meanings import REFUSALS
 from seen import Saw
 
@@ -174,7 +174,7 @@ def looked_at(office: Office, job: Job, table: CsvList, beside: Beside, read: Un
     """The page of a list that was tried. Of people and rooms only those are tried that are not in the register. What the
     page read of the file is for the clerk to agree to, but not if the list is looked at again. Then `keys` are those that were
     made before, and are shown once more."""
-    if office.has_label(job.label) and try_list(job).status == 0:
+    if office.has_label(job.label) and try_list(job).status == ACCEPTED:
         return known_list(office, job)
     if beside.known and len(beside.known) == len(table.records) - 1:
         held = memory.hold(clerk(), job.mailed) if job.mailed.people() else ""
@@ -187,7 +187,7 @@ def looked_at(office: Office, job: Job, table: CsvList, beside: Beside, read: Un
         job = job._replace(body=table.body(without=beside.known), departed=tuple(beside.departed),
                            known=job.known + len(beside.known))
     answer = try_list(job)
-    if answer.status == 0 and not any(list_checks.overwritten(job.kind, table)):
+    if answer.status == ACCEPTED and not any(list_checks.overwritten(job.kind, table)):
         return fitting_list(office, job, made, beside, read)
     found = list_faults.find(office, table, job.kind, lambda part: try_list(job._replace(body=part)), beside.known)
     return show("faults", office=office, job=job, found=found, answer=answer.text.strip() if answer.status else "",
@@ -318,8 +318,8 @@ def is_in(office: Office, job: Job) -> bool:
     kept = next((kept for kept in office.lists if kept.label == job.label), None)
     if kept and kept.is_blank and kept.kind == job.kind == "people":
         keys = [record.fields[2] for record in CsvList(job.body).records[1:KEYS_ASKED + 1]]
-        return any(answer.status == 0 for answer in attempt(*(f"me {key}" for key in keys)))
-    return kept is not None and try_list(job).status == 0
+        return any(answer.status == ACCEPTED for answer in attempt(*(f"me {key}" for key in keys)))
+    return kept is not None and try_list(job).status == ACCEPTED
 
 
 def label_taken(job: Job) -> str:

@@ -6,7 +6,7 @@ import unicodedata
 
 from journal import masked
 from languages import _
-from lines import IDENTIFIER, MOST_CHOICES
+from lines import ACCEPTED, IDENTIFIER, MOST_CHOICES
 from mail_words import LONGEST_ADDRESS
 from plan_of_moves import NONE
 
@@ -96,7 +96,7 @@ def what_if(ident: str) -> None:
     """Asks which room another list would have given."""
     place, wishes = person_of(office_now(), ident), wishes_entered()
     answer = attempt(f"whatif {ident} {wishes}".strip())[0]
-    if answer.status:
+    if answer.status != ACCEPTED:
         tell("bad", why_no_list(wishes.split()) or str(plain.meaning(answer.text)))
         tell_entered(wishes)
         go_to(place)

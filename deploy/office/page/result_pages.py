@@ -3,6 +3,7 @@
 from typing import NamedTuple
 
 from languages import N_, _, ngettext, speaking, spoken
+from lines import ACCEPTED
 from plan_of_moves import LEAVES, NONE, SWAP, moves_in
 
 import explaining
@@ -168,7 +169,7 @@ def moves(number: int) -> str:
     ahead = {"ran": ("publish", "settle"), "published": ("settle",)}.get(office.phase, ())
     planned = bool(ahead) and number == office.number
     answer = attempt(*(ahead if planned else ()), f"moves {number}")[-1]
-    if answer.status != 0:
+    if answer.status != ACCEPTED:
         tell("bad", str(plain.meaning(answer.text)))
         go_to("/office/print")
     groups = groups_of(office, answer.text)

@@ -1,7 +1,7 @@
 """How far the round is, and its steps."""
 
 from languages import N_, _, ngettext
-from lines import NOT_TAKEN
+from lines import ACCEPTED, NOT_TAKEN
 from mail_words import KINDS
 from meanings import Meaning
 
@@ -56,7 +56,7 @@ def why_stopped(status: int | None) -> Meaning:
     if status not in NOT_TAKEN:  # after these the keeper does not start it again
         return plain.FAILED.translated()
     answer = attempt("round")[0]
-    if answer.status == 0:
+    if answer.status == ACCEPTED:
         return plain.ENDED.translated()
     meaning = plain.meaning(answer.text)
     return meaning._replace(says=_("The program does not take the office's file: it says \"{answer}\". {meaning}",
