@@ -41,6 +41,13 @@ class Stay(NamedTuple):
     more: int
 
 
+def names_in(folder: Path) -> list[str]:
+    """The names of the copies in a folder, the oldest first."""
+    if not folder.exists():
+        return []
+    return sorted(one.name for one in folder.iterdir() if NAME.fullmatch(one.name) and one.is_dir())
+
+
 def why_in(folder: Path) -> dict[str, Any]:
     """What the file `why` of a kept copy has; nothing if it cannot be read."""
     with contextlib.suppress(OSError, ValueError):
@@ -98,9 +105,7 @@ class Backups:
 
     def names(self) -> list[str]:
         """The names of the kept copies, the oldest first."""
-        if not self.folder.exists():
-            return []
-        return sorted(one.name for one in self.folder.iterdir() if NAME.fullmatch(one.name) and one.is_dir())
+        return names_in(self.folder)
 
     def before_back(self) -> str:
         """The newest copy that was made before the office went back to another one; nothing if there is none."""
