@@ -22,7 +22,7 @@ from change import Change
 from job import Job, identifier_in, saw_in, seen_in, text
 from journal import masked, masked_line, spoken_of
 from languages import _
-from lines import IDENTIFIER, LABEL, UNAVAILABLE, gone_by, name_shows_a_key, named, verb_of
+from lines import IDENTIFIER, LABEL, UNAVAILABLE, gone_by, lines_to_remove, name_shows_a_key, named, verb_of
 from meanings import failed, meaning_of
 from office import Office
 from program import NOT_UNDERSTOOD, Answer, is_refused
@@ -169,8 +169,7 @@ def lines_to_forget(person: str, copy: Path) -> list[str]:
     """The lines by which the office forgets a person, by a copy of it: first those that may be refused."""
     homes = homes_in(rows_of(copy))
     labels = sorted({record[0] for record in kept_in(copy, person)["lists"]})
-    return [*([f"leave {person}"] if homes.get(person) else []), *([f"remove {person}"] if person in homes else []),
-            *(f"blank {label}" for label in labels)]
+    return [*(lines_to_remove(person, homes[person]) if person in homes else []), *(f"blank {label}" for label in labels)]
 
 
 def spoken_of_forgotten(line: str, lines: list[str]) -> str:

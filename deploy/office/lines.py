@@ -55,6 +55,11 @@ def named(lines: list[str], verb: str) -> set[str]:
     return {words[1] for words in map(str.split, lines) if words[:1] == [verb] and len(words) > 1}
 
 
+def lines_to_remove(person: str, home: str | None) -> list[str]:
+    """The lines that remove a person: who has a room leaves it first."""
+    return [*([f"leave {person}"] if home else []), f"remove {person}"]
+
+
 def gone_by(lines: list[str]) -> set[str]:
     """Who is out of the register after these lines, which were accepted."""
     gone: set[str] = set()

@@ -13,7 +13,7 @@ from told import mark_of
 
 import explaining
 import plain
-from app import app, ask, field, go_to, office_now, residents_page, show, tell, tell_fault, text_of
+from app import app, ask, field, go_to, is_done, office_now, residents_page, show, tell, text_of
 from keeper_client import KeeperFault
 from office_view import Office
 from people_pages import person_of
@@ -29,16 +29,6 @@ def address_of_kind(kind: str) -> str:
     if kind not in KINDS:
         go_to(HOME)
     return f"{HOME}/{kind}"
-
-
-def done(question: str, **fields: Any) -> bool:
-    """Asks the keeper to change something of the mail. Whether it did; else the clerk reads why not."""
-    try:
-        ask(question, **fields)
-    except KeeperFault as fault:
-        tell_fault(fault)
-        return False
-    return True
 
 
 def in_words(at: str) -> str:
@@ -228,7 +218,7 @@ def send(kind: str) -> None:
     if state["mark"] != field("saw"):
         tell("bad", _("The text was changed, or begun once more, after you looked. Nothing was sent: look again."))
         go_to(place)
-    if done("mail-send", kind=kind, mark=state["mark"], link=residents_page(), seen=field("seen")):
+    if is_done("mail-send", kind=kind, mark=state["mark"], link=residents_page(), seen=field("seen")):
         tell("good", _("The messages are being sent. This page shows how far that is: load it again."))
         go_to(HOME)
     go_to(place)
@@ -237,7 +227,7 @@ def send(kind: str) -> None:
 @app.post(f"{HOME}/run")
 def steer() -> None:
     """Stops the run, goes on with it, or gives up the rest."""
-    done("mail-run", act=text_of("act"))
+    is_done("mail-run", act=text_of("act"))
     go_to(HOME)
 
 
@@ -262,7 +252,7 @@ def begin() -> None:
     """Begins with receipts, if the texts are those that the clerk saw."""
     if ask("mail")["kinds"][RECEIPT]["mark"] != field("saw"):
         tell("bad", _(CHANGED))
-    elif done("mail-receipts", act="on", mark=field("saw"), link=residents_page()):
+    elif is_done("mail-receipts", act="on", mark=field("saw"), link=residents_page()):
         tell("good", _("From now on residents get receipts of their lists."))
     go_to(RECEIPTS)
 
@@ -271,7 +261,7 @@ def begin() -> None:
 def steer_receipts() -> None:
     """Ends with receipts, or lets them go on."""
     act = text_of("act")
-    if done("mail-receipts", act=act) and act == "off":
+    if is_done("mail-receipts", act=act) and act == "off":
         tell("good", _("No more receipts are sent."))
     go_to(RECEIPTS)
 
@@ -321,7 +311,7 @@ def once_more(kind: str, only: str) -> None:
     place, state = address_of_kind(kind), ask("mail")["kinds"][kind]
     if state["mark"] != field("saw"):
         tell("bad", _(CHANGED))
-    elif done("mail-again", kind=kind, turn=state["turn"], only=only):
+    elif is_done("mail-again", kind=kind, turn=state["turn"], only=only):
         tell("good", _("Nothing is sent yet. Look at the message, and send it.") if kind != RECEIPT else
              _("They count as not sent."))
     go_to(place)

@@ -6,7 +6,7 @@ from typing import Any, NamedTuple, NoReturn
 
 from journal import KEY, masked, masked_line
 from languages import N_, _, ngettext
-from lines import UNAVAILABLE
+from lines import UNAVAILABLE, lines_to_remove
 from seen import Saw
 
 import keys_made
@@ -61,10 +61,10 @@ ACTS = {
 
 def lines_for(office: Office, act: str, ident: str) -> list[str]:
     """The lines that do something to one person of many."""
-    if act in AWAY:
-        return [f"{act} {ident}"]
-    leave = [f"leave {ident}"] if office.people[ident].home else []
-    return leave if act == "leave" else [*leave, f"remove {ident}"]
+    home = office.people[ident].home
+    if act == "remove":
+        return lines_to_remove(ident, home)
+    return [f"{act} {ident}"] if act in AWAY or home else []
 
 
 def bundle_of(office: Office, act: str, idents: list[str]) -> Bundle:

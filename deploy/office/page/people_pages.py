@@ -6,7 +6,7 @@ import unicodedata
 
 from journal import masked
 from languages import _
-from lines import ACCEPTED, IDENTIFIER, MOST_CHOICES
+from lines import ACCEPTED, IDENTIFIER, MOST_CHOICES, lines_to_remove
 from mail_words import LONGEST_ADDRESS
 from plan_of_moves import NONE
 
@@ -202,12 +202,11 @@ def change_person(ident: str, act: str) -> None:
     office = office_now()
     place = person_of(office, ident)
     person = office.people[ident]
-    leave = [f"leave {ident}"] if person.home else []
     if act in ("withdraw", "going"):
         must_be_sure(f"{place}/{act}")
     if act in ("leave", "withdraw", "going"):
         change("do", lines=[f"{act} {ident}"], saw=saw("all", ident))
-    elif act == "remove" and change("do", lines=[*leave, f"remove {ident}"], saw=saw("all", ident)):
+    elif act == "remove" and change("do", lines=lines_to_remove(ident, person.home), saw=saw("all", ident)):
         go_to("/office/register")
     elif act == "key":
         make_key(person, place)

@@ -17,8 +17,8 @@ def rooms() -> str:
 @app.post("/office/rooms")
 def change_room() -> None:
     """Adds a room, or takes a room out of use or back, by the button that was pressed."""
-    verb, _, code = text_of("change").partition(" ")
-    code = code or text_of("code").upper()
+    verb, *codes = text_of("change").split(" ", 1)
+    code = "".join(codes) or text_of("code").upper()
     if verb == "shut" and tenant_of(office_now(), code):
         go_to(f"/office/rooms/{code}/shut")  # somebody has moved in since the clerk looked
     if verb in ("room", "shut", "reopen"):
