@@ -25,6 +25,8 @@ GIVE_UP, SETTLE = "cancel", "settle"  # the kinds of the copies that are made be
 CHOICES = "choices"  # the kind of a list of lists
 # What the journal says of people whom a clerk has taken out of what comes back.
 TAKEN_OUT = re.compile(r"not back from round (\d+): (.+)")
+# In the reason of a copy that was made before several lines: one of them ends a round.
+ENDING = re.compile(rf"\b(?:{'|'.join(LAST_STEPS)}) \(")
 KEPT_LISTS = "SELECT label, body FROM list WHERE kind = ?"
 
 
@@ -44,10 +46,11 @@ def last_ended(now: Rows) -> int:
 def ends(office: Office, now: Rows) -> list[tuple[str, str]]:
     """The copies that were kept before a round was given up or settled, each with that step, the newest first. Of several lines at
     once the journal has the steps."""
-    kinds = [(name, office.backups.entry(name)["kind"]) for name in reversed(office.backups.names())]
-    many = (Branches(office.journal.entries(whole=True)).ended_after((now["number"], now["phase"]))
-            if any(kind == BUNDLE for _name, kind in kinds) else {})
-    steps = [(name, many.get(name, "") if kind == BUNDLE else kind) for name, kind in kinds]
+    kept = [(name, office.backups.entry(name)) for name in reversed(office.backups.names())]
+    many: dict[str, str] = {}
+    if any(entry["kind"] == BUNDLE and ENDING.search(entry["why"]) for _name, entry in kept):
+        many = Branches(office.journal.entries(whole=True)).ended_after((now["number"], now["phase"]))
+    steps = [(name, many.get(name, "") if entry["kind"] == BUNDLE else entry["kind"]) for name, entry in kept]
     return [(name, step) for name, step in steps if step in LAST_STEPS]
 
 
