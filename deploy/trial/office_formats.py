@@ -165,6 +165,7 @@ def try_refusals(page):
         b"person;surname\nX1;Li\n": ["does not name the columns", "first name and last name"],
         bytes(range(128, 256)): ["does not know the character set"],
         b"\n\n \n": ["This file is empty"],
+        b"person,name\n": ["and no line below them"],
     }.items():
         shown = send(page, "people", "refused", body)
         for text in texts:

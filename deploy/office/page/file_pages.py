@@ -178,13 +178,15 @@ def look_at_days() -> None:
 def ask_days(days: int) -> str:
     """Asks before copies stay for another number of days."""
     now, gone = ask("backups")["days"], days_gone(days, only_try=True)
-    says = [_("Now a copy stays for {days:,} days at most.", days=now),
+    says = [ngettext("Now a copy stays for one day at most.", "Now a copy stays for {count:,} days at most.", now),
             ngettext("One copy is older, and is deleted at once. You cannot take this back.",
                      "{count} copies are older, and are deleted at once. You cannot take this back.", gone)
             if gone else _("No copy is older now."),
-            _("From then on each copy is deleted when it is {days:,} days old, or earlier if there are enough newer ones of its "
-              "kind. Copies that the administrator has taken elsewhere stay there.", days=days)]
-    title = _("Keep copies for {days:,} days at most?", days=days)
+            ngettext("From then on each copy is deleted when it is one day old, or earlier if there are enough newer ones of its "
+                     "kind. Copies that the administrator has taken elsewhere stay there.",
+                     "From then on each copy is deleted when it is {count:,} days old, or earlier if there are enough newer ones "
+                     "of its kind. Copies that the administrator has taken elsewhere stay there.", days)]
+    title = ngettext("Keep copies for one day at most?", "Keep copies for {count:,} days at most?", days)
     return put_question(office_now(), Question(title, says, _("Yes: keep them for so long"), "/office/copies", saw=str(now)))
 
 
@@ -193,7 +195,8 @@ def set_days(days: int) -> None:
     """Sets for how many days copies stay."""
     gone = days_gone(days, was=field("saw"))
     deleted = ngettext("{count} copy was deleted.", "{count} copies were deleted.", gone) if gone else _("No copies were deleted.")
-    tell("good", f"{_('Copies stay for {days:,} days at most.', days=days)} {deleted}")
+    stay = ngettext("Copies stay for one day at most.", "Copies stay for {count:,} days at most.", days)
+    tell("good", f"{stay} {deleted}")
     go_to("/office/copies")
 
 

@@ -137,6 +137,8 @@ def read(kind: str, data: bytes) -> Understood:
     try:
         if sheet_books.is_book(data):
             rows, what = sheet_books.read(data)
+            if not rows:
+                raise NotUnderstood(Meaning(_("The first sheet of this workbook is empty."), _("The page reads no other sheet.")))
             width = max((len(fields) for _, fields in rows), default=0)
             rows = [(row, [*fields, *[""] * (width - len(fields))]) for row, fields in rows]
             return understood(kind, data, sheet_text.Text(rows, what, False, False))
@@ -157,6 +159,8 @@ def understood(kind: str, data: bytes, text: sheet_text.Text) -> Understood:
     header = text.rows[found.at][1]
     cleaner = Cleaner()
     records = [(row, cleaner.record(found, row, fields, len(header))) for row, fields in text.rows[found.at + 1:]]
+    if not records and kind != DESCRIPTIONS:  # a list without descriptions takes all away
+        raise NotUnderstood(Meaning(_("This list has the names of its columns, and no line below them."), _("Choose another one.")))
     targets = columns.targets_of(kind)
     table = CsvList.of([(text.rows[found.at][0], targets), *records])
     if text.plain and [record.fields for record in CsvList(data).records] == [record.fields for record in table.records]:
